@@ -1,0 +1,14 @@
+-- When an object of the outside may answer a fault.
+use Rattle.std.specs.Prelude.{ℕ, ◌+◌, ◌-◌, ◌^◌, ◌<◌, ◌≤◌, ◌⊎◌, min}
+
+-- the greatest count of faults that is kept: the last value of a `u64`
+abbrev pub last_count : ℕ
+last_count = 2 ^ 64 - 1
+
+-- the count rose, or it stands at its last value
+abbrev pub Rose : ℕ → ℕ → Type 0
+Rose before after = (before < after) ⊎ (last_count ≤ after)
+
+-- the count that follows, which stops at the last one
+abbrev pub next_count : ℕ → ℕ
+next_count count = min (count + 1) last_count

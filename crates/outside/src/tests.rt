@@ -1,0 +1,90 @@
+//! One test of each form in memory and of each adapter.
+use crate::{
+    Failures, FileFault, Files, MemFile, MemFiles, MemSink, Sink, StdFiles, StdSink, WriteFault,
+    write_whole,
+};
+use std::alloc::Global;
+use std::fs;
+use std::test::Fail;
+
+fn schema_file(alloc: Global) -> Result<Vec<MemFile>, Fail> {
+    let mut files = Vec::new(alloc);
+    files.push(MemFile {
+        name: String::from_str(alloc, "schema.graphql")?,
+        content: Vec::from_slice(alloc, b"type Query")?,
+    })?;
+    Ok(files)
+}
+
+#[test]
+fn files_in_memory_give_their_first_bytes(rt: HostRuntime) -> Result<(), Fail> {
+    let alloc = rt.alloc();
+    let mut failing = Vec::new(alloc);
+    failing.push(3)?;
+    let mut files = MemFiles::new(schema_file(alloc)?, Failures::of(failing));
+    let whole = files.read(alloc, "schema.graphql", 10);
+    assert!(rt; matches!(&whole, Ok(read) if read.as_slice() == b"type Query".as_slice()));
+    let front = files.read(alloc, "schema.graphql", 3);
+    assert!(rt; matches!(&front, Ok(read) if read.as_slice() == b"type".as_slice()));
+    assert!(rt; matches!(files.read(alloc, "other", 10), Err(FileFault::Failed)));
+    assert_eq!(rt; files.faults, 1);
+    assert!(rt;
+        matches!(
+            files.read(alloc, "schema.graphql", 10),
+            Err(FileFault::Failed)
+        )
+    );
+    assert_eq!(rt; files.faults, 2);
+    Ok(())
+}
+
+#[test]
+fn a_sink_in_memory_keeps_what_was_written(rt: HostRuntime) -> Result<(), Fail> {
+    let alloc = rt.alloc();
+    let mut failing = Vec::new(alloc);
+    failing.push(1)?;
+    let mut sink = MemSink::new(alloc, Failures::of(failing));
+    assert_eq!(rt; write_whole(&mut sink, b"5.000"), Ok(()));
+    assert_eq!(rt; write_whole(&mut sink, b" 2.000"), Err(WriteFault));
+    assert_eq!(rt; sink.faults, 1);
+    assert_eq!(rt; write_whole(&mut sink, b"\n"), Ok(()));
+    assert_eq!(rt; sink.written.as_slice(), b"5.000\n".as_slice());
+    Ok(())
+}
+
+#[test]
+fn no_failure_is_planned(rt: HostRuntime) -> Result<(), Fail> {
+    let mut failures = Failures::none(rt.alloc());
+    assert!(rt; !failures.next_fails());
+    assert_eq!(rt; failures.calls, 1);
+    Ok(())
+}
+
+#[test]
+fn files_of_the_system_are_read_to_the_limit(rt: HostRuntime) -> Result<(), Fail> {
+    let alloc = rt.alloc();
+    fs::write(&rt, "first.graphql", "type Query { a: Int }")?;
+    let mut files = StdFiles::new(rt.clone()?);
+    let whole = files.read(alloc, "first.graphql", 21);
+    assert!(rt;
+        matches!(&whole, Ok(read) if read.as_slice() == b"type Query { a: Int }".as_slice())
+    );
+    let front = files.read(alloc, "first.graphql", 9);
+    assert!(rt; matches!(&front, Ok(read) if read.as_slice() == b"type Query".as_slice()));
+    fs::remove_file(&rt, "first.graphql")?;
+    assert!(rt;
+        matches!(
+            files.read(alloc, "first.graphql", 9),
+            Err(FileFault::Failed)
+        )
+    );
+    Ok(())
+}
+
+#[test]
+fn a_writer_of_the_system_takes_a_piece(rt: HostRuntime) -> Result<(), Fail> {
+    let mut sink = StdSink::new(Vec::new(rt.alloc()));
+    assert_eq!(rt; sink.write(b"2.000 1.000"), Ok(11));
+    assert_eq!(rt; write_whole(&mut sink, b"\n"), Ok(()));
+    Ok(())
+}
