@@ -4,8 +4,24 @@
 //! types of a response and the cost of its fields. Both are whole numbers of thousandths.
 #![tactic(auto)]
 
+ghost use Rattle.std.specs.Prelude.{◌≡◌, ℕ, ◌+◌, ◌*◌, ◌<◌, ◌≤◌, ◌↔◌, ◌++◌, length, drop, IsTrue};
+ghost use Rattle.cost_num.specs.Capped.{capped};
+ghost use Rattle.cost_num.specs.CostText.{cost_text};
+ghost use Rattle.cost_num.specs.Within.{Within};
+
+mod printed;
+#[cfg(test)]
+mod tests;
+
 /// The greatest cost that a component may have, in thousandths.
 pub const CAP: u64 = 1_000_000_000_000_000;
+
+/// How many decimal places a weight, an allowance or a printed cost has.
+pub const PLACES: usize = 3;
+
+/// How many of the smallest parts that costs are counted in make up one: ten to the power of
+/// `PLACES`.
+pub const UNIT: u64 = 1_000;
 
 /// A type cost and a field cost, each in thousandths.
 #[derive(Clone, Copy, Debug, PartialEq, Eq)]
@@ -14,4 +30,49 @@ pub struct Cost {
     pub types: u64,
     /// The field cost, in thousandths.
     pub fields: u64,
+}
+
+/// The sum of two costs in thousandths, or `CAP + 1` where it exceeds `CAP`.
+///
+/// Each cost is at most `CAP + 1`, so that a sum which is past the cap may be added to.
+pub fn add_capped(a: u64, b: u64) -> u64
+    requires a_is_capped { a ≤ CAP + 1 }
+    requires b_is_capped { b ≤ CAP + 1 }
+    ensures { result ≡ capped (a + b) }
+{
+    (a + b).min(CAP + 1)
+}
+
+/// A cost in thousandths taken `n` times, or `CAP + 1` where that exceeds `CAP`.
+///
+/// The cost is at most `CAP + 1`, and `n` may be any number.
+pub fn times_capped(a: u64, n: u64) -> u64
+    requires { a ≤ CAP + 1 }
+    ensures { result ≡ capped (a * n) }
+{
+    let product = u128::from(a) * u128::from(n);
+    product.min(u128::from(CAP + 1)) as u64
+}
+
+/// Whether `bound` fits into what is left: both of its components are at most those of `left`.
+pub fn covers(left: Cost, bound: Cost) -> bool
+    ensures { IsTrue result ↔ Within left bound }
+{
+    bound.types <= left.types && bound.fields <= left.fields
+}
+
+/// Writes the text of a cost at the front of `into`, and gives its length in bytes.
+///
+/// The text is the type cost, a space and the field cost, each with every decimal place, as in
+/// `21.000 7.250`. The bytes after it stay as they were.
+#[tactic(auto, using(crate::proofs::Digits::lengths))]
+pub fn cost_bytes(cost: Cost, into: &mut [u8; 48]) -> usize
+    requires types_in_range { cost.types ≤ CAP }
+    requires fields_in_range { cost.fields ≤ CAP }
+    ensures end { result ≡ length (cost_text cost) }
+    ensures written { into.new ≡ cost_text cost ++ drop result into.old }
+{
+    let space = printed::write_amount(cost.types, into, 0);
+    let fields = printed::write_byte(b' ', into, space);
+    printed::write_amount(cost.fields, into, fields)
 }
