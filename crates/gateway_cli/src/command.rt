@@ -1,0 +1,49 @@
+//! The one call that does all of the program.
+
+ghost use Rattle.std.specs.Prelude.{◌≡◌, ◌≤◌, ◌⊎◌, List, ℕ};
+ghost use Rattle.std.specs.Io.KnownBytes.{Appends, Keeps};
+ghost use Rattle.outside.specs.Faults.{Rose};
+ghost use Rattle.cost_num.specs.CostText.{cost_text};
+ghost use Rattle.cost_num.specs.declared.Cost.{Cost as CostType};
+ghost use Rattle.gateway_cli.specs.declared.price.Refusal.{Refusal as RefusalType};
+ghost use Rattle.gateway_cli.specs.Texts.{line, refusal_text, file_text, SaysFile};
+ghost use Rattle.gateway_cli.specs.Words.{IsPrice, IsNoCommand};
+ghost use Rattle.gateway_cli.specs.Statuses.{IsSilent, IsQuiet};
+
+use crate::price::price;
+use crate::report;
+use crate::report::{DONE, FILE_FAILED, NO_MEMORY, REFUSED, STREAM_FAILED, USAGE};
+use gql_base::Text;
+use outside::{Files, Sink};
+use std::alloc::Global;
+
+/// Does what the words after the program's name say, and gives the status to end with.
+pub fn run<Rt, F: Files, K: Sink, E: Sink>(
+    rt: &Rt,
+    alloc: Global,
+    words: &[Text],
+    files: &mut F,
+    out: &mut K,
+    err: &mut E,
+) -> u8
+    ensures known { result ≤ NO_MEMORY }
+    ensures priced { result ≡ DONE → IsPrice words.now (λ schema document. (cost : CostType)
+        × Appends (K.written out.old) (K.written out.new) (line (cost_text cost))) }
+    ensures refused { result ≡ REFUSED → IsPrice words.now (λ schema document. (refusal : RefusalType)
+        × Appends (E.written err.old) (E.written err.new) (line (refusal_text refusal))) }
+    ensures usage { result ≡ USAGE → IsNoCommand words.now }
+    ensures file_failed { result ≡ FILE_FAILED → Rose (F.faults files.old) (F.faults files.new)
+        × IsPrice words.now (λ schema document. SaysFile schema (E.written err.old) (E.written err.new)
+        ⊎ SaysFile document (E.written err.old) (E.written err.new) ⊎ Rose (E.faults err.old) (E.faults err.new)) }
+    ensures stream_failed { result ≡ STREAM_FAILED → Rose (K.faults out.old) (K.faults out.new) ⊎ Rose (E.faults err.old) (E.faults err.new) }
+    ensures silent { IsSilent result → Keeps (K.written out.old) (K.written out.new) }
+    ensures quiet { IsQuiet result → Keeps (E.written err.old) (E.written err.new) }
+{
+    let _ = rt;
+    if let [command, schema, document] = words {
+        if command.as_str() == "price" {
+            return price(alloc, schema.as_str(), document.as_str(), files, out, err);
+        }
+    }
+    report::write_usage(err)
+}
