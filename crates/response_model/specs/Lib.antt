@@ -1,0 +1,5 @@
+pub mod Plan
+pub mod Response
+pub mod Cost
+pub mod Bound
+pub mod Reading
