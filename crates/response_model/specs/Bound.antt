@@ -1,5 +1,5 @@
 -- The bound: the least number that no response of a plan exceeds, and the recursion over the plan that gives it.
-use Rattle.std.specs.Prelude.{◌≡◌, ℕ, ◌+◌, ◌*◌, ◌≤◌, max, Bool, true, false, Option, Some, None}
+use Rattle.std.specs.Prelude.{◌≡◌, ℕ, ◌+◌, ◌*◌, ◌≤◌, ◌<◌, max, Bool, true, false, Option, Some, None}
 use Rattle.serde_json.specs.Data.{Data}
 use Rattle.response_model.specs.Plan.{Form, single, listed, Plan, leaf_plan, position, ObjectTypes, no_type, object_type, Nodes, no_node, node, is_possible}
 use Rattle.response_model.specs.Response.{Tree, is_null, IsLeafOf, Fits, SizesKept}
@@ -13,6 +13,10 @@ IsResponse holds plan t = Fits holds (single true) plan t × SizesKept None plan
 pub record IsBound (holds : ℕ → Data → Bool) (part : Part) (plan : Plan) (bound : ℕ) : Type 0 where
   pub upper : (t : Tree) → IsResponse holds plan t → cost part plan t ≤ bound
   pub attained : (t : Tree) × IsResponse holds plan t × (cost part plan t ≡ bound)
+
+-- Some response of the plan costs more than n.
+abbrev pub Exceeds : (ℕ → Data → Bool) → Part → Plan → ℕ → Type 0
+Exceeds holds part plan n = (t : Tree) × IsResponse holds plan t × (n < cost part plan t)
 
 -- What the values of one entry cost at most, where each costs at most n: one value, as many as the declared size, or values that cost nothing.
 abbrev pub greatest_in : Form → Option ℕ → ℕ → ℕ

@@ -5,3 +5,4 @@ pub mod Bound
 pub mod Filled
 pub mod Reading
 pub mod Rows
+pub mod Examples
