@@ -1,7 +1,7 @@
 -- The plans of the examples are sound.
 use Rattle.std.proofs.Common.{refl}
 use Rattle.response_model.specs.Bound.{IsSound}
-use Rattle.response_model.specs.Examples.{holds_string, friends_of_friends, search, text, tags_and_kind}
+use Rattle.response_model.specs.Examples.{holds_string, friends_of_friends, search, text, tags_and_kind, find}
 
 text_sound : IsSound holds_string text
 text_sound = (refl, refl)
@@ -15,3 +15,6 @@ search_sound =
 
 pub tags_sound : IsSound holds_string tags_and_kind
 tags_sound = (tt, (refl, (refl, text_sound, (tt, (refl, refl), tt)), tt))
+
+pub find_sound : IsSound holds_string find
+find_sound = (tt, (refl, (tt, text_sound, tt), tt))

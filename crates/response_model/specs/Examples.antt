@@ -95,9 +95,25 @@ abbrev pub tags_and_kind : Plan
 tags_and_kind = query (node (plain (codes "tags") (listed true false) None 500) text
     (node (record { key = codes "kind"; field = codes "__typename"; asked = false; form = single false; size = None; weight = 0; arguments = 0 }) (leaf_plan type_name 0 (string (codes "Query"))) no_node))
 
+-- Its response with these tags and this name of the query type.
 abbrev pub tagged : Elements → List ℕ → Tree
 tagged ts kind = object 0 (entry (codes "tags") (list_of ts) (entry (codes "kind") (leaf (string kind)) no_entry))
 
 -- {"search":[{"gateway_typename":"Post","author":{"id":""}},null]}, and the same with another type name and further members of its first item.
 abbrev pub search_reply : List ℕ → Members → Data
 search_reply type more = json_object (member (codes "search") (array (item (json_object (member (codes "author") (json_object (member (codes "id") (string []) no_members)) (member added_alias (string type) more))) (item json_null no_items))) no_members)
+
+-- {"kind":"Query","tags":TAGS}, whose keys stand in another order than the nodes.
+abbrev pub tags_reply : Data → Data
+tags_reply tags = json_object (member (codes "kind") (string (codes "Query")) (member (codes "tags") tags no_members))
+
+-- { find(filter: { tag: "a", sub: { tag: null } }, ids: ["1", "2"]) }, where `find` weighs 2.000, and its arguments 1 + 0.5 + 1 and 2 times 0.1.
+abbrev pub find : Plan
+find = query (node (record { key = codes "find"; field = codes "find"; asked = false; form = single true; size = None; weight = 2000; arguments = 2700 }) text no_node)
+
+-- { node { id } }, which is a user or a post, and both weigh 1.000.
+abbrev pub user_or_post : Plan
+user_or_post = query (node (plain (codes "node") (single true) None 1000) (position (object_type 1 1000 (id_then no_node) (object_type 2 1000 (id_then no_node) no_type))) no_node)
+
+abbrev pub one_node : Tree → Tree
+one_node t = object 0 (entry (codes "node") t no_entry)

@@ -2,7 +2,7 @@ use Rattle.response_model.specs.Cost.{types, fields}
 use Rattle.response_model.specs.Examples.{holds_string, search}
 use Rattle.response_model.proofs.Filling.{bound_is}
 use Rattle.response_model.proofs.SoundPlans.{search_sound}
-use Rattle.response_model.proofs.bound_of_search.Goals as goal
+use Rattle.response_model.proofs.examples.bound_of_search.Goals as goal
 
 pub returns-clause-types_cost : goal.returns-clause-types_cost
 returns-clause-types_cost c = bound_is holds_string types search search_sound
