@@ -1,0 +1,13 @@
+//! The cost of GraphQL responses, and the least bound of it that a plan allows.
+//!
+//! The words stand in `specs/`: a plan says what an operation may get, with weights and declared sizes (`Plan`);
+//! a response is a tree that fits its plan and keeps the declared sizes (`Response`); it has a type cost and a
+//! field cost, by the IBM GraphQL Cost Directives Specification (`Cost`); the bound is the least number that no
+//! response exceeds (`Bound`). Beside them stand the response that attains the bound (`Filled`), the reading of
+//! a JSON reply as a tree (`Reading`), and a plan as flat rows (`Rows`). All costs are in thousandths.
+//!
+//! The functions have no body of their own: each carries a law about these words as its contract.
+#![tactic(auto)]
+
+pub mod examples;
+pub mod laws;
