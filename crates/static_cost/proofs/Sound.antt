@@ -1,7 +1,7 @@
 -- An operation in which each list of objects has a declared size stands for a sound plan.
-use Rattle.std.proofs.Common.{◌≡◌, ℕ, Bool, true, false, true≢false, Option, Some, None, IsSome, List, refl, sym}
+use Rattle.std.proofs.Common.{ℕ, Bool, true≢false, Option, Some, None, IsSome, List, refl, sym}
 use Rattle.serde_json.specs.Data.{Data}
-use Rattle.response_model.specs.Plan.{Form, single, listed, LeafType, leaf_plan, Nodes, no_node}
+use Rattle.response_model.specs.Plan.{listed, LeafType, leaf_plan, Nodes}
 use Rattle.response_model.specs.Bound.{IsCountable, IsSound, NodesSound}
 use Rattle.static_cost.specs.declared.first.FirstKind.{FirstKind}
 use Rattle.static_cost.specs.declared.first.FirstKind.TheVariants.{Int, Str, Bool as Boolean, Id, Object}

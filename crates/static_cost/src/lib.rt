@@ -4,5 +4,5 @@
 mod bound;
 mod first;
 
-pub use bound::{TooCostly, first_sound};
+pub use bound::{TooCostly, first_bound, first_sound};
 pub use first::{FirstKind, FirstList, FirstNode};
