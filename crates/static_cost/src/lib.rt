@@ -1,6 +1,8 @@
 //! The greatest cost that a response to an operation can have, known before it is run.
 #![tactic(auto)]
 
+mod bound;
 mod first;
 
+pub use bound::{TooCostly, first_bound, first_sound};
 pub use first::{FirstKind, FirstList, FirstNode};

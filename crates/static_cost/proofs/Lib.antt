@@ -1,0 +1,4 @@
+pub mod Sound
+pub mod OneField
+pub mod Sums
+pub mod Bounds
