@@ -1,0 +1,5 @@
+pub mod Runs
+pub mod FrontPieces
+pub mod Divisions
+pub mod OneDivision
+pub mod Places
