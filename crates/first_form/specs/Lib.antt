@@ -1,0 +1,6 @@
+pub mod Schemas
+pub mod Documents
+pub mod Reading
+pub mod SchemaReading
+pub mod DocumentReading
+pub mod Sources

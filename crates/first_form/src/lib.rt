@@ -1,0 +1,4 @@
+//! Reads a schema and an operation of the first form, and nothing else.
+#![tactic(auto)]
+
+mod source;
