@@ -4,7 +4,7 @@ use Rattle.std.specs.Prelude.{if◌then◌else◌}
 use Rattle.std.specs.List.{flat_map}
 use Rattle.std.proofs.lemmas.Bool.{cases_Bool}
 use Rattle.gql_base.specs.Pieces.{Lexeme}
-use Rattle.first_form.specs.Reading.{Words, Read, next, bind, taken, one, both, mapped, either, passed, checked, absent, pair_list, many_step, many_for, many}
+use Rattle.first_form.specs.Reading.{Words, Read, next, bind, taken, one, both, mapped, either, passed, checked, absent}
 
 -- A tree is read just where the tokens begin with its spelling, as long as none follows that could go on with it.
 pub record Exact {A : Type 0} (spell : A → Words) (good : A → Type 0) (goes : Option Lexeme → Bool) (r : Words → Read A) : Type 0 where
@@ -44,7 +44,7 @@ one_exact {A = A} accept shown good to from = record { found = found; only = λ 
 
 -- ---- one after the other
 
-both_ok : {A B : Type 0} (r : Words → Read A) (s : Words → Read B) (ws mid rest : Words) (a : A) (b : B) → r ws ≡ Some (a, mid) → s mid ≡ Some (b, rest) → both r s ws ≡ Some ((a, b), rest)
+pub both_ok : {A B : Type 0} (r : Words → Read A) (s : Words → Read B) (ws mid rest : Words) (a : A) (b : B) → r ws ≡ Some (a, mid) → s mid ≡ Some (b, rest) → both r s ws ≡ Some ((a, b), rest)
 both_ok r s ws mid rest a b e f = simp (e, f)
 
 pub both_exact : {A B : Type 0} {spell : A → Words} {show : B → Words} {good : A → Type 0} {also : B → Type 0} {first goes : Option Lexeme → Bool} {r : Words → Read A} {s : Words → Read B}

@@ -1,1 +1,5 @@
 mod Exact
+mod Repeated
+mod Tokens
+mod SchemaExact
+mod DocumentExact

@@ -48,12 +48,14 @@ passed test x = if test x.0 then Some x else None
 abbrev pub checked : {A : Type 0} → (A → Bool) → (Words → Read A) → Words → Read A
 checked test r ws = bind (r ws) (passed test)
 
-abbrev pub pair_list : {A : Type 0} → A × List A → List A
-pair_list p = p.0 ∷ p.1
+-- what is read, with a tree before it
+abbrev pub added : {A : Type 0} → A → Read (List A) → Read (List A)
+added a None = None
+added a (Some x) = Some (a ∷ x.0, x.1)
 
 -- again and again, as long as the next token passes the test
 abbrev pub many_step : {A : Type 0} → (Option Lexeme → Bool) → (Words → Read A) → (Words → Read (List A)) → Words → Read (List A)
-many_step test r m ws = if test (next ws) then mapped pair_list (both r m) ws else Some ([], ws)
+many_step test r m ws = if test (next ws) then bind (r ws) (λ x. added x.0 (m x.1)) else Some ([], ws)
 
 unfoldable pub many_for : {A : Type 0} → (Option Lexeme → Bool) → (Words → Read A) → ℕ → Words → Read (List A)
 many_for test r zero ws = Some ([], ws)
