@@ -3,3 +3,5 @@ mod Repeated
 mod Tokens
 mod SchemaExact
 mod DocumentExact
+mod Places
+mod Loops

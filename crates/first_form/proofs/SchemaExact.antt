@@ -1,21 +1,27 @@
 -- The trees of schemas are read just where tokens spell them.
-use Rattle.std.proofs.Common.{ℕ, ◌≡◌, ◌<◌, ◌≤◌, ◌^◌, ◌⊎◌, inl, inr, Bool, true, false, List, [], ◌∷◌, ◌++◌, Option, None, Some, refl, sym, ap, ◌∙◌, subst, arith}
+use Rattle.std.proofs.Common.{ℕ, ◌+◌, ◌≡◌, ◌<◌, ◌≤◌, ◌^◌, ◌⊎◌, inl, inr, Bool, true, false, List, [], ◌∷◌, ◌++◌, Option, None, Some, refl, sym, ap, ◌∙◌, subst, arith}
 use Rattle.std.specs.Prelude.{◌==◌, not, ◌||◌, ◌&&◌, nat_le, nat_lt, codes, if◌then◌else◌}
 use Rattle.std.specs.List.{flat_map}
 use Rattle.std.specs.Fmt.{decimal}
 use Rattle.std.specs.Str.{bytes_eq}
 use Rattle.std.specs.Str.Parse.{digits_value, AllDigits}
-use Rattle.std.proofs.lemmas.Bool.{cases_Bool, leb-true}
+use Rattle.std.proofs.lemmas.Bool.{cases_Bool, leb-true, le-leb}
 use Rattle.std.proofs.lemmas.Fmt.{digits_value-decimal}
 use Rattle.std.proofs.lemmas.Str.Parse.{IsNumeralModel}
 use Rattle.gql_base.specs.declared.token.TokenKind.TheVariants.{Bang, Colon, At, OpenParen, CloseParen, OpenBracket, CloseBracket, OpenBrace, CloseBrace}
 use Rattle.gql_base.specs.Pieces.{Lexeme, word, number, mark}
 use Rattle.static_cost.specs.declared.first.FirstList.{FirstList}
 use Rattle.first_form.specs.Schemas.{FieldTree, TypeTree, bang, size_words, type_words, field_words, definition_words, schema_words, greatest_size, is_size, is_sized}
-use Rattle.first_form.specs.Reading.{Words, next, one, both, mapped, either, absent, many, of_kind, name_in, keyword, next_is, until, goes_on}
+use Rattle.first_form.specs.Reading.{Words, next, taken, one, both, mapped, either, absent, many, of_kind, name_in, keyword, next_is, until, goes_on}
 use Rattle.first_form.specs.SchemaReading.{size_from_digits, size_in, never_null, bang_at, SizeParts, size_from, list_size_at, size_at, TypeParts, single_from, list_with, listed_from, single_at, listed_at, type_at, field_from, field_at, type_from, definition_at, schema_at}
+use Rattle.gql_base.specs.declared.token.Token.{Token}
+use Rattle.gql_base.specs.declared.token.TokenKind.{TokenKind}
+use Rattle.gql_base.specs.declared.token.TokenKind.TheVariants.{Int}
+use Rattle.gql_base.specs.Tokens.{bytes_at, lexeme_with}
+use Rattle.first_form.specs.declared.source.Source.{Source}
+use Rattle.first_form.specs.Sources.{words, ahead}
 use Rattle.first_form.proofs.Exact.{Exact, never, some_same, none_some, one_exact, both_exact, then_exact, mapped_exact, either_exact, absent_exact, as_exact}
-use Rattle.first_form.proofs.Repeated.{Each, many_exact, Begins, Apart}
+use Rattle.first_form.proofs.Repeated.{Each, many_exact, Begins, Repeats, repeats}
 use Rattle.first_form.proofs.Tokens.{mark_exact, name_exact, keyword_exact, bytes_same, bytes_equal}
 
 -- ---- `!`
@@ -217,3 +223,40 @@ definitions_begin t rest is = refl
 pub schema_exact : Exact schema_words (Each SizedType) goes_on schema_at
 unfolding schema_at
 schema_exact = many_exact goes_on goes_on definition_exact definitions_begin refl (λ t rest is. refl) (λ w e. (refl, e))
+
+-- ---- a size ahead
+
+small_from : (n : ℕ) → n ≤ greatest_size → Small n
+small_from n le = le-leb n greatest_size le
+
+pub size_ahead : (s : Source) (at n : ℕ) (t : Token) (digits : List ℕ) → words s at ≡ ahead s at (Some t) → t.kind ≡ Int → digits ≡ bytes_at s.text.now t.span → digits ≡ decimal n → n ≤ greatest_size
+    → one size_in (words s at) ≡ Some (n, words s (at + 1))
+size_ahead s at n t digits e k same written le =
+    ap (one size_in) e
+    ∙ (ap (λ (j : TokenKind). one size_in (lexeme_with j (bytes_at s.text.now t.span) ∷ words s (at + 1))) k
+    ∙ (ap (λ (b : List ℕ). taken (size_from_digits b) (words s (at + 1))) (sym same ∙ written)
+    ∙ ap (λ o. taken o (words s (at + 1))) (size_is_read n (small_from n le))))
+
+size_refused : (bytes : List ℕ) (o : Option ℕ) → size_from_digits bytes ≡ o → ((n : ℕ) → n ≤ greatest_size → bytes ≡ decimal n → ⊥) → o ≡ None
+size_refused bytes None e no_size = refl
+size_refused bytes (Some n) e no_size = let k = size_read bytes n e in absurd (no_size n (leb-true n greatest_size k.1) k.0)
+
+pub no_size_ahead : (s : Source) (at : ℕ) (t : Token) (digits : List ℕ) → words s at ≡ ahead s at (Some t) → t.kind ≡ Int → digits ≡ bytes_at s.text.now t.span → ((n : ℕ) → n ≤ greatest_size → digits ≡ decimal n → ⊥)
+    → one size_in (words s at) ≡ None
+no_size_ahead s at t digits e k same no_size =
+    ap (one size_in) e
+    ∙ (ap (λ (j : TokenKind). one size_in (lexeme_with j (bytes_at s.text.now t.span) ∷ words s (at + 1))) k
+    ∙ (ap (λ (b : List ℕ). taken (size_from_digits b) (words s (at + 1))) (sym same)
+    ∙ ap (λ o. taken o (words s (at + 1))) (size_refused digits (size_from_digits digits) refl no_size)))
+
+-- ---- what the loops over fields and types need
+
+pub fields_repeat : Repeats (until CloseBrace) field_at
+fields_repeat = repeats (until CloseBrace) field_exact fields_begin refl
+
+pub types_repeat : Repeats goes_on definition_at
+types_repeat = repeats goes_on definition_exact definitions_begin refl
+
+pub schema_is : (ws : Words) → schema_at ws ≡ many goes_on definition_at ws
+unfolding schema_at
+schema_is ws = refl

@@ -1,5 +1,5 @@
 -- What reading one token accepts.
-use Rattle.std.proofs.Common.{ℕ, ◌≡◌, ◌<◌, Bool, true, false, List, [], ◌∷◌, ◌++◌, Option, None, Some, refl, sym, ap, ◌∙◌, subst, arith, eqb-true, eq-eqb}
+use Rattle.std.proofs.Common.{ℕ, ◌≡◌, ◌<◌, Bool, true, false, List, [], ◌∷◌, ◌++◌, Option, None, Some, Result, Ok, refl, sym, ap, ◌∙◌, subst, arith, eqb-true, eq-eqb}
 use Rattle.std.specs.Prelude.{◌==◌, not, ◌||◌, ◌&&◌, nat_le, slice_index_or}
 use Rattle.std.specs.Str.{bytes_eq}
 use Rattle.std.specs.Cmp.Lexicographic.{bytes_decides}
@@ -77,3 +77,9 @@ keyword_is text (mark k) a e = cc
 
 pub keyword_exact : (text : List ℕ) → Exact (λ a. word text ∷ []) (λ a. Unit {0}) never (one (keyword text))
 keyword_exact text = one_exact (keyword text) (λ a. word text) (λ a. Unit {0}) (λ w a e. (keyword_is text w a e, tt)) (λ a u. ap when (bytes_equal text text refl))
+
+pub same_number : {E : Type 0} (r : Result ℕ E) (a b : ℕ) → r ≡ Ok a → r ≡ Ok b → a ≡ b
+same_number r a b e f = cc
+
+pub not_both : (a b : List ℕ) (same : Bool) → same ≡ bytes_eq a b → same ≡ false → a ≡ b → ⊥
+not_both a b same e f g = let h : true ≡ false = sym (bytes_equal a b g) ∙ (sym e ∙ f) in cc

@@ -4,3 +4,4 @@ pub mod Reading
 pub mod SchemaReading
 pub mod DocumentReading
 pub mod Sources
+pub mod Views

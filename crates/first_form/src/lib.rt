@@ -1,4 +1,6 @@
 //! Reads a schema and an operation of the first form, and nothing else.
 #![tactic(auto)]
 
+mod definition;
+mod named;
 mod source;
