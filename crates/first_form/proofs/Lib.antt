@@ -5,3 +5,4 @@ mod SchemaExact
 mod DocumentExact
 mod Places
 mod Loops
+mod Names

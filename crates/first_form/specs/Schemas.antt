@@ -91,9 +91,13 @@ is_leaf BoolKind = true
 is_leaf Id = true
 is_leaf Object = false
 
+-- whether there is a type of this name
+abbrev pub has_type : List TypeTree → List ℕ → Bool
+has_type types name = is_some (type_named types name)
+
 -- whether a name is that of a scalar of the first form, or of a type of the schema
 abbrev pub is_known : List TypeTree → List ℕ → Bool
-is_known types named = is_leaf (kind_of named) || is_some (type_named types named)
+is_known types named = is_leaf (kind_of named) || has_type types named
 
 -- whether no name stands twice
 abbrev pub are_distinct : List (List ℕ) → Bool
@@ -110,7 +114,7 @@ is_sized None = true
 is_sized (Some list) = is_size list.size
 
 abbrev pub is_field : List TypeTree → FieldTree → Bool
-is_field types f = not (is_reserved f.name) && is_known types f.named && is_sized f.list
+is_field types f = not (is_reserved f.name) && is_known types f.named
 
 abbrev pub name_of_field : FieldTree → List ℕ
 name_of_field f = f.name
@@ -118,12 +122,24 @@ name_of_field f = f.name
 abbrev pub name_of_type : TypeTree → List ℕ
 name_of_type t = t.name
 
+-- whether a type may have this name
+abbrev pub is_type_name : List ℕ → Bool
+is_type_name name = not (is_built_in name) && not (is_reserved name)
+
+-- whether there is a field, and none stands twice
+abbrev pub is_field_list : List FieldTree → Bool
+is_field_list fields = nat_lt 0 (length fields) && are_distinct (map name_of_field fields)
+
 abbrev pub is_type : List TypeTree → TypeTree → Bool
-is_type types t = not (is_built_in t.name) && not (is_reserved t.name) && nat_lt 0 (length t.fields) && are_distinct (map name_of_field t.fields) && list_all (is_field types) t.fields
+is_type types t = is_type_name t.name && is_field_list t.fields && list_all (is_field types) t.fields
 
 -- whether type names are distinct, a type Query is there, and each type is as it should be
 abbrev pub is_schema : List TypeTree → Bool
-is_schema types = are_distinct (map name_of_type types) && is_some (type_named types (codes "Query")) && list_all (is_type types) types
+is_schema types = are_distinct (map name_of_type types) && has_type types (codes "Query") && list_all (is_type types) types
+
+-- whether each size that is assumed is an Int
+abbrev pub are_sized : List TypeTree → Bool
+are_sized types = list_all (λ t. list_all (λ f. is_sized f.list) t.fields) types
 
 -- ---- the form
 
@@ -136,4 +152,5 @@ pub record Spells (text : List ℕ) (words : List Lexeme) : Type 0 where
 -- The text is a schema of the first form, with these types.
 pub record HasFirstSchema (text : List ℕ) (types : List TypeTree) : Type 0 where
   pub spelled : Spells text (schema_words types)
+  pub sized : IsTrue (are_sized types)
   pub sound : IsTrue (is_schema types)
