@@ -1,5 +1,5 @@
 -- The nodes of documents are read just where tokens spell them.
-use Rattle.std.proofs.Common.{ℕ, zero, suc, ◌≡◌, ◌<◌, ◌≤◌, max, Bool, true, false, List, [], ◌∷◌, ◌++◌, Option, None, Some, refl, sym, ap, ◌∙◌, subst, arith, append_assoc}
+use Rattle.std.proofs.Common.{ℕ, zero, suc, ◌-◌, ◌≡◌, ◌<◌, ◌≤◌, max, Bool, true, false, List, [], ◌∷◌, ◌++◌, Option, None, Some, refl, sym, ap, ◌∙◌, subst, arith, append_assoc}
 use Rattle.std.specs.List.{flat_map}
 use Rattle.gql_base.specs.declared.token.TokenKind.TheVariants.{OpenBrace, CloseBrace}
 use Rattle.gql_base.specs.Pieces.{Lexeme, word, mark}
@@ -11,7 +11,7 @@ use Rattle.first_form.specs.Documents.{Selections, no_selection, select, Subset,
 use Rattle.first_form.specs.Reading.{Words, Read, next, bind, one, both, mapped, checked, many, of_kind, name_in, until}
 use Rattle.first_form.specs.DocumentReading.{node_with, set_of, below_at, rest_at, selection_at, is_set, set_from, opened_at, set_at}
 use Rattle.first_form.proofs.Exact.{Exact, never, some_same, none_some, bind_some, both_exact, then_exact, mapped_exact, checked_exact, as_exact}
-use Rattle.first_form.proofs.Repeated.{Each, many_exact, Begins}
+use Rattle.first_form.proofs.Repeated.{Each, many_exact, Begins, Repeats, repeats}
 use Rattle.first_form.proofs.Tokens.{mark_exact}
 
 -- ---- what spells a node, and how many sets are open below it
@@ -166,3 +166,18 @@ set_exact types zero fields = record { found = λ ws x e. none_some x e; only = 
 set_exact types (suc n) fields =
     let l = opened_exact types n (set_at types n) (set_exact types n) fields in
     record { found = λ ws x e. l.found ws x e; only = λ nodes rest is end. l.only nodes rest is end }
+
+-- ---- what the loop over selections, and the recursion over sets, need
+
+pub selections_repeat : (types : List TypeTree) (n : ℕ) (fields : List FieldTree) → Repeats (until CloseBrace) (selection_at types (set_at types n) fields)
+selections_repeat types n fields = repeats (until CloseBrace) (selection_exact types n (set_at types n) (set_exact types n) fields) (selections_begin types n fields) refl
+
+pub no_set : (types : List TypeTree) (n : ℕ) (fields : List FieldTree) (ws : Words) → n ≡ 0 → set_at types n fields ws ≡ None
+unfolding set_at
+no_set types zero fields ws e = refl
+no_set types (suc n) fields ws e = absurd (omega arith)
+
+pub some_set : (types : List TypeTree) (n : ℕ) (fields : List FieldTree) (ws : Words) → (n ≡ 0 → ⊥) → opened_at types (set_at types (n - 1)) fields ws ≡ set_at types n fields ws
+unfolding set_at
+some_set types zero fields ws e = absurd (e refl)
+some_set types (suc n) fields ws e = let h : suc n - 1 ≡ n = omega arith in ap (λ m. opened_at types (set_at types m) fields ws) h

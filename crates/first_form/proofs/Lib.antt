@@ -6,3 +6,4 @@ mod DocumentExact
 mod Places
 mod Loops
 mod Names
+mod Nodes

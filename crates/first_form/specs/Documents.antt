@@ -131,3 +131,9 @@ pub record HaveFirstForm (schema document : List ℕ) (nodes : Firsts) : Type 0 
   pub types : List TypeTree
   pub of_schema : HasFirstSchema schema types
   pub of_document : HasFirstDocument types document nodes
+
+-- The schema has the first form, and no nodes stand for the document over its types.
+pub record IsRefusedDocument (schema document : List ℕ) : Type 0 where
+  pub types : List TypeTree
+  pub of_schema : HasFirstSchema schema types
+  pub refused : (nodes : Firsts) → HasFirstDocument types document nodes → ⊥

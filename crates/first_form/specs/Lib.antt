@@ -5,3 +5,4 @@ pub mod SchemaReading
 pub mod DocumentReading
 pub mod Sources
 pub mod Views
+pub mod Faults

@@ -128,7 +128,8 @@ is_type_name name = not (is_built_in name) && not (is_reserved name)
 
 -- whether there is a field, and none stands twice
 abbrev pub is_field_list : List FieldTree → Bool
-is_field_list fields = nat_lt 0 (length fields) && are_distinct (map name_of_field fields)
+is_field_list [] = false
+is_field_list (f ∷ fields) = are_distinct (map name_of_field (f ∷ fields))
 
 abbrev pub is_type : List TypeTree → TypeTree → Bool
 is_type types t = is_type_name t.name && is_field_list t.fields && list_all (is_field types) t.fields

@@ -3,6 +3,9 @@
 
 mod checks;
 mod definition;
+mod first;
 mod named;
 mod selection;
 mod source;
+
+pub use first::{FirstFault, FirstPart, read_first};
