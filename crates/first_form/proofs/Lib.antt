@@ -7,3 +7,4 @@ mod Places
 mod Loops
 mod Names
 mod Nodes
+mod Whole

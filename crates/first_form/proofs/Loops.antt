@@ -43,7 +43,7 @@ pub loop_push : {A B : Type 0} (view : B → A) (test : Option Lexeme → Bool) 
 loop_push view test r p all pushed b ws mid whole h t e is =
     ap (λ l. with_front l (many test r mid)) (ap (map view) is ∙ map-append view all (b ∷ [])) ∙ loop_step test r p (map view all) (view b) ws mid whole h t e
 
-no_more : (ws : Words) → goes_on (next ws) ≡ false → ws ≡ []
+pub no_more : (ws : Words) → goes_on (next ws) ≡ false → ws ≡ []
 no_more [] e = refl
 no_more (w ∷ ws) e = let h : true ≡ false = e in cc
 

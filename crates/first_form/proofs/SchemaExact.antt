@@ -51,7 +51,7 @@ numerals = record { to = λ ds p. p; from = λ ds p. p; same = λ ds p. refl }
 small_bound : (n : ℕ) → Small n → n < 2 ^ 64
 small_bound n e = let h : n ≤ 2147483647 = leb-true n 2147483647 e in omega arith
 
-and_both : (a b : Bool) → (a && b) ≡ true → (a ≡ true) × (b ≡ true)
+pub and_both : (a b : Bool) → (a && b) ≡ true → (a ≡ true) × (b ≡ true)
 and_both true true e = (refl, refl)
 and_both true false e = cc
 and_both false b e = cc

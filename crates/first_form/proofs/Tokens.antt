@@ -1,5 +1,5 @@
 -- What reading one token accepts.
-use Rattle.std.proofs.Common.{ℕ, ◌≡◌, ◌<◌, Bool, true, false, List, [], ◌∷◌, ◌++◌, Option, None, Some, Result, Ok, refl, sym, ap, ◌∙◌, subst, arith, eqb-true, eq-eqb}
+use Rattle.std.proofs.Common.{ℕ, ◌≡◌, ◌<◌, Bool, true, false, List, [], ◌∷◌, ◌++◌, Option, None, Some, Result, Ok, Err, refl, sym, ap, ◌∙◌, subst, arith, eqb-true, eq-eqb}
 use Rattle.std.specs.Prelude.{◌==◌, not, ◌||◌, ◌&&◌, nat_le, slice_index_or}
 use Rattle.std.specs.Str.{bytes_eq}
 use Rattle.std.specs.Cmp.Lexicographic.{bytes_decides}
@@ -83,3 +83,9 @@ same_number r a b e f = cc
 
 pub not_both : (a b : List ℕ) (same : Bool) → same ≡ bytes_eq a b → same ≡ false → a ≡ b → ⊥
 not_both a b same e f g = let h : true ≡ false = sym (bytes_equal a b g) ∙ (sym e ∙ f) in cc
+
+pub same_error : {T E : Type 0} (r : Result T E) (a b : E) {c : E} → r ≡ Err a → r ≡ Err b → a ≡ c → c ≡ b
+same_error r a b e f g = cc
+
+pub err_same : {T E : Type 0} (r : Result T E) (a b : E) → r ≡ Err a → r ≡ Err b → a ≡ b
+err_same r a b e f = cc

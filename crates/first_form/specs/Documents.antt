@@ -2,12 +2,13 @@
 -- A document is one selection set (GraphQL October 2021, 2.4) of fields without alias, arguments and directives.
 use Rattle.std.specs.Prelude.{◌≡◌, ℕ, suc, ◌<◌, ◌≤◌, max, Bool, true, false, List, [], ◌∷◌, ◌++◌, Option, Some, None, IsTrue, codes}
 use Rattle.gql_base.specs.Pieces.{Lexeme, word, mark}
+use Rattle.gql_base.specs.Tokens.{HasLexemes}
 use Rattle.gql_base.specs.declared.token.TokenKind.TheVariants.{OpenBrace, CloseBrace}
 use Rattle.static_cost.specs.declared.first.FirstKind.{FirstKind}
 use Rattle.static_cost.specs.declared.first.FirstKind.TheVariants.{Int, Str, Bool as BoolKind, Id, Object}
 use Rattle.static_cost.specs.declared.first.FirstList.{FirstList}
 use Rattle.static_cost.specs.Nodes.{First, first, Firsts, no_first, first_then}
-use Rattle.first_form.specs.Schemas.{FieldTree, TypeTree, kind_of, field_named, type_named, are_distinct, Spells, HasFirstSchema}
+use Rattle.first_form.specs.Schemas.{FieldTree, TypeTree, kind_of, field_named, type_named, are_distinct, HasFirstSchema}
 
 mutual
   -- the fields of a selection set, each with its name
@@ -120,7 +121,7 @@ unfoldable mutual
 -- The text is a document of the first form for a schema with these types, and stands for these nodes.
 pub record HasFirstDocument (types : List TypeTree) (text : List ℕ) (nodes : Firsts) : Type 0 where
   pub document : Selections
-  pub spelled : Spells text (document_words document)
+  pub spelled : HasLexemes text (document_words document)
   pub shallow : open_in (set document) ≤ most_open
   pub named : selections_of nodes ≡ document
   pub some : IsSet nodes

@@ -6,8 +6,7 @@ use Rattle.std.specs.List.{flat_map, list_any, list_all, starts_with}
 use Rattle.std.specs.Fmt.{decimal}
 use Rattle.std.specs.Str.{bytes_eq}
 use Rattle.gql_base.specs.Pieces.{Lexeme, word, number, mark}
-use Rattle.gql_base.specs.Tokens.{Lexes, lexeme_of}
-use Rattle.gql_base.specs.declared.token.Token.{Token}
+use Rattle.gql_base.specs.Tokens.{HasLexemes}
 use Rattle.gql_base.specs.declared.token.TokenKind.TheVariants.{Bang, Colon, At, OpenParen, CloseParen, OpenBracket, CloseBracket, OpenBrace, CloseBrace}
 use Rattle.static_cost.specs.declared.first.FirstKind.{FirstKind}
 use Rattle.static_cost.specs.declared.first.FirstKind.TheVariants.{Int, Str, Bool as BoolKind, Id, Object}
@@ -144,14 +143,8 @@ are_sized types = list_all (λ t. list_all (λ f. is_sized f.list) t.fields) typ
 
 -- ---- the form
 
--- the text is these tokens, with what is ignored between them
-pub record Spells (text : List ℕ) (words : List Lexeme) : Type 0 where
-  pub tokens : List Token
-  pub lexed : Lexes text tokens
-  pub same : map (lexeme_of text) tokens ≡ words
-
 -- The text is a schema of the first form, with these types.
 pub record HasFirstSchema (text : List ℕ) (types : List TypeTree) : Type 0 where
-  pub spelled : Spells text (schema_words types)
+  pub spelled : HasLexemes text (schema_words types)
   pub sized : IsTrue (are_sized types)
   pub sound : IsTrue (is_schema types)
