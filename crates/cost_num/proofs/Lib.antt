@@ -1,3 +1,7 @@
 pub mod CappedSums
 pub mod Digits
 pub mod Room
+pub mod Fronts
+pub mod Values
+pub mod FirstFaults
+pub mod OneReading
