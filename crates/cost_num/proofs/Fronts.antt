@@ -2,7 +2,7 @@
 use Rattle.std.proofs.Common.{◌≡◌, ◌≢◌, ℕ, zero, suc, ◌+◌, ◌-◌, ◌<◌, ◌≤◌, ◌⊎◌, inl, inr, ◌++◌, ◌∷◌, [], List, length, take, drop, get_or, Bool, true, false, cond, refl, ap, sym, subst, ◌∙◌, append_assoc, append-nil, arith, rules}
 use Rattle.std.proofs.Math.ListN.{length-append}
 use Rattle.std.proofs.lemmas.Str.Parse.{digit_from_value}
-use Rattle.std.proofs.lemmas.Bool.{cases_order}
+use Rattle.std.proofs.lemmas.Bool.{cases_lt, cases_order}
 pub use Rattle.std.proofs.lemmas.List.Sums.{prefix_len-le-length}
 use Rattle.std.proofs.lemmas.List.{take_at, take-append-drop, take-take}
 use Rattle.std.proofs.lemmas.Bool.Decides.{nat_tests}
@@ -22,7 +22,7 @@ digits_back : (xs ys : List ℕ) → AllDigits 10 (xs ++ ys) → AllDigits 10 ys
 digits_back [] ys d = d
 digits_back (x ∷ xs) ys d = digits_back xs ys d.1
 
-digits_joined : (xs ys : List ℕ) → AllDigits 10 xs → AllDigits 10 ys → AllDigits 10 (xs ++ ys)
+pub digits_joined : (xs ys : List ℕ) → AllDigits 10 xs → AllDigits 10 ys → AllDigits 10 (xs ++ ys)
 digits_joined [] ys d e = e
 digits_joined (x ∷ xs) ys d e = (d.0, digits_joined xs ys d.1 e)
 
@@ -195,9 +195,10 @@ pub stops_after_whole : (text whole rest more : List ℕ) (c at : ℕ) → text 
 stops_after_whole text whole rest more c at is begins stands d ends no_dot =
     inl (misfit_here text whole more c at (is ∙ ap (λ r. whole ++ r) begins) stands (inl d) (digits_then whole c d (subst NoDigitFirst begins ends) (λ dot. absurd (no_dot dot))))
 
-stops_after_fraction : (text whole fraction end : List ℕ) (at : ℕ) → text ≡ whole ++ (46 ∷ (fraction ++ end)) → at ≡ length whole + 1 + length fraction → IsNumeral 10 whole → AllDigits 10 fraction → NoDigitFirst end → (length end ≡ 0 → length fraction ≡ 0) → StopsAt text at
-stops_after_fraction text whole fraction [] at is stands numeral d ends short =
-    let bare : text ≡ whole ++ (46 ∷ []) = is ∙ ap (λ f. whole ++ (46 ∷ f)) (append-nil fraction ∙ none_left fraction (short refl)) in
+stops_after_fraction : (text whole fraction end : List ℕ) (at : ℕ) → text ≡ whole ++ (46 ∷ (fraction ++ end)) → at ≡ length whole + 1 + length fraction → IsNumeral 10 whole → AllDigits 10 fraction → NoDigitFirst end → ¬ ((0 < length fraction) × (length end ≡ 0)) → StopsAt text at
+stops_after_fraction text whole fraction [] at is stands numeral d ends incomplete =
+    let short : length fraction ≡ 0 = elim (cases_lt 0 (length fraction)) [ inl some ↦ absurd (incomplete (some, refl)) | inr none ↦ omega arith ] in
+    let bare : text ≡ whole ++ (46 ∷ []) = is ∙ ap (λ f. whole ++ (46 ∷ f)) (append-nil fraction ∙ none_left fraction short) in
     inr (
       record {
         begins = begins_from text (inr record { whole = whole; fraction = []; numeral = numeral; digits = tt; is = bare });
@@ -206,7 +207,7 @@ stops_after_fraction text whole fraction [] at is stands numeral d ends short =
           | inr dotted ↦ omega (arith, dotted.0.0, ap length (dot_apart whole other.whole [] other.fraction numeral.1 other.splits.digits.1 (sym bare ∙ dotted.1)).1)
         ];
       },
-      omega (arith, ap length bare, length-append whole (46 ∷ []), short refl),
+      omega (arith, ap length bare, length-append whole (46 ∷ []), short),
     )
 stops_after_fraction text whole fraction (c ∷ more) at is stands numeral d ends short =
     let front : List ℕ = whole ++ (46 ∷ fraction) in
@@ -216,7 +217,7 @@ stops_after_fraction text whole fraction (c ∷ more) at is stands numeral d end
     (inr record { whole = whole; fraction = fraction; numeral = numeral; digits = d; is = refl })
     (λ b. fraction_then whole fraction c numeral.1 d ends (subst Begun (append_assoc whole (46 ∷ fraction) (c ∷ [])) b)))
 
-pub stops_after_dot : (text whole rest after fraction end : List ℕ) (c at : ℕ) → text ≡ whole ++ rest → rest ≡ c ∷ after → c ≡ 46 → after ≡ fraction ++ end → at ≡ length whole + 1 + length fraction → 0 < length whole → AllDigits 10 whole → AllDigits 10 fraction → NoDigitFirst end → (length end ≡ 0 → length fraction ≡ 0) → StopsAt text at
+pub stops_after_dot : (text whole rest after fraction end : List ℕ) (c at : ℕ) → text ≡ whole ++ rest → rest ≡ c ∷ after → c ≡ 46 → after ≡ fraction ++ end → at ≡ length whole + 1 + length fraction → 0 < length whole → AllDigits 10 whole → AllDigits 10 fraction → NoDigitFirst end → ¬ ((0 < length fraction) × (length end ≡ 0)) → StopsAt text at
 stops_after_dot text whole rest after fraction end c at is begins dot parts stands some w f ends short =
     stops_after_fraction text whole fraction end at (is ∙ ap (λ r. whole ++ r) (begins ∙ λ i. dot i ∷ parts i)) stands (some, w) f ends short
 

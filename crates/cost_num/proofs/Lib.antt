@@ -5,3 +5,4 @@ pub mod Fronts
 pub mod Values
 pub mod FirstFaults
 pub mod OneReading
+pub mod PrintedAmounts

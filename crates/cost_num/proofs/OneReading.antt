@@ -64,11 +64,11 @@ abbrev Split : List ℕ → Type 0
 Split text = Parts text ⊎ ((at : ℕ) × StopsAt text at)
 
 split_fraction : (text whole after fraction end : List ℕ) → text ≡ whole ++ (46 ∷ after) → IsNumeral 10 whole → after ≡ fraction ++ end → AllDigits 10 fraction → NoDigitFirst end → Split text
-split_fraction text whole after [] end is numeral parts d ends = inr (_, stops_after_dot text whole (46 ∷ after) after [] end 46 _ is refl refl parts refl numeral.0 numeral.1 d ends (λ _. refl))
+split_fraction text whole after [] end is numeral parts d ends = inr (_, stops_after_dot text whole (46 ∷ after) after [] end 46 _ is refl refl parts refl numeral.0 numeral.1 d ends (λ both. omega (arith, both.0)))
 split_fraction text whole after (f ∷ fs) [] is numeral parts d ends =
     let closed : after ≡ f ∷ fs = parts ∙ append-nil (f ∷ fs) in
     inl record { whole = whole; fraction = f ∷ fs; splits = record { digits = numeral; rest = inr ((omega arith, d), is ∙ ap (λ a. whole ++ (46 ∷ a)) closed) } }
-split_fraction text whole after (f ∷ fs) (c ∷ more) is numeral parts d ends = inr (_, stops_after_dot text whole (46 ∷ after) after (f ∷ fs) (c ∷ more) 46 _ is refl refl parts refl numeral.0 numeral.1 d ends (λ none. absurd (omega arith)))
+split_fraction text whole after (f ∷ fs) (c ∷ more) is numeral parts d ends = inr (_, stops_after_dot text whole (46 ∷ after) after (f ∷ fs) (c ∷ more) 46 _ is refl refl parts refl numeral.0 numeral.1 d ends (λ both. omega (arith, both.1)))
 
 split_whole : (text whole rest : List ℕ) → text ≡ whole ++ rest → AllDigits 10 whole → NoDigitFirst rest → Split text
 split_whole text [] rest is d ends = inr (0, stops_at_once text [] rest is refl ends)

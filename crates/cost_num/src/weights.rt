@@ -117,10 +117,17 @@ fn split(text: &[u8]) -> Result<Decimal<'_>, usize>
         return Err(whole.len());
     }
     let (fraction, end) = leading_digits(after);
-    if fraction.is_empty() || !end.is_empty() {
+    if !is_complete(fraction, end) {
         return Err(whole.len() + 1 + fraction.len());
     }
     Ok(Decimal { whole, fraction })
+}
+
+/// Whether a fraction has a digit, and nothing stands after its digits.
+fn is_complete(fraction: &[u8], end: &[u8]) -> bool
+    ensures { IsTrue result ↔ ((0 < length fraction.now) × (length end.now ≡ 0)) }
+{
+    !fraction.is_empty() && end.is_empty()
 }
 
 /// The digits that a text begins with, and what follows them.
