@@ -1,18 +1,17 @@
 -- The first fault of a text, and that no text is read in two ways.
-use Rattle.std.proofs.Common.{◌≡◌, ◌≢◌, ℕ, zero, suc, ◌+◌, ◌-◌, ◌*◌, ◌<◌, ◌≤◌, ◌⊎◌, inl, inr, ◌++◌, ◌∷◌, [], List, Result, Ok, Err, length, get_or, refl, ap, sym, subst, ◌∙◌, append-nil, arith}
+use Rattle.std.proofs.Common.{◌≡◌, ◌≢◌, ℕ, ◌+◌, ◌<◌, ◌≤◌, inl, inr, ◌++◌, ◌∷◌, [], List, length, get_or, refl, ap, sym, subst, ◌∙◌, append-nil, arith}
 use Rattle.std.proofs.Math.ListN.{length-append}
-use Rattle.std.proofs.lemmas.Bool.{cases_order}
 use Rattle.std.proofs.lemmas.List.{get_or_past}
 use Rattle.std.specs.Char.{digit_value}
 use Rattle.std.specs.Str.Parse.{AllDigits}
 use Rattle.cost_num.specs.declared.TheConstants.{CAP, PLACES}
 use Rattle.cost_num.specs.declared.weights.WeightFault.{WeightFault}
 use Rattle.cost_num.specs.declared.weights.WeightFault.TheVariants.{Empty, Negative, Exponent, BadDigit, TooFine, TooLarge}
-use Rattle.cost_num.specs.DecimalText.{Splits, IsDecimal, Misfit, EndsEarly}
-use Rattle.cost_num.specs.Amount.{amount_of, Spells, IsTooFine, IsExponent, Shows, turn, IsFirstFault, IsAmount, Reads}
+use Rattle.cost_num.specs.DecimalText.{Splits, Misfit}
+use Rattle.cost_num.specs.Amount.{amount_of, Spells, IsTooFine, IsExponent, Shows, turn, IsFirstFault, IsAmount}
 use Rattle.cost_num.specs.Capped.{capped}
 use Rattle.cost_num.specs.Reading.{StopsAt, IsFirstPast, IsMisfitFault}
-use Rattle.cost_num.proofs.Fronts.{misfit_same, stops_same, splits_same, splits-no_stop}
+use Rattle.cost_num.proofs.Fronts.{stops_same, splits_same, splits-no_stop}
 
 -- no `e` stands past the end
 ended-no_exponent : (text : List ℕ) → IsExponent text (length text) → ⊥

@@ -9,7 +9,7 @@ use Rattle.cost_num.specs.declared.TheConstants.{PLACES}
 use Rattle.cost_num.specs.declared.weights.WeightFault.{WeightFault}
 use Rattle.cost_num.specs.declared.weights.WeightFault.TheVariants.{Empty, Negative, Exponent, BadDigit, TooFine, TooLarge}
 use Rattle.cost_num.specs.DecimalText.{Splits}
-use Rattle.cost_num.specs.Amount.{amount_of, Spells, IsTooFine, IsExponent, Shows, turn, IsFirstFault, IsAmount, Reads}
+use Rattle.cost_num.specs.Amount.{amount_of, IsTooFine, IsExponent, Shows, turn, Reads}
 use Rattle.cost_num.specs.Reading.{NoDigitFirst, StopsAt, IsFirstPast}
 use Rattle.cost_num.proofs.Fronts.{run_digits, run_ends, splits_same, stops_same, stops_at_once, stops_after_whole, stops_after_dot}
 use Rattle.cost_num.proofs.FirstFaults.{spells_same, spells-no_fault, first_misfit, first_fine_fault, first_over, first_blank, first_minus}

@@ -1,6 +1,5 @@
 -- A printed amount spells that amount.
 use Rattle.std.proofs.Common.{◌≡◌, ℕ, zero, suc, ◌+◌, ◌-◌, ◌*◌, ◌/◌, ◌%◌, ◌^◌, ◌<◌, ◌≤◌, inr, ◌++◌, ◌∷◌, [], List, length, take, refl, ap, sym, ◌∙◌, append-nil, arith}
-use Rattle.std.proofs.Math.ListN.{length-append}
 use Rattle.std.proofs.lemmas.Fmt.{decimal_is_IsNumeral}
 use Rattle.std.proofs.lemmas.List.{take_all}
 use Rattle.std.proofs.lemmas.Str.{digit_value_digit}
@@ -9,7 +8,7 @@ use Rattle.std.specs.Fmt.{decimal}
 use Rattle.std.specs.Prelude.{replicate}
 use Rattle.std.specs.Str.Parse.{AllDigits, digits_value, digits_value_after}
 use Rattle.cost_num.specs.declared.TheConstants.{CAP, PLACES, UNIT}
-use Rattle.cost_num.specs.Amount.{places_of, amount_of, Spells, IsAmount}
+use Rattle.cost_num.specs.Amount.{places_of, Spells, IsAmount}
 use Rattle.cost_num.specs.CostText.{last_digits, amount_text}
 use Rattle.cost_num.proofs.Digits.{length-last_digits}
 use Rattle.cost_num.proofs.Fronts.{digits_joined}

@@ -1,5 +1,5 @@
 -- Decimal text, and the first character that keeps a text from being one.
-use Rattle.std.specs.Prelude.{◌≡◌, ℕ, ◌+◌, ◌<◌, ◌≤◌, ◌⊎◌, List, [], ◌∷◌, ◌++◌, length, take}
+use Rattle.std.specs.Prelude.{◌≡◌, ℕ, ◌+◌, ◌<◌, ◌⊎◌, List, [], ◌∷◌, ◌++◌, length, take}
 use Rattle.std.specs.Str.Parse.{IsNumeral}
 
 -- the text is `whole`, or it is `whole`, a dot and `fraction`; each part is one digit or more
