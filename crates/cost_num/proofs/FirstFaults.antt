@@ -7,7 +7,7 @@ use Rattle.std.specs.Str.Parse.{AllDigits}
 use Rattle.cost_num.specs.declared.TheConstants.{CAP, PLACES}
 use Rattle.cost_num.specs.declared.weights.WeightFault.{WeightFault}
 use Rattle.cost_num.specs.declared.weights.WeightFault.TheVariants.{Empty, Negative, Exponent, BadDigit, TooFine, TooLarge}
-use Rattle.cost_num.specs.DecimalText.{Splits, Misfit}
+use Rattle.cost_num.specs.DecimalText.{Splits, IsFirstMisfit}
 use Rattle.cost_num.specs.Amount.{amount_of, Spells, IsTooFine, IsExponent, Shows, turn, IsFirstFault, IsAmount}
 use Rattle.cost_num.specs.Capped.{capped}
 use Rattle.cost_num.specs.Reading.{StopsAt, IsFirstPast, IsMisfitFault}
@@ -20,7 +20,7 @@ ended-no_exponent text e = elim e.letter [
   | inr capital ↦ omega (arith, capital, get_or_past text (length text) 0 (omega arith))
 ]
 
-exponent_in_text : (text : List ℕ) (at : ℕ) → StopsAt text at → IsExponent text at → Misfit text at
+exponent_in_text : (text : List ℕ) (at : ℕ) → StopsAt text at → IsExponent text at → IsFirstMisfit text at
 exponent_in_text text at (inl m) e = m
 exponent_in_text text at (inr early) e = absurd (ended-no_exponent text (subst (IsExponent text) early.1 e))
 
@@ -64,7 +64,7 @@ first_misfit greatest text at Exponent some head stops is = record {
 }
 first_misfit greatest text at (BadDigit place) some head stops is = record {
   shows = elim stops [
-    | inl m ↦ inl (subst (Misfit text) (sym is.0) m, subst (λ k. ¬ (IsExponent text k)) (sym is.0) is.1)
+    | inl m ↦ inl (subst (IsFirstMisfit text) (sym is.0) m, subst (λ k. ¬ (IsExponent text k)) (sym is.0) is.1)
     | inr ended ↦ inr (ended.0, is.0 ∙ ended.1)
   ];
   first = λ earlier early. no_first_three greatest text at earlier some head stops is.1 early;

@@ -8,7 +8,7 @@ use Rattle.std.proofs.lemmas.Bool.Decides.{nat_tests}
 use Rattle.std.specs.Char.{digit_value, is_ascii_digit}
 use Rattle.std.specs.List.{prefix_len}
 use Rattle.std.specs.Str.Parse.{AllDigits, IsNumeral}
-use Rattle.cost_num.specs.DecimalText.{Splits, IsDecimal, BeginsDecimal, Misfit}
+use Rattle.cost_num.specs.DecimalText.{Splits, IsDecimal, BeginsDecimal, IsFirstMisfit}
 use Rattle.cost_num.specs.Reading.{NoDigitFirst, StopsAt}
 
 -- digits
@@ -158,7 +158,7 @@ fraction_then whole fraction c d e over (inr b) =
     let same = dot_apart whole b.whole (fraction ++ (c ∷ [])) b.fraction d b.numeral.1 b.is in
     omega (arith, (digits_back fraction (c ∷ []) (subst (AllDigits 10) (sym same.1) b.digits)).0)
 
-misfit_here : (text front more : List ℕ) (c at : ℕ) → text ≡ front ++ (c ∷ more) → at ≡ length front → Begun front → ¬ (Begun (front ++ (c ∷ []))) → Misfit text at
+misfit_here : (text front more : List ℕ) (c at : ℕ) → text ≡ front ++ (c ∷ more) → at ≡ length front → Begun front → ¬ (Begun (front ++ (c ∷ []))) → IsFirstMisfit text at
 misfit_here text front more c at is stands begun stuck =
     let upto : take at text ≡ front = rw (is) (take_at front (c ∷ more) at (sym stands)) in
     let with_it : take (at + 1) text ≡ front ++ (c ∷ []) = rw (is, ← append_assoc front (c ∷ []) more) (take_at (front ++ (c ∷ [])) more (at + 1) (omega (arith, length-append front (c ∷ [])))) in
@@ -247,17 +247,17 @@ decimal_begins text d = record { rest = []; goes_on = subst IsDecimal (sym (appe
 decimal_of : (text whole fraction : List ℕ) → Splits text whole fraction → IsDecimal text
 decimal_of text whole fraction parts = record { whole = whole; fraction = fraction; splits = parts }
 
-begins-no_misfit : (text : List ℕ) (at : ℕ) → BeginsDecimal text → Misfit text at → ⊥
+begins-no_misfit : (text : List ℕ) (at : ℕ) → BeginsDecimal text → IsFirstMisfit text at → ⊥
 begins-no_misfit text at b m = m.there (begins_take text (at + 1) b)
 
 pub splits-no_stop : (text whole fraction : List ℕ) (at : ℕ) → Splits text whole fraction → StopsAt text at → ⊥
 splits-no_stop text whole fraction at parts (inl m) = begins-no_misfit text at (decimal_begins text (decimal_of text whole fraction parts)) m
 splits-no_stop text whole fraction at parts (inr early) = early.0.short (decimal_of text whole fraction parts)
 
-misfit_before : (text : List ℕ) (a b : ℕ) → Misfit text a → Misfit text b → a < b → ⊥
+misfit_before : (text : List ℕ) (a b : ℕ) → IsFirstMisfit text a → IsFirstMisfit text b → a < b → ⊥
 misfit_before text a b one other before = one.there (subst BeginsDecimal (take-take (a + 1) b text (omega arith)) (begins_take (take b text) (a + 1) other.before))
 
-pub misfit_same : (text : List ℕ) (a b : ℕ) → Misfit text a → Misfit text b → a ≡ b
+pub misfit_same : (text : List ℕ) (a b : ℕ) → IsFirstMisfit text a → IsFirstMisfit text b → a ≡ b
 misfit_same text a b one other = elim (cases_order a b) [
   | inl same ↦ same
   | inr apart ↦ elim apart [ inl before ↦ absurd (misfit_before text a b one other before) | inr after ↦ absurd (misfit_before text b a other one after) ]

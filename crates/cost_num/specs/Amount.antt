@@ -5,7 +5,7 @@ use Rattle.std.specs.Str.Parse.{digits_value}
 use Rattle.cost_num.specs.declared.TheConstants.{PLACES, UNIT}
 use Rattle.cost_num.specs.declared.weights.WeightFault.{WeightFault}
 use Rattle.cost_num.specs.declared.weights.WeightFault.TheVariants.{Empty, Negative, Exponent, BadDigit, TooFine, TooLarge}
-use Rattle.cost_num.specs.DecimalText.{Splits, Misfit, EndsEarly}
+use Rattle.cost_num.specs.DecimalText.{Splits, IsFirstMisfit, EndsEarly}
 
 -- the first decimal places of a fraction, filled with zeros
 abbrev pub places_of : List ℕ → List ℕ
@@ -45,8 +45,8 @@ pub record IsExponent (text : List ℕ) (at : ℕ) : Type 0 where
 abbrev pub Shows : ℕ → List ℕ → WeightFault → Type 0
 Shows greatest text Empty = text ≡ []
 Shows greatest text Negative = (rest : List ℕ) × (text ≡ 45 ∷ rest)
-Shows greatest text Exponent = (at : ℕ) × Misfit text at × IsExponent text at
-Shows greatest text (BadDigit at) = (Misfit text at × ¬ (IsExponent text at)) ⊎ (EndsEarly text × (at ≡ length text))
+Shows greatest text Exponent = (at : ℕ) × IsFirstMisfit text at × IsExponent text at
+Shows greatest text (BadDigit at) = (IsFirstMisfit text at × ¬ (IsExponent text at)) ⊎ (EndsEarly text × (at ≡ length text))
 Shows greatest text (TooFine at) = IsTooFine text at
 Shows greatest text TooLarge = (amount : ℕ) × Spells text amount × (greatest < amount)
 

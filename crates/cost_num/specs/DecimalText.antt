@@ -20,7 +20,7 @@ pub record BeginsDecimal (front : List ℕ) : Type 0 where
 
 -- the first character that doesn't fit stands at `at`: what is before it begins a decimal text, and
 -- with it nothing does
-pub record Misfit (text : List ℕ) (at : ℕ) : Type 0 where
+pub record IsFirstMisfit (text : List ℕ) (at : ℕ) : Type 0 where
   pub in_text : at < length text
   pub before : BeginsDecimal (take at text)
   pub there : ¬ (BeginsDecimal (take (at + 1) text))

@@ -5,7 +5,7 @@ use Rattle.cost_num.specs.declared.TheConstants.{PLACES}
 use Rattle.cost_num.specs.declared.weights.WeightFault.{WeightFault}
 use Rattle.cost_num.specs.declared.weights.WeightFault.TheVariants.{Exponent, BadDigit}
 use Rattle.cost_num.specs.Amount.{IsExponent}
-use Rattle.cost_num.specs.DecimalText.{Misfit, EndsEarly}
+use Rattle.cost_num.specs.DecimalText.{IsFirstMisfit, EndsEarly}
 
 -- the text doesn't begin with a digit
 abbrev pub NoDigitFirst : List ℕ → Type 0
@@ -14,7 +14,7 @@ NoDigitFirst (c ∷ cs) = 10 ≤ digit_value c
 
 -- the first character that doesn't fit stands here, or the text ends here, too early
 abbrev pub StopsAt : List ℕ → ℕ → Type 0
-StopsAt text at = Misfit text at ⊎ (EndsEarly text × (at ≡ length text))
+StopsAt text at = IsFirstMisfit text at ⊎ (EndsEarly text × (at ≡ length text))
 
 -- the first digit after the last place that isn't 0
 pub record IsFirstPast (fraction : List ℕ) (place : ℕ) : Type 0 where
