@@ -13,7 +13,7 @@ use Rattle.cost_num.specs.Reading.{NoDigitFirst, StopsAt}
 
 -- digits
 
-digits_front : (xs ys : List ℕ) → AllDigits 10 (xs ++ ys) → AllDigits 10 xs
+pub digits_front : (xs ys : List ℕ) → AllDigits 10 (xs ++ ys) → AllDigits 10 xs
 digits_front [] ys d = tt
 digits_front (x ∷ xs) ys d = (d.0, digits_front xs ys d.1)
 

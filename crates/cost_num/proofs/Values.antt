@@ -1,11 +1,14 @@
 -- The numbers that digits write, where they stop above the cap.
-use Rattle.std.proofs.Common.{◌≡◌, ℕ, ◌+◌, ◌-◌, ◌*◌, ◌<◌, ◌≤◌, ◌∷◌, [], List, length, drop, get_or, ap, sym, subst, ◌∙◌, arith}
-use Rattle.std.proofs.lemmas.List.{drop_more}
+use Rattle.std.proofs.Common.{◌≡◌, ℕ, take, suc, zero, ◌+◌, ◌-◌, ◌*◌, ◌<◌, ◌≤◌, ◌∷◌, [], List, length, drop, get_or, ap, sym, subst, ◌∙◌, arith}
+use Rattle.std.proofs.lemmas.List.{drop_more, take-append-drop}
 use Rattle.std.proofs.lemmas.Str.{digit_value_digit}
 use Rattle.std.proofs.lemmas.Str.Parse.{digit_from_value}
 use Rattle.std.specs.Char.{digit_value}
 use Rattle.std.specs.Str.Parse.{AllDigits, digits_value_after}
-use Rattle.cost_num.specs.declared.TheConstants.{CAP}
+use Rattle.std.specs.Prelude.{replicate}
+use Rattle.cost_num.specs.declared.TheConstants.{CAP, PLACES}
+use Rattle.cost_num.specs.Amount.{places_of}
+use Rattle.cost_num.proofs.Fronts.{digits_front, digits_joined}
 use Rattle.cost_num.specs.Capped.{capped}
 use Rattle.cost_num.proofs.CappedSums.{capped_left, capped_times, capped_twice, capped_most}
 
@@ -46,3 +49,14 @@ reads_more digits index number next whole inside before step =
           ∙ ap (λ ds. capped (digits_value_after 10 number ds)) (sym opened)
           ∙ before.same;
     }
+
+-- the first places of digits are digits
+
+zeros_digits : (n : ℕ) → AllDigits 10 (replicate n 48)
+zeros_digits zero = tt
+zeros_digits (suc n) = (omega arith, zeros_digits n)
+
+pub places_digits : (fraction : List ℕ) → AllDigits 10 fraction → AllDigits 10 (places_of fraction)
+places_digits fraction d =
+    let front : AllDigits 10 (take PLACES fraction) = digits_front (take PLACES fraction) (drop PLACES fraction) (subst (AllDigits 10) (sym (take-append-drop PLACES fraction)) d) in
+    digits_joined (take PLACES fraction) (replicate (PLACES - length fraction) 48) front (zeros_digits (PLACES - length fraction))
