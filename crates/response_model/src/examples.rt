@@ -9,7 +9,7 @@ ghost use Rattle.response_model.specs.Cost.{types, fields, cost};
 ghost use Rattle.response_model.specs.Bound.{IsBound, IsResponse};
 ghost use Rattle.response_model.specs.Filled.{filled};
 ghost use Rattle.response_model.specs.Rows.{type_row, node_row, leaf_in, rows_below};
-ghost use Rattle.response_model.specs.Examples.{name_of_type, holds_string, added_alias, plain, text, friends_of_friends, search, asked_search, of_id, user_of_three, post_of_author, found, five, names_of_friends, befriended, named, tags_and_kind, tagged, search_reply, tags_reply, find, user_or_post, one_node};
+ghost use Rattle.response_model.specs.Examples.{name_of_type, holds_string, added_alias, plain, text, friends_of_friends, search, asked_search, of_id, user_of_three, post_of_author, found, five, names_of_friends, befriended, named, tags_and_kind, tagged, search_reply, post_members, tags_reply, find, user_or_post, one_node, aliased, two_users};
 
 /// Three friends of three friends: 1 + 1 + 3 + 9 values, and as field cost 1 + 1 + 3 + 9 times 0.25.
 pub fn bound_of_friends()
@@ -98,9 +98,10 @@ pub fn object_has_its_entries()
 
 /// A reply with the added alias reads as the tree without it, in the order of the nodes.
 pub fn reply_read()
-    ensures read { ReadsReply name_of_type added_alias search (search_reply (codes "Post") no_members) (found (element post_of_author (element null no_element))) }
-    ensures known_types { (t : Tree) → ReadsReply name_of_type added_alias search (search_reply (codes "Query") no_members) t → ⊥ }
-    ensures known_keys { (t : Tree) → ReadsReply name_of_type added_alias search (search_reply (codes "Post") (member (codes "title") json_null no_members)) t → ⊥ }
+    ensures read { ReadsReply name_of_type added_alias search (search_reply (post_members no_members)) (found (element post_of_author (element null no_element))) }
+    ensures known_types { (t : Tree) → ReadsReply name_of_type added_alias search (search_reply (member added_alias (string (codes "Query")) no_members)) t → ⊥ }
+    ensures known_keys { (t : Tree) → ReadsReply name_of_type added_alias search (search_reply (post_members (member (codes "title") json_null no_members))) t → ⊥ }
+    ensures all_keys { (t : Tree) → ReadsReply name_of_type added_alias search (search_reply (member added_alias (string (codes "Post")) no_members)) t → ⊥ }
     ensures in_order { ReadsReply name_of_type added_alias tags_and_kind (tags_reply (array (item json_null no_items))) (tagged (element null no_element) (codes "Query")) }
     ensures list_due { (t : Tree) → ReadsReply name_of_type added_alias tags_and_kind (tags_reply (string [])) t → ⊥ }
     ensures any_leaf { Reads name_of_type added_alias (single false) false text (array no_items) (leaf (array no_items)) }
@@ -108,9 +109,12 @@ pub fn reply_read()
 }
 
 /// The rows of a plan in depth-first order: each type before its nodes, each node before what is below it.
-pub fn rows_of_search()
-    ensures { rows_below 0 search ≡ type_row 0 0 1000 ∷ node_row 0 asked_search None
+pub fn rows_in_depth_first_order()
+    ensures of_types { rows_below 0 search ≡ type_row 0 0 1000 ∷ node_row 0 asked_search None
         ∷ type_row 1 1 1000 ∷ node_row 1 (plain (codes "friends") (listed false false) (Some 3) 1000) None ∷ type_row 2 1 1000 ∷ node_row 2 (plain (codes "id") (single false) None 0) (leaf_in text)
         ∷ type_row 1 2 2500 ∷ node_row 1 (plain (codes "author") (single true) None 4000) None ∷ type_row 2 1 1000 ∷ node_row 2 (plain (codes "id") (single false) None 0) (leaf_in text) ∷ [] }
+    ensures of_nodes { rows_below 0 two_users ≡ type_row 0 0 1000
+        ∷ node_row 0 (aliased (codes "a")) None ∷ type_row 1 1 1000 ∷ node_row 1 (plain (codes "name") (single true) None 250) (leaf_in text)
+        ∷ node_row 0 (aliased (codes "b")) None ∷ type_row 1 1 1000 ∷ node_row 1 (plain (codes "name") (single true) None 250) (leaf_in text) ∷ [] }
 {
 }
