@@ -1,8 +1,8 @@
 -- Small plans, replies and responses, by which the definitions are read aloud and computed.
-use Rattle.std.specs.Prelude.{ℕ, List, [], ◌∷◌, codes, Bool, true, false, cond, eqb, Option, Some, None}
+use Rattle.std.specs.Prelude.{ℕ, List, [], codes, Bool, true, false, cond, eqb, Option, Some, None}
 use Rattle.serde_json.specs.Data.{Data, null as json_null, boolean, number, string, array, object as json_object, no_items, item, Members, no_members, member}
 use Rattle.response_model.specs.Plan.{Form, single, listed, Selected, type_name, numbered, Plan, leaf_plan, position, ObjectTypes, no_type, object_type, Nodes, no_node, node}
-use Rattle.response_model.specs.Response.{Tree, null, leaf, list_of, object, Elements, no_element, element, Entries, no_entry, entry}
+use Rattle.response_model.specs.Response.{Tree, leaf, list_of, object, Elements, no_element, element, no_entry, entry}
 
 -- The object types are Query, User and Post, told by 0, 1 and 2. The one scalar type, told by 0, holds strings.
 abbrev pub name_of_type : ℕ → List ℕ
