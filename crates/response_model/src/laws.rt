@@ -50,7 +50,8 @@ pub fn rows_cost()
     ensures { (part : Part) (rows : List Row) → (totals part rows).greatest 0 ≡ greatest_cost part (plan_of_rows rows) }
 {}
 
-/// The rows of a plan in depth-first order stand for that plan.
+/// The rows of a plan in depth-first order stand for that plan, and going over them gives its greatest cost.
 pub fn rows_of_plan()
-    ensures { (possible : ObjectTypes) → plan_of_rows (rows_below 0 (position possible)) ≡ position possible }
+    ensures plan { (possible : ObjectTypes) → plan_of_rows (rows_below 0 (position possible)) ≡ position possible }
+    ensures costs { (part : Part) (possible : ObjectTypes) → (totals part (rows_below 0 (position possible))).greatest 0 ≡ greatest_cost part (position possible) }
 {}
