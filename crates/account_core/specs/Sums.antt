@@ -1,9 +1,9 @@
 -- What a history has spent and left open in each window, and that both together keep to the window's allowance.
-use Rattle.std.specs.Prelude.{◌≡◌, ℕ, ◌==◌, ◌&&◌, not, Bool, false, List, [], ◌∷◌, ◌++◌}
+use Rattle.std.specs.Prelude.{◌≡◌, ℕ, not, Bool, false, List, [], ◌∷◌, ◌++◌}
 use Rattle.std.specs.List.{filter, flat_map, list_any}
 use Rattle.cost_num.specs.declared.Cost.{Cost}
 use Rattle.account_core.specs.Costs.{nothing, together, AtMost, counted_in}
-use Rattle.account_core.specs.Machine.{Limit, Grant, Call, reservation, settlement, CallReply, granted, short, done, Entry, grant, held_in}
+use Rattle.account_core.specs.Machine.{Limit, Grant, Call, reservation, settlement, CallReply, granted, short, done, Entry, grant, is_grant, held_in}
 
 -- the grant that a call made, or none
 abbrev pub grants_of_call : ℕ → ℕ → Call → CallReply → List Grant
@@ -14,20 +14,17 @@ grants_of_call caller number _ _ = []
 abbrev pub grants_made : List Entry → List Grant
 grants_made history = flat_map (λ e. grants_of_call e.caller e.number e.call e.reply) history
 
--- whether a call is a settlement of the caller's grant of this number
-abbrev pub settles_number : ℕ → Call → CallReply → Bool
-settles_number number (settlement of window bound measured) done = number == of
-settles_number number _ _ = false
+-- whether a caller's call settles a grant
+abbrev pub settles_grant : ℕ → Call → CallReply → Grant → Bool
+settles_grant caller (settlement of window bound measured) done g = is_grant caller of g
+settles_grant caller _ _ g = false
 
-abbrev pub settles : ℕ → ℕ → Entry → Bool
-settles caller number e = (caller == e.caller) && settles_number number e.call e.reply
-
-abbrev pub is_settled : ℕ → ℕ → List Entry → Bool
-is_settled caller number history = list_any (settles caller number) history
+abbrev pub is_settled : List Entry → Grant → Bool
+is_settled history g = list_any (λ e. settles_grant e.caller e.call e.reply g) history
 
 -- the grants that a history made and that none of its entries settles
 abbrev pub open_grants : List Entry → List Grant
-open_grants history = filter (λ g. not (is_settled g.caller g.number history)) (grants_made history)
+open_grants history = filter (λ g. not (is_settled history g)) (grants_made history)
 
 -- the measured cost of a settlement, in the window of its grant
 abbrev pub spent_by : ℕ → Call → CallReply → Cost

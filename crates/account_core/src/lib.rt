@@ -172,3 +172,6 @@ impl Account {
         *self = self.settled_at(window, bound, measured);
     }
 }
+
+#[cfg(test)]
+mod tests;

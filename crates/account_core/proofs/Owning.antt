@@ -1,0 +1,2 @@
+-- The open grants of one caller.
+use Rattle.std.proofs.Common.{◌≡◌, ℕ}
