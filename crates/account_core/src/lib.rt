@@ -14,6 +14,8 @@ ghost use Rattle.account_core.specs.Numbers.{StandsFor, StepsTo, reply_of, ticke
 
 use cost_num::{Cost, CAP};
 
+pub mod laws;
+
 /// What a client has settled and holds in the window that its account has come to.
 #[derive(Clone, Copy, Debug, PartialEq, Eq)]
 pub struct Account {

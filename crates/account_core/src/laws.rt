@@ -1,0 +1,75 @@
+//! Laws of the budget machine. Each is what a function ensures that does nothing.
+
+ghost use Rattle.std.specs.Prelude.{◌≡◌, ℕ, ◌≤◌, List, [], ◌∷◌, ◌++◌, Some};
+ghost use Rattle.account_core.specs.declared.Account.{Account};
+ghost use Rattle.account_core.specs.Costs.{AtMost};
+ghost use Rattle.account_core.specs.Machine.{Limit, Grant, State, Entry, open_grant, account_of};
+ghost use Rattle.account_core.specs.History.{state_after, entries_by, grants_by, IsNext, IsLegal};
+ghost use Rattle.account_core.specs.Sums.{open_grants, KeepsAllowance};
+ghost use Rattle.account_core.specs.Numbers.{StandsFor, used_of};
+
+/// Never more than the allowance: at every moment of a legal history and in every window, the
+/// settled costs and the bounds of the open grants are together at most what the window may take.
+pub fn keeps_allowance()
+    ensures { (limit : Limit) (history : List Entry) → IsLegal limit history → KeepsAllowance limit history }
+{
+}
+
+/// A legal history begins with nothing, goes on by each entry that comes next, and was legal at
+/// every moment before.
+pub fn grows_legally()
+    ensures empty { (limit : Limit) → IsLegal limit [] }
+    ensures next {
+        (limit : Limit) (history : List Entry) (e : Entry) → IsLegal limit history → IsNext limit history e
+            → IsLegal limit (history ++ e ∷ [])
+    }
+    ensures front {
+        (limit : Limit) (history front rest : List Entry) → history ≡ front ++ rest → IsLegal limit history
+            → IsLegal limit front
+    }
+{
+}
+
+/// After a legal history the machine lists just the grants that the history left open, and its five
+/// numbers stand for its state and keep to the allowance.
+pub fn lists_open_grants()
+    ensures listed {
+        (limit : Limit) (history : List Entry) → IsLegal limit history
+            → (state_after history).grants ≡ open_grants history
+    }
+    ensures stands {
+        (limit : Limit) (history : List Entry) → IsLegal limit history
+            → StandsFor (account_of (state_after history)) (state_after history)
+    }
+    ensures within {
+        (limit : Limit) (history : List Entry) → IsLegal limit history
+            → AtMost (used_of (account_of (state_after history))) limit
+    }
+{
+}
+
+/// A caller's open grants hang on its own entries alone.
+pub fn keeps_callers_apart()
+    ensures own { (caller : ℕ) (history : List Entry) → open_grants (entries_by caller history) ≡ grants_by caller (open_grants history) }
+    // What the caller's own entries leave open under a number is what the machine has open there.
+    ensures number {
+        (limit : Limit) (history : List Entry) (caller number : ℕ) → IsLegal limit history
+            → open_grant caller number (open_grants (entries_by caller history)) ≡ open_grant caller number (state_after history).grants
+    }
+    ensures none {
+        (limit : Limit) (history : List Entry) → IsLegal limit history
+            → ((caller : ℕ) → open_grants (entries_by caller history) ≡ []) → (state_after history).grants ≡ []
+    }
+{
+}
+
+/// An open grant can be settled: it isn't of a window to come, and in the account's window its bound
+/// is part of what is held.
+pub fn holds_open_grants()
+    ensures {
+        (account : Account) (s : State) (g : Grant) → StandsFor account s
+            → open_grant g.caller g.number s.grants ≡ Some g
+            → (g.window ≤ account.window) × (g.window ≡ account.window → AtMost g.bound account.held)
+    }
+{
+}
