@@ -1,7 +1,7 @@
-pub mod Adding
-pub mod Holding
-pub mod Stepping
-pub mod Growing
-pub mod Opening
-pub mod Keeping
-pub mod Owning
+pub mod CostSums
+pub mod GrantLists
+pub mod NumberSteps
+pub mod Histories
+pub mod OpenGrants
+pub mod AllowanceLaw
+pub mod Callers

@@ -6,7 +6,7 @@ use Rattle.account_core.specs.declared.Account.{Account}
 use Rattle.account_core.specs.declared.Ticket.{Ticket}
 use Rattle.account_core.specs.declared.Reply.{Reply}
 use Rattle.account_core.specs.declared.Reply.TheVariants.{Granted, Short}
-use Rattle.account_core.specs.Costs.{together, remaining, AtMost, is_at_most, counted_in}
+use Rattle.account_core.specs.Costs.{nothing, together, remaining, AtMost, is_at_most, counted_in}
 use Rattle.account_core.specs.Machine.{Limit, Grant, State, Entry, CallReply, granted, short, account_of, room, IsStep, state_past}
 
 -- no grant stands in a window past this one
@@ -34,6 +34,15 @@ abbrev pub HasTicket : Reply → Ticket → Type 0
 HasTicket (Granted ticket) wanted = ticket ≡ wanted
 HasTicket (Short left) wanted = Unit {0}
 
+-- a short reply has left the account as it was
+abbrev pub UnchangedIfShort : Reply → Account → Account → Type 0
+UnchangedIfShort (Granted ticket) old new = Unit {0}
+UnchangedIfShort (Short left) old new = new ≡ old
+
+-- an account in a window in which nothing is settled or held
+abbrev pub empty_account : ℕ → Account
+empty_account window = record { window = window; settled = nothing; held = nothing }
+
 -- the account once it has come to a window: what was settled and held counts in its own window alone
 abbrev pub moved_to : Account → ℕ → Account
 moved_to account window =
@@ -46,6 +55,11 @@ moved_to account window =
 abbrev pub used_of : Account → Cost
 used_of account = together account.settled account.held
 
+-- an account keeps to its limit: what is settled and held is at most what its window may take
+abbrev pub KeepsLimit : Limit → Account → Type 0
+KeepsLimit limit account = AtMost (used_of account) (room limit account account.window)
+
+-- what an account has left in a window that it has come to, or comes to
 abbrev pub left_at : Limit → Account → ℕ → Cost
 left_at limit account window = remaining (room limit account window) (used_of (moved_to account window))
 

@@ -10,16 +10,16 @@
 ghost use Rattle.std.specs.Prelude.{◌≡◌, ℕ, ◌+◌, ◌≤◌, ◌<◌, ◌^◌, List, Some, max};
 ghost use Rattle.account_core.specs.Costs.{cost, together, remaining, AtMost, is_at_most};
 ghost use Rattle.account_core.specs.Machine.{Limit, State, Entry, first, entry, reservation, settlement, done, grant, open_grant, account_of, state_past};
-ghost use Rattle.account_core.specs.Numbers.{StandsFor, StepsTo, reply_of, ticket_for, HasTicket, moved_to, used_of, account_holding, reservation_reply, reserved_account, settled_account};
+ghost use Rattle.account_core.specs.Numbers.{StandsFor, StepsTo, reply_of, ticket_for, HasTicket, empty_account, moved_to, used_of, KeepsLimit, UnchangedIfShort, account_holding, reservation_reply, reserved_account, settled_account};
 
-use cost_num::{Cost, CAP};
+use cost_num::{CAP, Cost};
 
 pub mod laws;
 
 /// What a client has settled and holds in the window that its account has come to.
 #[derive(Clone, Copy, Debug, PartialEq, Eq)]
 pub struct Account {
-    /// The window's number: its seconds divided by the window's length, rounded down.
+    /// The window's number: the seconds of a moment in it divided by the window's length, rounded down.
     pub window: u64,
     /// The measured costs that are settled in the window, in thousandths.
     pub settled: Cost,
@@ -52,13 +52,16 @@ pub enum Reply {
     },
 }
 
-const NOTHING: Cost = Cost { types: 0, fields: 0 };
+const NOTHING: Cost = Cost {
+    types: 0,
+    fields: 0,
+};
 
 /// The account in window 0, with nothing settled and nothing held.
 pub fn fresh() -> Account
     ensures first { StandsFor result first }
 {
-    Account { window: 0, settled: NOTHING, held: NOTHING }
+    Account::empty(0)
 }
 
 fn is_within(bound: Cost, left: Cost) -> bool
@@ -68,13 +71,23 @@ fn is_within(bound: Cost, left: Cost) -> bool
 }
 
 impl Account {
+    fn empty(window: u64) -> Account
+        ensures { result ≡ empty_account window }
+    {
+        Account {
+            window,
+            settled: NOTHING,
+            held: NOTHING,
+        }
+    }
+
     fn moved_to(self, window: u64) -> Account
         ensures { result ≡ moved_to self window }
     {
         if window == self.window {
             self
         } else {
-            Account { window, settled: NOTHING, held: NOTHING }
+            Account::empty(window)
         }
     }
 
@@ -118,7 +131,11 @@ impl Account {
             types: self.held.types - bound.types,
             fields: self.held.fields - bound.fields,
         };
-        Account { settled, held, ..self }
+        Account {
+            settled,
+            held,
+            ..self
+        }
     }
 
     /// Reserves a bound in a window, or in the account's own window if that is later.
@@ -127,25 +144,36 @@ impl Account {
     /// of the bound are at most what the allowance leaves there, the account comes to the window and
     /// holds the bound until the ticket is settled. Otherwise the reply is `Short` with what is left,
     /// and the account is as it was.
-    pub fn reserve(&mut self, allowance: Cost, client: u32, seq: u64, window: u64, bound: Cost) -> Reply
+    pub fn reserve(
+        &mut self,
+        allowance: Cost,
+        client: u32,
+        seq: u64,
+        window: u64,
+        bound: Cost,
+    ) -> Reply
         requires cap { AtMost allowance (cost CAP CAP) }
-        requires inside { AtMost (used_of self.old) allowance }
+        requires inside { KeepsLimit allowance self.old }
         // A step of the machine, from each state that the account stands for, whoever calls.
-        ensures step {
-            (s : State) (caller : ℕ) → StandsFor self.old s
-                → StepsTo allowance s (entry caller seq (reservation window bound) (reply_of result)) self.new
-        }
+        ensures step { (s : State) (caller : ℕ) → StandsFor self.old s
+            → StepsTo allowance s (entry caller seq (reservation window bound) (reply_of result)) self.new }
         ensures ticket { HasTicket result (ticket_for client seq (max self.old.window window) bound) }
+        ensures short { UnchangedIfShort result self.old self.new }
         // The same on the five numbers.
         ensures reply { reply_of result ≡ reservation_reply allowance self.old window bound }
         ensures account { self.new ≡ reserved_account allowance self.old window bound }
-        ensures inside { AtMost (used_of self.new) allowance }
+        ensures inside { KeepsLimit allowance self.new }
     {
         let here = self.moved_to(self.window.max(window));
         let left = here.left(allowance);
         if is_within(bound, left) {
             *self = here.holding(bound);
-            Reply::Granted(Ticket { client, seq, window: here.window, bound })
+            Reply::Granted(Ticket {
+                client,
+                seq,
+                window: here.window,
+                bound,
+            })
         } else {
             Reply::Short { left }
         }
@@ -161,16 +189,19 @@ impl Account {
         requires held { ticket.window ≡ self.old.window → AtMost ticket.bound self.old.held }
         requires inside { AtMost (used_of self.old) (cost CAP CAP) }
         // A step of the machine, from each state that the account stands for and where the caller has this grant open.
-        ensures step {
-            (limit : Limit) (s : State) (caller number : ℕ) → StandsFor self.old s
-                → open_grant caller ticket.seq s.grants ≡ Some (grant caller ticket.seq ticket.window ticket.bound)
-                → StepsTo limit s (entry caller number (settlement ticket.seq ticket.window ticket.bound measured) done) self.new
-        }
+        ensures step { (limit : Limit) (s : State) (caller number : ℕ) → StandsFor self.old s
+            → open_grant caller ticket.seq s.grants ≡ Some (grant caller ticket.seq ticket.window ticket.bound)
+            → StepsTo limit s (entry caller number (settlement ticket.seq ticket.window ticket.bound measured) done) self.new }
         // The same on the five numbers.
         ensures account { self.new ≡ settled_account self.old ticket.window ticket.bound measured }
         ensures inside { AtMost (used_of self.new) (used_of self.old) }
     {
-        let Ticket { client: _, seq: _, window, bound } = ticket;
+        let Ticket {
+            client: _,
+            seq: _,
+            window,
+            bound,
+        } = ticket;
         *self = self.settled_at(window, bound, measured);
     }
 }

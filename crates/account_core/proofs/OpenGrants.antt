@@ -9,8 +9,8 @@ use Rattle.cost_num.specs.declared.Cost.{Cost}
 use Rattle.account_core.specs.Machine.{Limit, Grant, State, Call, reservation, settlement, CallReply, granted, short, done, Entry, grant, entry, first, is_grant, open_grant, grants_without}
 use Rattle.account_core.specs.History.{state_after, entries_by, NumbersBelow, IsNext, IsLegal}
 use Rattle.account_core.specs.Sums.{grants_of_call, grants_made, settles_grant, is_settled, open_grants}
-use Rattle.account_core.proofs.Holding.{some_not_none, not_found, not_found-push, not_found-without}
-use Rattle.account_core.proofs.Growing.{state_after-push, along, numbers_below-push}
+use Rattle.account_core.proofs.GrantLists.{some_not_none, not_found, not_found-push, not_found-without}
+use Rattle.account_core.proofs.Histories.{state_after-push, along, numbers_below-push}
 
 -- ---- the open grants of a history that grows
 
@@ -77,9 +77,9 @@ IsApart (g ∷ gs) = (open_grant g.caller g.number gs ≡ None) × IsApart gs
 is_grant-sym : (g x : Grant) → is_grant g.caller g.number x ≡ false → is_grant x.caller x.number g ≡ false
 is_grant-sym g x other = ⊎_elim
     (λ (is : is_grant x.caller x.number g ≡ true).
-        let p = and_parts (nat_eq g.caller x.caller) (nat_eq g.number x.number) is in
-        absurd (true≢false (sym (and_from (nat_eq x.caller g.caller) (nat_eq x.number g.number)
-            (eq-eqb x.caller g.caller (sym (eqb-true g.caller x.caller p.0))) (eq-eqb x.number g.number (sym (eqb-true g.number x.number p.1)))) ∙ other)))
+    let p = and_parts (nat_eq g.caller x.caller) (nat_eq g.number x.number) is in
+    absurd (true≢false (sym (and_from (nat_eq x.caller g.caller) (nat_eq x.number g.number)
+    (eq-eqb x.caller g.caller (sym (eqb-true g.caller x.caller p.0))) (eq-eqb x.number g.number (sym (eqb-true g.number x.number p.1)))) ∙ other)))
     (λ (is : is_grant x.caller x.number g ≡ false). is)
     (cases_Bool (is_grant x.caller x.number g))
 
@@ -93,7 +93,7 @@ apart-without : (caller number : ℕ) (gs : List Grant) → IsApart gs → IsApa
 apart-without caller number [] apart = tt
 apart-without caller number (x ∷ xs) apart =
     cond_both (is_grant caller number x) xs (x ∷ grants_without caller number xs) IsApart (λ _. apart.1)
-        (λ _. (not_found-without x.caller x.number caller number xs apart.0, apart-without caller number xs apart.1))
+    (λ _. (not_found-without x.caller x.number caller number xs apart.0, apart-without caller number xs apart.1))
 
 -- a grant as a test, kept out of a list
 others : ℕ → ℕ → List Grant → List Grant
@@ -111,14 +111,14 @@ unfolding others
 others-without caller number [] apart = refl
 others-without caller number (x ∷ xs) apart = ⊎_elim
     (λ (is : is_grant caller number x ≡ true).
-        let p = and_parts (nat_eq x.caller caller) (nat_eq x.number number) is in
-        let none : open_grant caller number xs ≡ None =
-            subst (λ n. open_grant caller n xs ≡ None) (eqb-true x.number number p.1) (subst (λ c. open_grant c x.number xs ≡ None) (eqb-true x.caller caller p.0) apart.0) in
-        ap (λ t. cond (not t) (x ∷ others caller number xs) (others caller number xs)) is
-        ∙ (others-none caller number xs none ∙ sym (cond-true (is_grant caller number x) xs (x ∷ grants_without caller number xs) is)))
+    let p = and_parts (nat_eq x.caller caller) (nat_eq x.number number) is in
+    let none : open_grant caller number xs ≡ None =
+    subst (λ n. open_grant caller n xs ≡ None) (eqb-true x.number number p.1) (subst (λ c. open_grant c x.number xs ≡ None) (eqb-true x.caller caller p.0) apart.0) in
+    ap (λ t. cond (not t) (x ∷ others caller number xs) (others caller number xs)) is
+    ∙ (others-none caller number xs none ∙ sym (cond-true (is_grant caller number x) xs (x ∷ grants_without caller number xs) is)))
     (λ (is : is_grant caller number x ≡ false).
-        ap (λ t. cond (not t) (x ∷ others caller number xs) (others caller number xs)) is
-        ∙ (ap (λ l. x ∷ l) (others-without caller number xs apart.1) ∙ sym (cond-false (is_grant caller number x) xs (x ∷ grants_without caller number xs) is)))
+    ap (λ t. cond (not t) (x ∷ others caller number xs) (others caller number xs)) is
+    ∙ (ap (λ l. x ∷ l) (others-without caller number xs apart.1) ∙ sym (cond-false (is_grant caller number x) xs (x ∷ grants_without caller number xs) is)))
     (cases_Bool (is_grant caller number x))
 
 -- ---- what holds of the open grants after every legal history
@@ -139,11 +139,11 @@ numbered-granted h caller number window at bound gs numbered g top below le =
     let p = numbers_below-push g.caller top h e below in
     let old = numbered g top p.0 le in
     let other : is_grant g.caller g.number (grant caller number at bound) ≡ false = ⊎_elim
-        (λ (is : nat_eq caller g.caller ≡ true).
-            let low : number < top = p.1 (eqb-true caller g.caller is) in
-            ap (λ t. t && nat_eq number g.number) is ∙ ne_eqb number g.number (λ same. absurd (omega arith)))
-        (λ (is : nat_eq caller g.caller ≡ false). ap (λ t. t && nat_eq number g.number) is)
-        (cases_Bool (nat_eq caller g.caller)) in
+    (λ (is : nat_eq caller g.caller ≡ true).
+    let low : number < top = p.1 (eqb-true caller g.caller is) in
+    ap (λ t. t && nat_eq number g.number) is ∙ ne_eqb number g.number (λ same. absurd (omega arith)))
+    (λ (is : nat_eq caller g.caller ≡ false). ap (λ t. t && nat_eq number g.number) is)
+    (cases_Bool (nat_eq caller g.caller)) in
     (not_found-push g.caller g.number gs (grant caller number at bound) old.0 other, is_settled-push h e g ∙ (or_false (is_settled h g) ∙ old.1))
 
 numbered-settled : (h : List Entry) (caller number of window : ℕ) (bound measured : Cost) (gs : List Grant) → open_grant caller of gs ≡ Some (grant caller of window bound) → AreNumbered h gs
@@ -153,13 +153,13 @@ numbered-settled h caller number of window bound measured gs there numbered g to
     let p = numbers_below-push g.caller top h e below in
     let old = numbered g top p.0 le in
     let other : is_grant caller of g ≡ false = ⊎_elim
-        (λ (is : is_grant caller of g ≡ true).
-            let q = and_parts (nat_eq g.caller caller) (nat_eq g.number of) is in
-            let none : open_grant caller of gs ≡ None =
-                subst (λ n. open_grant caller n gs ≡ None) (eqb-true g.number of q.1) (subst (λ c. open_grant c g.number gs ≡ None) (eqb-true g.caller caller q.0) old.0) in
-            absurd (some_not_none (grant caller of window bound) (sym there ∙ none)))
-        (λ (is : is_grant caller of g ≡ false). is)
-        (cases_Bool (is_grant caller of g)) in
+    (λ (is : is_grant caller of g ≡ true).
+    let q = and_parts (nat_eq g.caller caller) (nat_eq g.number of) is in
+    let none : open_grant caller of gs ≡ None =
+    subst (λ n. open_grant caller n gs ≡ None) (eqb-true g.number of q.1) (subst (λ c. open_grant c g.number gs ≡ None) (eqb-true g.caller caller q.0) old.0) in
+    absurd (some_not_none (grant caller of window bound) (sym there ∙ none)))
+    (λ (is : is_grant caller of g ≡ false). is)
+    (cases_Bool (is_grant caller of g)) in
     (not_found-without g.caller g.number caller of gs old.0, is_settled-push h e g ∙ (ap (λ t. t || is_grant caller of g) old.1 ∙ other))
 
 numbered-idle : (h : List Entry) (e : Entry) (gs : List Grant) → ((g : Grant) → settles_grant e.caller e.call e.reply g ≡ false) → AreNumbered h gs → AreNumbered (h ++ e ∷ []) gs
@@ -211,3 +211,7 @@ StateInOrder h = IsInOrder h (state_after h).grants
 pub in_order : (limit : Limit) (h : List Entry) → IsLegal limit h → StateInOrder h
 in_order limit h legal = along StateInOrder limit (record { numbered = λ g top below le. (refl, refl); apart = tt; listed = refl })
     (λ h e next order. in_order-push limit h e.caller e.number e.call e.reply next order) h legal
+
+-- under a number past all that its caller had, nothing is settled yet
+pub new_number : (limit : Limit) (h : List Entry) (g : Grant) → IsLegal limit h → NumbersBelow g.number (entries_by g.caller h) → is_settled h g ≡ false
+new_number limit h g legal below = ((in_order limit h legal).numbered g g.number below (le_refl g.number)).1

@@ -79,14 +79,15 @@ exceeds_part used bound limit h within = absurd (omega arith)
 pub fits : (used bound limit : Cost) → AtMost used limit → is_at_most bound (remaining limit used) ≡ true → AtMost (together used bound) limit
 fits used bound limit inside h =
     let left = remaining limit used in
-    let p = and_parts (nat_le bound.types left.types) (nat_le bound.fields left.fields) h in
-    (fits_part used.types bound.types limit.types inside.0 (leb-true bound.types left.types p.0),
-      fits_part used.fields bound.fields limit.fields inside.1 (leb-true bound.fields left.fields p.1))
+    let p = and_parts (nat_le bound.types left.types) (nat_le bound.fields left.fields) h in (
+      fits_part used.types bound.types limit.types inside.0 (leb-true bound.types left.types p.0),
+      fits_part used.fields bound.fields limit.fields inside.1 (leb-true bound.fields left.fields p.1),
+    )
 
 pub exceeds : (used bound limit : Cost) → is_at_most bound (remaining limit used) ≡ false → AtMost (together used bound) limit → ⊥
 exceeds used bound limit h within =
     let left = remaining limit used in
     ⊎_elim
-        (λ (e : nat_le bound.types left.types ≡ false). exceeds_part used.types bound.types limit.types (leb-false bound.types left.types e) within.0)
-        (λ (e : nat_le bound.fields left.fields ≡ false). exceeds_part used.fields bound.fields limit.fields (leb-false bound.fields left.fields e) within.1)
-        (and_cases (nat_le bound.types left.types) (nat_le bound.fields left.fields) h)
+    (λ (e : nat_le bound.types left.types ≡ false). exceeds_part used.types bound.types limit.types (leb-false bound.types left.types e) within.0)
+    (λ (e : nat_le bound.fields left.fields ≡ false). exceeds_part used.fields bound.fields limit.fields (leb-false bound.fields left.fields e) within.1)
+    (and_cases (nat_le bound.types left.types) (nat_le bound.fields left.fields) h)

@@ -5,7 +5,7 @@ use Rattle.cost_num.specs.declared.Cost.{Cost}
 use Rattle.account_core.specs.Costs.{cost, nothing, together, counted_in}
 use Rattle.account_core.specs.Machine.{Grant, held_in, is_grant, open_grant, grants_without}
 use Rattle.account_core.specs.Numbers.{NoneLater}
-use Rattle.account_core.proofs.Adding.{cost_eq, together-nothing, nothing-together, together_assoc, together_comm, counted_elsewhere}
+use Rattle.account_core.proofs.CostSums.{cost_eq, together-nothing, nothing-together, together_assoc, together_comm, counted_elsewhere}
 
 -- ---- finding a grant
 
@@ -44,7 +44,7 @@ not_found-without caller number other_caller other_number [] none = refl
 not_found-without caller number other_caller other_number (x ∷ xs) none =
     let p = not_found caller number x xs none in
     cond_both (is_grant other_caller other_number x) xs (x ∷ grants_without other_caller other_number xs) (λ gs. open_grant caller number gs ≡ None) (λ _. p.1)
-        (λ _. passed_over caller number x (grants_without other_caller other_number xs) p.0 ∙ not_found-without caller number other_caller other_number xs p.1)
+    (λ _. passed_over caller number x (grants_without other_caller other_number xs) p.0 ∙ not_found-without caller number other_caller other_number xs p.1)
 
 -- ---- what grants hold in a window
 
@@ -62,15 +62,15 @@ held_in-without window caller number g (x ∷ xs) there =
     let given = counted_in window g.window g.bound in
     let rest = grants_without caller number xs in
     ⊎_elim
-        (λ (is : is_grant caller number x ≡ true).
-            let same : x ≡ g = same_grant x g (sym (found_first caller number x xs is) ∙ there) in
-            ap (λ gs. together (held_in window gs) given) (cond-true (is_grant caller number x) xs (x ∷ rest) is)
-            ∙ (together_comm (held_in window xs) given ∙ ap (λ (h : Grant). together (counted_in window h.window h.bound) (held_in window xs)) (sym same)))
-        (λ (is : is_grant caller number x ≡ false).
-            ap (λ gs. together (held_in window gs) given) (cond-false (is_grant caller number x) xs (x ∷ rest) is)
-            ∙ (together_assoc first (held_in window rest) given
-            ∙ ap (together first) (held_in-without window caller number g xs (sym (passed_over caller number x xs is) ∙ there))))
-        (cases_Bool (is_grant caller number x))
+    (λ (is : is_grant caller number x ≡ true).
+    let same : x ≡ g = same_grant x g (sym (found_first caller number x xs is) ∙ there) in
+    ap (λ gs. together (held_in window gs) given) (cond-true (is_grant caller number x) xs (x ∷ rest) is)
+    ∙ (together_comm (held_in window xs) given ∙ ap (λ (h : Grant). together (counted_in window h.window h.bound) (held_in window xs)) (sym same)))
+    (λ (is : is_grant caller number x ≡ false).
+    ap (λ gs. together (held_in window gs) given) (cond-false (is_grant caller number x) xs (x ∷ rest) is)
+    ∙ (together_assoc first (held_in window rest) given
+    ∙ ap (together first) (held_in-without window caller number g xs (sym (passed_over caller number x xs is) ∙ there))))
+    (cases_Bool (is_grant caller number x))
 
 -- ---- grants of no later window
 

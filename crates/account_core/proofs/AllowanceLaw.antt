@@ -5,10 +5,10 @@ use Rattle.account_core.specs.Costs.{nothing, together, AtMost, counted_in}
 use Rattle.account_core.specs.Machine.{Limit, Grant, State, Call, reservation, settlement, CallReply, granted, short, done, Entry, grant, entry, first, held_in, open_grant, grants_without, standing_window, HasRoom, state_past, state_after_call}
 use Rattle.account_core.specs.History.{state_after, IsNext, IsLegal}
 use Rattle.account_core.specs.Sums.{spent_by, spent_in, open_in, open_grants, allowance_in, KeepsAllowance}
-use Rattle.account_core.proofs.Adding.{types_of, fields_of, together-nothing, nothing-together, together_assoc, nothing_parts, nothing_within, at_most_same, counted_cases, counted_elsewhere, counted_within}
-use Rattle.account_core.proofs.Holding.{held_in-push, held_in-without}
-use Rattle.account_core.proofs.Growing.{state_after-push, along, legal-front}
-use Rattle.account_core.proofs.Opening.{in_order}
+use Rattle.account_core.proofs.CostSums.{types_of, fields_of, together-nothing, nothing-together, together_assoc, nothing_parts, nothing_within, at_most_same, counted_cases, counted_elsewhere, counted_within}
+use Rattle.account_core.proofs.GrantLists.{held_in-push, held_in-without}
+use Rattle.account_core.proofs.Histories.{state_after-push, along, legal-front}
+use Rattle.account_core.proofs.OpenGrants.{in_order}
 
 -- ---- what a history that grows has spent
 
@@ -44,22 +44,23 @@ balanced-granted limit allowance spent s caller number window at bound standing 
     let counted : spent at ≡ counted_in at s.window s.settled = spent_counted allowance spent s at le balanced in
     let held : (u : ℕ) → held_in u (s.grants ++ g ∷ []) ≡ together (held_in u s.grants) (counted_in u at bound) = λ u. held_in-push u s.grants g in
     let here : AtMost (together (spent at) (together (held_in at s.grants) bound)) (allowance at) =
-        subst (λ c. AtMost (together (spent at) (together (held_in at s.grants) bound)) c) (sym all)
-            (at_most_same (together (spent at) (together (held_in at s.grants) bound)) (together (together (counted_in at s.window s.settled) (held_in at s.grants)) bound) limit
-                (ap (λ c. together c (together (held_in at s.grants) bound)) counted ∙ sym (together_assoc (counted_in at s.window s.settled) (held_in at s.grants) bound)) fits) in
+    subst (λ c. AtMost (together (spent at) (together (held_in at s.grants) bound)) c) (sym all)
+    (at_most_same (together (spent at) (together (held_in at s.grants) bound)) (together (together (counted_in at s.window s.settled) (held_in at s.grants)) bound) limit
+    (ap (λ c. together c (together (held_in at s.grants) bound)) counted ∙ sym (together_assoc (counted_in at s.window s.settled) (held_in at s.grants) bound)) fits) in
     record {
       now = together-nothing (spent at) ∙ counted;
       later = λ u far.
-          let was = balanced.later u (omega arith) in
-          (together-nothing (spent u) ∙ was.0,
-            held u ∙ ((λ i. together (was.1 i) (counted_elsewhere u at bound (λ same. absurd (omega arith)) i)) ∙ together-nothing nothing));
+          let was = balanced.later u (omega arith) in (
+            together-nothing (spent u) ∙ was.0,
+            held u ∙ ((λ i. together (was.1 i) (counted_elsewhere u at bound (λ same. absurd (omega arith)) i)) ∙ together-nothing nothing),
+          );
       within = λ u.
           at_most_same (together (together (spent u) nothing) (held_in u (s.grants ++ g ∷ []))) (together (spent u) (together (held_in u s.grants) (counted_in u at bound))) (allowance u)
-              (λ i. together (together-nothing (spent u) i) (held u i))
-              (counted_cases (λ c. AtMost (together (spent u) (together (held_in u s.grants) c)) (allowance u)) u at bound
-                  (λ same. subst (λ v. AtMost (together (spent v) (together (held_in v s.grants) bound)) (allowance v)) same here)
-                  (λ far. at_most_same (together (spent u) (together (held_in u s.grants) nothing)) (together (spent u) (held_in u s.grants)) (allowance u)
-                      (ap (together (spent u)) (together-nothing (held_in u s.grants))) (balanced.within u)));
+          (λ i. together (together-nothing (spent u) i) (held u i))
+          (counted_cases (λ c. AtMost (together (spent u) (together (held_in u s.grants) c)) (allowance u)) u at bound
+          (λ same. subst (λ v. AtMost (together (spent v) (together (held_in v s.grants) bound)) (allowance v)) same here)
+          (λ far. at_most_same (together (spent u) (together (held_in u s.grants) nothing)) (together (spent u) (held_in u s.grants)) (allowance u)
+          (ap (together (spent u)) (together-nothing (held_in u s.grants))) (balanced.within u)));
     }
 
 -- one component of a settlement
@@ -81,11 +82,12 @@ balanced-settled allowance spent s caller number of window bound measured there 
           ((λ i. together (was.0 i) (nothing_within (counted_in u window measured) (counted_in u window bound) (less u) parts.1 i)) ∙ together-nothing nothing, parts.0);
       within = λ u.
           let small_here = less u in
-          let within_here = balanced.within u in
-          (settled_part (spent u).types (held_in u s.grants).types (left u).types (counted_in u window bound).types (counted_in u window measured).types (allowance u).types
-              (types_of (held u)) small_here.0 within_here.0,
+          let within_here = balanced.within u in (
+            settled_part (spent u).types (held_in u s.grants).types (left u).types (counted_in u window bound).types (counted_in u window measured).types (allowance u).types
+                (types_of (held u)) small_here.0 within_here.0,
             settled_part (spent u).fields (held_in u s.grants).fields (left u).fields (counted_in u window bound).fields (counted_in u window measured).fields (allowance u).fields
-              (fields_of (held u)) small_here.1 within_here.1);
+                (fields_of (held u)) small_here.1 within_here.1,
+          );
     }
 
 balanced-idle : (allowance spent : ℕ → Cost) (s : State) → IsBalanced allowance spent s → IsBalanced allowance (λ u. together (spent u) nothing) s
@@ -109,9 +111,9 @@ StateBalanced limit h = IsBalanced (allowance_in limit h) (λ u. spent_in u h) (
 pub balanced_state : (limit : Limit) (h : List Entry) → IsLegal limit h → StateBalanced limit h
 balanced_state limit h legal = along (StateBalanced limit) limit (record { now = refl; later = λ u far. (refl, refl); within = λ u. (zero-le, zero-le) })
     (λ h e next balanced.
-        subst (λ f. IsBalanced (allowance_in limit (h ++ e ∷ [])) f (state_after (h ++ e ∷ []))) (λ i u. sym (spent_in-push u h e) i)
-            (subst (IsBalanced (allowance_in limit (h ++ e ∷ [])) (λ u. together (spent_in u h) (spent_by u e.call e.reply))) (sym (state_after-push h e))
-                (balanced-push limit h e.caller e.number e.call e.reply next balanced)))
+    subst (λ f. IsBalanced (allowance_in limit (h ++ e ∷ [])) f (state_after (h ++ e ∷ []))) (λ i u. sym (spent_in-push u h e) i)
+    (subst (IsBalanced (allowance_in limit (h ++ e ∷ [])) (λ u. together (spent_in u h) (spent_by u e.call e.reply))) (sym (state_after-push h e))
+    (balanced-push limit h e.caller e.number e.call e.reply next balanced)))
     h legal
 
 -- ---- the law
@@ -120,4 +122,4 @@ pub keeps : (limit : Limit) (h : List Entry) → IsLegal limit h → KeepsAllowa
 keeps limit h legal front rest is window =
     let so_far = legal-front limit h front rest is legal in
     subst (λ gs. AtMost (together (spent_in window front) (held_in window gs)) (allowance_in limit front window)) (in_order limit front so_far).listed
-        ((balanced_state limit front so_far).within window)
+    ((balanced_state limit front so_far).within window)

@@ -10,11 +10,11 @@ use Rattle.account_core.specs.Machine.{Limit, Grant, State, Call, reservation, s
 use Rattle.account_core.specs.History.{state_after, entries_by, grants_by, IsNext, IsLegal}
 use Rattle.account_core.specs.Sums.{grants_of_call, grants_made, settles_grant, is_settled, open_grants}
 use Rattle.account_core.specs.Numbers.{NoneLater, StandsFor, used_of}
-use Rattle.account_core.proofs.Adding.{types_of, fields_of, counted_own}
-use Rattle.account_core.proofs.Holding.{held_in-without, found-window, none_later-more, none_later-push, none_later-without}
-use Rattle.account_core.proofs.Growing.{state_after-push, along, entries_by-own}
-use Rattle.account_core.proofs.Opening.{in_order}
-use Rattle.account_core.proofs.Keeping.{balanced_state}
+use Rattle.account_core.proofs.CostSums.{types_of, fields_of, counted_own}
+use Rattle.account_core.proofs.GrantLists.{held_in-without, found-window, none_later-more, none_later-push, none_later-without}
+use Rattle.account_core.proofs.Histories.{state_after-push, along, entries_by-own}
+use Rattle.account_core.proofs.OpenGrants.{in_order}
+use Rattle.account_core.proofs.AllowanceLaw.{balanced_state}
 
 -- ---- the open grants of a caller hang on its own entries alone
 
@@ -37,18 +37,18 @@ grants_made-own owner [] = refl
 grants_made-own owner (e ∷ es) =
     let here = grants_of_call e.caller e.number e.call e.reply in
     let split : grants_by owner (here ++ grants_made es) ≡ grants_by owner here ++ grants_by owner (grants_made es) =
-        filter-append (λ (g : Grant). nat_eq g.caller owner) here (grants_made es) in
+    filter-append (λ (g : Grant). nat_eq g.caller owner) here (grants_made es) in
     let mine : grants_by owner here ≡ cond (nat_eq e.caller owner) here [] = grants_by-call owner e.caller e.number e.call e.reply in
     ⊎_elim
-        (λ (is : nat_eq e.caller owner ≡ true).
-            ap grants_made (cond-true (nat_eq e.caller owner) (e ∷ entries_by owner es) (entries_by owner es) is)
-            ∙ (ap (λ l. here ++ l) (grants_made-own owner es)
-            ∙ sym (split ∙ ap (λ l. l ++ grants_by owner (grants_made es)) (mine ∙ cond-true (nat_eq e.caller owner) here [] is))))
-        (λ (is : nat_eq e.caller owner ≡ false).
-            ap grants_made (cond-false (nat_eq e.caller owner) (e ∷ entries_by owner es) (entries_by owner es) is)
-            ∙ (grants_made-own owner es
-            ∙ sym (split ∙ ap (λ l. l ++ grants_by owner (grants_made es)) (mine ∙ cond-false (nat_eq e.caller owner) here [] is))))
-        (cases_Bool (nat_eq e.caller owner))
+    (λ (is : nat_eq e.caller owner ≡ true).
+    ap grants_made (cond-true (nat_eq e.caller owner) (e ∷ entries_by owner es) (entries_by owner es) is)
+    ∙ (ap (λ l. here ++ l) (grants_made-own owner es)
+    ∙ sym (split ∙ ap (λ l. l ++ grants_by owner (grants_made es)) (mine ∙ cond-true (nat_eq e.caller owner) here [] is))))
+    (λ (is : nat_eq e.caller owner ≡ false).
+    ap grants_made (cond-false (nat_eq e.caller owner) (e ∷ entries_by owner es) (entries_by owner es) is)
+    ∙ (grants_made-own owner es
+    ∙ sym (split ∙ ap (λ l. l ++ grants_by owner (grants_made es)) (mine ∙ cond-false (nat_eq e.caller owner) here [] is))))
+    (cases_Bool (nat_eq e.caller owner))
 
 -- a call settles grants of its own caller alone
 settles-own : (caller : ℕ) (call : Call) (reply : CallReply) (g : Grant) → settles_grant caller call reply g ≡ true → nat_eq caller g.caller ≡ true
@@ -80,17 +80,17 @@ pub open_grants-own : (owner : ℕ) (h : List Entry) → open_grants (entries_by
 open_grants-own owner h =
     ap (λ gs. filter (λ g. not (is_settled (entries_by owner h) g)) gs) (grants_made-own owner h)
     ∙ filter-own owner (λ g. not (is_settled (entries_by owner h) g)) (λ g. not (is_settled h g))
-        (λ g own. ap not (subst (λ c. is_settled (entries_by c h) g ≡ is_settled h g) own (is_settled-own h g))) (grants_made h)
+    (λ g own. ap not (subst (λ c. is_settled (entries_by c h) g ≡ is_settled h g) own (is_settled-own h g))) (grants_made h)
 
 open_grant-own : (owner number : ℕ) (gs : List Grant) → open_grant owner number (grants_by owner gs) ≡ open_grant owner number gs
 open_grant-own owner number [] = refl
 open_grant-own owner number (g ∷ gs) = ⊎_elim
     (λ (is : nat_eq g.caller owner ≡ true).
-        ap (open_grant owner number) (cond-true (nat_eq g.caller owner) (g ∷ grants_by owner gs) (grants_by owner gs) is)
-        ∙ ap (λ o. cond (is_grant owner number g) (Some g) o) (open_grant-own owner number gs))
+    ap (open_grant owner number) (cond-true (nat_eq g.caller owner) (g ∷ grants_by owner gs) (grants_by owner gs) is)
+    ∙ ap (λ o. cond (is_grant owner number g) (Some g) o) (open_grant-own owner number gs))
     (λ (is : nat_eq g.caller owner ≡ false).
-        ap (open_grant owner number) (cond-false (nat_eq g.caller owner) (g ∷ grants_by owner gs) (grants_by owner gs) is)
-        ∙ (open_grant-own owner number gs ∙ sym (ap (λ t. cond (t && nat_eq g.number number) (Some g) (open_grant owner number gs)) is)))
+    ap (open_grant owner number) (cond-false (nat_eq g.caller owner) (g ∷ grants_by owner gs) (grants_by owner gs) is)
+    ∙ (open_grant-own owner number gs ∙ sym (ap (λ t. cond (t && nat_eq g.number number) (Some g) (open_grant owner number gs)) is)))
     (cases_Bool (nat_eq g.caller owner))
 
 -- what a caller's own entries leave open under a number is what the state has open there
@@ -126,10 +126,12 @@ abbrev StateUpToDate : List Entry → Type 0
 StateUpToDate h = NoneLater (state_after h).window (state_after h).grants
 
 pub numbers_stand : (limit : Limit) (h : List Entry) → IsLegal limit h → StandsFor (account_of (state_after h)) (state_after h)
-numbers_stand limit h legal =
-    (refl, along StateUpToDate limit tt
-        (λ h e next order. subst (λ (s : State). NoneLater s.window s.grants) (sym (state_after-push h e))
-            (none_later-call limit (state_after h) e.caller e.number e.call e.reply next.0 order)) h legal)
+numbers_stand limit h legal = (
+  refl,
+  along StateUpToDate limit tt
+      (λ h e next order. subst (λ (s : State). NoneLater s.window s.grants) (sym (state_after-push h e))
+      (none_later-call limit (state_after h) e.caller e.number e.call e.reply next.0 order)) h legal,
+)
 
 pub numbers_within : (limit : Limit) (h : List Entry) → IsLegal limit h → AtMost (used_of (account_of (state_after h))) limit
 numbers_within limit h legal =
@@ -140,12 +142,13 @@ numbers_within limit h legal =
 -- an open grant isn't of a later window, and where it is of the account's, its bound is held
 pub grant_is_held : (a : Account) (s : State) (g : Grant) → StandsFor a s → open_grant g.caller g.number s.grants ≡ Some g → (g.window ≤ a.window) × (g.window ≡ a.window → AtMost g.bound a.held)
 grant_is_held a s g stands there =
-    subst (λ (x : Account). (g.window ≤ x.window) × (g.window ≡ x.window → AtMost g.bound x.held)) (sym stands.0)
-        (found-window s.window g.caller g.number g s.grants stands.1 there,
-          λ same.
-              let left = held_in s.window (grants_without g.caller g.number s.grants) in
-              let sum : together left g.bound ≡ held_in s.window s.grants =
-                  ap (together left) (sym (counted_own s.window g.window g.bound same)) ∙ held_in-without s.window g.caller g.number g s.grants there in
-              let types : left.types + g.bound.types ≡ (held_in s.window s.grants).types = types_of sum in
-              let fields : left.fields + g.bound.fields ≡ (held_in s.window s.grants).fields = fields_of sum in
-              (omega arith, omega arith))
+    subst (λ (x : Account). (g.window ≤ x.window) × (g.window ≡ x.window → AtMost g.bound x.held)) (sym stands.0) (
+      found-window s.window g.caller g.number g s.grants stands.1 there,
+      λ same.
+          let left = held_in s.window (grants_without g.caller g.number s.grants) in
+          let sum : together left g.bound ≡ held_in s.window s.grants =
+          ap (together left) (sym (counted_own s.window g.window g.bound same)) ∙ held_in-without s.window g.caller g.number g s.grants there in
+          let types : left.types + g.bound.types ≡ (held_in s.window s.grants).types = types_of sum in
+          let fields : left.fields + g.bound.fields ≡ (held_in s.window s.grants).fields = fields_of sum in
+          (omega arith, omega arith),
+    )

@@ -57,9 +57,9 @@ older_or_newest (x ∷ xs) [] rest e y is = inl (xs, ap (λ z. z ∷ xs) (same_h
 older_or_newest (x ∷ xs) (f ∷ fs) rest e y is =
     let head = same_head x f (xs ++ e ∷ []) (fs ++ y ∷ rest) is in
     ⊎_elim
-        (λ (t : (more : List Entry) × (xs ≡ fs ++ y ∷ more)). inl (t.0, λ i. head i ∷ t.1 i))
-        (λ (t : (xs ≡ fs) × (e ≡ y)). inr ((λ i. head i ∷ t.0 i), t.1))
-        (older_or_newest xs fs rest e y (same_tail x f (xs ++ e ∷ []) (fs ++ y ∷ rest) is))
+    (λ (t : (more : List Entry) × (xs ≡ fs ++ y ∷ more)). inl (t.0, λ i. head i ∷ t.1 i))
+    (λ (t : (xs ≡ fs) × (e ≡ y)). inr ((λ i. head i ∷ t.0 i), t.1))
+    (older_or_newest xs fs rest e y (same_tail x f (xs ++ e ∷ []) (fs ++ y ∷ rest) is))
 
 pub legal-empty : (limit : Limit) → IsLegal limit []
 legal-empty limit front rest e is = absurd (empty_has_none front rest e is)
