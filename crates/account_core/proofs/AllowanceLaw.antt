@@ -1,10 +1,10 @@
 -- Every legal history keeps to the allowance.
-use Rattle.std.proofs.Common.{◌≡◌, ◌⊎◌, ℕ, ◌+◌, ◌≤◌, ◌<◌, max, List, [], ◌∷◌, ◌++◌, Option, Some, refl, sym, ap, subst, ◌∙◌, arith, zero-le}
+use Rattle.std.proofs.Common.{◌≡◌, ℕ, ◌+◌, ◌≤◌, ◌<◌, List, [], ◌∷◌, ◌++◌, Some, refl, sym, ap, subst, ◌∙◌, arith, zero-le}
 use Rattle.cost_num.specs.declared.Cost.{Cost}
 use Rattle.account_core.specs.Costs.{nothing, together, AtMost, counted_in}
-use Rattle.account_core.specs.Machine.{Limit, Grant, State, Call, reservation, settlement, CallReply, granted, short, done, Entry, grant, entry, first, held_in, open_grant, grants_without, standing_window, HasRoom, state_past, state_after_call}
+use Rattle.account_core.specs.Machine.{Limit, State, Call, reservation, settlement, CallReply, granted, short, done, Entry, grant, entry, held_in, open_grant, grants_without, standing_window, HasRoom, state_after_call}
 use Rattle.account_core.specs.History.{state_after, IsNext, IsLegal}
-use Rattle.account_core.specs.Sums.{spent_by, spent_in, open_in, open_grants, allowance_in, KeepsAllowance}
+use Rattle.account_core.specs.Sums.{spent_by, spent_in, allowance_in, KeepsAllowance}
 use Rattle.account_core.proofs.CostSums.{types_of, fields_of, together-nothing, nothing-together, together_assoc, nothing_parts, nothing_within, at_most_same, counted_cases, counted_elsewhere, counted_within}
 use Rattle.account_core.proofs.GrantLists.{held_in-push, held_in-without}
 use Rattle.account_core.proofs.Histories.{state_after-push, along, legal-front}

@@ -1,18 +1,17 @@
 -- The open grants of one caller, and what an account that stands for a state knows of an open grant.
-use Rattle.std.proofs.Common.{◌≡◌, ◌⊎◌, ℕ, ◌+◌, ◌≤◌, ◌<◌, Bool, true, false, ◌&&◌, not, cond, nat_eq, List, [], ◌∷◌, ◌++◌, length, filter, Option, Some, None, refl, sym, ap, subst, ◌∙◌, ⊎_elim, arith}
+use Rattle.std.proofs.Common.{◌≡◌, ℕ, ◌+◌, ◌≤◌, Bool, true, false, ◌&&◌, not, cond, nat_eq, List, [], ◌∷◌, ◌++◌, length, filter, Some, refl, sym, ap, subst, ◌∙◌, ⊎_elim, arith}
 use Rattle.std.proofs.lemmas.List.Elements.{filter-append}
 use Rattle.std.proofs.lemmas.Map.Views.{any-filter_same}
 use Rattle.std.proofs.lemmas.Bool.{and_parts, cases_Bool, cond-true, cond-false, eq-eqb, eqb-true}
-use Rattle.cost_num.specs.declared.Cost.{Cost}
 use Rattle.account_core.specs.declared.Account.{Account}
-use Rattle.account_core.specs.Costs.{together, AtMost, counted_in}
-use Rattle.account_core.specs.Machine.{Limit, Grant, State, Call, reservation, settlement, CallReply, granted, short, done, Entry, grant, held_in, is_grant, open_grant, grants_without, account_of, state_past, state_after_call, IsReplied}
-use Rattle.account_core.specs.History.{state_after, entries_by, grants_by, IsNext, IsLegal}
+use Rattle.account_core.specs.Costs.{together, AtMost}
+use Rattle.account_core.specs.Machine.{Limit, Grant, State, Call, reservation, settlement, CallReply, granted, short, done, Entry, grant, held_in, is_grant, open_grant, grants_without, account_of, state_after_call, IsReplied}
+use Rattle.account_core.specs.History.{state_after, entries_by, grants_by, IsLegal}
 use Rattle.account_core.specs.Sums.{grants_of_call, grants_made, settles_grant, is_settled, open_grants}
 use Rattle.account_core.specs.Numbers.{NoneLater, StandsFor, used_of}
 use Rattle.account_core.proofs.CostSums.{types_of, fields_of, counted_own}
 use Rattle.account_core.proofs.GrantLists.{held_in-without, found-window, none_later-more, none_later-push, none_later-without}
-use Rattle.account_core.proofs.Histories.{state_after-push, along, entries_by-own}
+use Rattle.account_core.proofs.Histories.{state_after-push, along}
 use Rattle.account_core.proofs.OpenGrants.{in_order}
 use Rattle.account_core.proofs.AllowanceLaw.{balanced_state}
 

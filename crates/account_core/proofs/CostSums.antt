@@ -1,5 +1,5 @@
 -- Sums and differences of costs.
-use Rattle.std.proofs.Common.{◌≡◌, ℕ, ◌+◌, ◌-◌, ◌≤◌, ◌<◌, Bool, true, false, sym, ap, subst, ◌∙◌, nat_le, nat_eq, cond, ⊎_elim, arith, zero-le, le_trans}
+use Rattle.std.proofs.Common.{◌≡◌, ℕ, ◌+◌, ◌-◌, ◌≤◌, ◌<◌, Bool, true, false, sym, ap, subst, nat_le, nat_eq, cond, ⊎_elim, arith, zero-le}
 use Rattle.std.proofs.lemmas.Bool.{and_parts, and_cases, cond_both, eqb-true, eqb-false, leb-true, leb-false, cond-true, cond-false, eq-eqb, ne_eqb}
 use Rattle.cost_num.specs.declared.Cost.{Cost}
 use Rattle.account_core.specs.Costs.{cost, nothing, together, remaining, AtMost, is_at_most, counted_in}

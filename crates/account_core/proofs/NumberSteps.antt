@@ -1,11 +1,11 @@
 -- The calls on five numbers are steps of the machine, from each state that the numbers stand for.
-use Rattle.std.proofs.Common.{◌≡◌, ◌⊎◌, ℕ, ◌+◌, ◌≤◌, ◌<◌, max, Bool, true, false, cond, nat_eq, List, [], ◌∷◌, ◌++◌, Option, Some, refl, sym, ap, subst, ◌∙◌, ⊎_elim, arith, le_refl, zero-le, if◌then◌else◌}
-use Rattle.std.proofs.lemmas.Bool.{cases_Bool, cond_both}
+use Rattle.std.proofs.Common.{◌≡◌, ℕ, ◌≤◌, max, Bool, true, false, cond, nat_eq, Some, refl, sym, ap, subst, ◌∙◌, ⊎_elim, arith, le_refl, zero-le, if◌then◌else◌}
+use Rattle.std.proofs.lemmas.Bool.{cases_Bool}
 use Rattle.cost_num.specs.declared.Cost.{Cost}
 use Rattle.account_core.specs.declared.Account.{Account}
-use Rattle.account_core.specs.Costs.{cost, nothing, together, remaining, AtMost, is_at_most, counted_in}
-use Rattle.account_core.specs.Machine.{Limit, Grant, State, Call, reservation, settlement, CallReply, granted, short, done, entry, grant, held_in, open_grant, grants_without, account_of, room, standing_window, used_in, left_in, HasRoom, IsReplied, state_after_call}
-use Rattle.account_core.specs.Numbers.{NoneLater, StandsFor, StepsTo, moved_to, used_of, left_at, account_holding, reply_at, account_at, reservation_reply, reserved_account, settled_account}
+use Rattle.account_core.specs.Costs.{nothing, together, remaining, AtMost, is_at_most, counted_in}
+use Rattle.account_core.specs.Machine.{Limit, State, reservation, settlement, CallReply, granted, short, done, entry, grant, held_in, open_grant, grants_without, standing_window, used_in, HasRoom, state_after_call}
+use Rattle.account_core.specs.Numbers.{NoneLater, StandsFor, StepsTo, moved_to, used_of, left_at, account_holding, reservation_reply, reserved_account, settled_account}
 use Rattle.account_core.proofs.CostSums.{remaining_part, fits, exceeds, counted_cases, counted_own, at_most_same}
 use Rattle.account_core.proofs.GrantLists.{held_in-push, held_in-without, held_in-later, none_later-more, none_later-push, none_later-without}
 

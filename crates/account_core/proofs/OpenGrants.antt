@@ -1,12 +1,12 @@
 -- The open grants of a legal history are those that its state lists.
-use Rattle.std.proofs.Common.{◌≡◌, ◌⊎◌, ℕ, ◌+◌, ◌≤◌, ◌<◌, Bool, true, false, true≢false, ◌&&◌, ◌||◌, not, cond, nat_eq, List, [], ◌∷◌, ◌++◌, filter, Option, Some, None, refl, sym, ap, subst, ◌∙◌, ⊎_elim, arith, le_refl}
+use Rattle.std.proofs.Common.{◌≡◌, ℕ, ◌≤◌, ◌<◌, Bool, true, false, true≢false, ◌&&◌, ◌||◌, not, cond, nat_eq, List, [], ◌∷◌, ◌++◌, filter, Some, None, refl, sym, ap, subst, ◌∙◌, ⊎_elim, arith, le_refl}
 use Rattle.std.proofs.lemmas.List.{append-nil}
 use Rattle.std.proofs.lemmas.List.Elements.{filter-append}
 use Rattle.std.proofs.lemmas.List.Folds.{list_any-append}
 use Rattle.std.proofs.lemmas.Grind.{flat_map-append}
-use Rattle.std.proofs.lemmas.Bool.{and_from, and_parts, cases_Bool, cond-true, cond-false, cond_both, eq-eqb, ne_eqb, eqb-true, eqb-false}
+use Rattle.std.proofs.lemmas.Bool.{and_from, and_parts, cases_Bool, cond-true, cond-false, cond_both, eq-eqb, ne_eqb, eqb-true}
 use Rattle.cost_num.specs.declared.Cost.{Cost}
-use Rattle.account_core.specs.Machine.{Limit, Grant, State, Call, reservation, settlement, CallReply, granted, short, done, Entry, grant, entry, first, is_grant, open_grant, grants_without}
+use Rattle.account_core.specs.Machine.{Limit, Grant, State, Call, reservation, settlement, CallReply, granted, short, done, Entry, grant, entry, is_grant, open_grant, grants_without}
 use Rattle.account_core.specs.History.{state_after, entries_by, NumbersBelow, IsNext, IsLegal}
 use Rattle.account_core.specs.Sums.{grants_of_call, grants_made, settles_grant, is_settled, open_grants}
 use Rattle.account_core.proofs.GrantLists.{some_not_none, not_found, not_found-push, not_found-without}

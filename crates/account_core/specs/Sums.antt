@@ -3,7 +3,7 @@ use Rattle.std.specs.Prelude.{◌≡◌, ℕ, not, Bool, false, List, [], ◌∷
 use Rattle.std.specs.List.{filter, flat_map, list_any}
 use Rattle.cost_num.specs.declared.Cost.{Cost}
 use Rattle.account_core.specs.Costs.{nothing, together, AtMost, counted_in}
-use Rattle.account_core.specs.Machine.{Limit, Grant, Call, reservation, settlement, CallReply, granted, short, done, Entry, grant, is_grant, held_in}
+use Rattle.account_core.specs.Machine.{Limit, Grant, Call, reservation, settlement, CallReply, granted, done, Entry, grant, is_grant, held_in}
 
 -- the grant that a call made, or none
 abbrev pub grants_of_call : ℕ → ℕ → Call → CallReply → List Grant

@@ -7,9 +7,9 @@
 //! grants, and each call is one step of it.
 #![tactic(auto)]
 
-ghost use Rattle.std.specs.Prelude.{◌≡◌, ℕ, ◌+◌, ◌≤◌, ◌<◌, ◌^◌, List, Some, max};
+ghost use Rattle.std.specs.Prelude.{◌≡◌, ℕ, ◌+◌, ◌≤◌, ◌<◌, ◌^◌, List, Some, max, IfOk, IfErr};
 ghost use Rattle.account_core.specs.Costs.{cost, together, remaining, AtMost, is_at_most};
-ghost use Rattle.account_core.specs.Machine.{Limit, State, Entry, first, entry, reservation, settlement, done, grant, open_grant, account_of, state_past};
+ghost use Rattle.account_core.specs.Machine.{Limit, State, Entry, first, entry, reservation, settlement, granted, short, done, grant, open_grant, account_of, state_past};
 ghost use Rattle.account_core.specs.Numbers.{StandsFor, StepsTo, reply_of, ticket_for, HasTicket, empty_account, moved_to, used_of, KeepsLimit, UnchangedIfShort, account_holding, reservation_reply, reserved_account, settled_account};
 
 use cost_num::{CAP, Cost};
@@ -113,6 +113,23 @@ impl Account {
         Account { held, ..self }
     }
 
+    /// Holds a bound in a window that has room for it, and else says what is left there.
+    fn hold(&mut self, allowance: Cost, window: u64, bound: Cost) -> Result<(), Cost>
+        requires cap { AtMost allowance (cost CAP CAP) }
+        requires inside { KeepsLimit allowance self.old }
+        ensures granted { IfOk result (λ _. reservation_reply allowance self.old window bound ≡ granted self.new.window) }
+        ensures short { IfErr result (λ left. reservation_reply allowance self.old window bound ≡ short left) }
+        ensures account { self.new ≡ reserved_account allowance self.old window bound }
+    {
+        let here = self.moved_to(self.window.max(window));
+        let left = here.left(allowance);
+        if !is_within(bound, left) {
+            return Err(left);
+        }
+        *self = here.holding(bound);
+        Ok(())
+    }
+
     fn settled_at(self, window: u64, bound: Cost, measured: Cost) -> Account
         requires measured { AtMost measured bound }
         requires held { window ≡ self.window → AtMost bound self.held }
@@ -164,18 +181,14 @@ impl Account {
         ensures account { self.new ≡ reserved_account allowance self.old window bound }
         ensures inside { KeepsLimit allowance self.new }
     {
-        let here = self.moved_to(self.window.max(window));
-        let left = here.left(allowance);
-        if is_within(bound, left) {
-            *self = here.holding(bound);
-            Reply::Granted(Ticket {
+        match self.hold(allowance, window, bound) {
+            Ok(()) => Reply::Granted(Ticket {
                 client,
                 seq,
-                window: here.window,
+                window: self.window,
                 bound,
-            })
-        } else {
-            Reply::Short { left }
+            }),
+            Err(left) => Reply::Short { left },
         }
     }
 
