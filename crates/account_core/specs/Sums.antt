@@ -26,7 +26,7 @@ is_settled history g = list_any (λ e. settles_grant e.caller e.call e.reply g) 
 abbrev pub open_grants : List Entry → List Grant
 open_grants history = filter (λ g. not (is_settled history g)) (grants_made history)
 
--- the measured cost of a settlement, in the window of its grant
+-- the measured cost of a settlement, in the window of its grant, which a legal settlement names
 abbrev pub spent_by : ℕ → Call → CallReply → Cost
 spent_by window (settlement of own bound measured) done = counted_in window own measured
 spent_by window _ _ = nothing
