@@ -6,12 +6,12 @@ use Rattle.std.proofs.lemmas.Bool.{and_parts, cases_Bool, cond-true, cond-false,
 use Rattle.account_core.specs.declared.Account.{Account}
 use Rattle.account_core.specs.Costs.{together, AtMost}
 use Rattle.account_core.specs.Machine.{Limit, Grant, State, Call, reservation, settlement, CallReply, granted, short, done, Entry, grant, held_in, is_grant, open_grant, grants_without, account_of, state_after_call, IsReplied}
-use Rattle.account_core.specs.History.{state_after, entries_by, grants_by, IsLegal}
+use Rattle.account_core.specs.History.{state_after, entries_by, grants_by, NumbersBelow, IsLegal}
 use Rattle.account_core.specs.Sums.{grants_of_call, grants_made, settles_grant, is_settled, open_grants}
-use Rattle.account_core.specs.Numbers.{NoneLater, StandsFor, used_of}
+use Rattle.account_core.specs.Numbers.{NoneLater, StandsFor, StepsTo, used_of}
 use Rattle.account_core.proofs.CostSums.{types_of, fields_of, counted_own}
 use Rattle.account_core.proofs.GrantLists.{held_in-without, found-window, none_later-more, none_later-push, none_later-without}
-use Rattle.account_core.proofs.Histories.{state_after-push, along}
+use Rattle.account_core.proofs.Histories.{legal-push, state_after-push, along}
 use Rattle.account_core.proofs.OpenGrants.{in_order}
 use Rattle.account_core.proofs.AllowanceLaw.{balanced_state}
 
@@ -137,6 +137,11 @@ numbers_within limit h legal =
     let balanced = balanced_state limit h legal in
     let s = state_after h in
     subst (λ c. AtMost (together c (held_in s.window s.grants)) limit) balanced.now (balanced.within s.window)
+
+-- an account follows its history by one step
+pub follows : (limit : Limit) (h : List Entry) (e : Entry) (a : Account) → IsLegal limit h → NumbersBelow e.number (entries_by e.caller h) → StepsTo limit (state_after h) e a
+    → IsLegal limit (h ++ e ∷ []) × StandsFor a (state_after (h ++ e ∷ []))
+follows limit h e a legal below step = (legal-push limit h e legal (step.0, below), subst (StandsFor a) (sym (state_after-push h e)) step.1)
 
 -- an open grant isn't of a later window, and where it is of the account's, its bound is held
 pub grant_is_held : (a : Account) (s : State) (g : Grant) → StandsFor a s → open_grant g.caller g.number s.grants ≡ Some g → (g.window ≤ a.window) × (g.window ≡ a.window → AtMost g.bound a.held)

@@ -26,6 +26,15 @@ pub fn grows_legally()
         → IsLegal limit front }
 {}
 
+/// An account follows its history: where it stands for the state after a legal one, a step under a
+/// number that is new to its caller makes a longer legal history, and the account after the step
+/// stands for the state after that.
+pub fn follows_its_history()
+    ensures { (limit : Limit) (history : List Entry) (e : Entry) (account : Account) → IsLegal limit history
+        → NumbersBelow e.number (entries_by e.caller history) → StepsTo limit (state_after history) e account
+        → IsLegal limit (history ++ e ∷ []) × StandsFor account (state_after (history ++ e ∷ [])) }
+{}
+
 /// After a legal history the machine lists just the grants that the history left open, and its five
 /// numbers stand for its state and keep to the allowance.
 pub fn lists_open_grants()
