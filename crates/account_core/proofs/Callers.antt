@@ -3,8 +3,9 @@ use Rattle.std.proofs.Common.{◌≡◌, ℕ, ◌+◌, ◌≤◌, Bool, true, fa
 use Rattle.std.proofs.lemmas.List.Elements.{filter-append}
 use Rattle.std.proofs.lemmas.Map.Views.{any-filter_same}
 use Rattle.std.proofs.lemmas.Bool.{and_parts, cases_Bool, cond-true, cond-false, eq-eqb, eqb-true}
+use Rattle.cost_num.specs.Within.{Within}
 use Rattle.account_core.specs.declared.Account.{Account}
-use Rattle.account_core.specs.Costs.{together, AtMost}
+use Rattle.account_core.specs.Costs.{together}
 use Rattle.account_core.specs.Machine.{Limit, Grant, State, Call, reservation, settlement, CallReply, granted, short, done, Entry, grant, held_in, is_grant, open_grant, grants_without, account_of, state_after_call, IsReplied}
 use Rattle.account_core.specs.History.{state_after, entries_by, grants_by, NumbersBelow, IsLegal}
 use Rattle.account_core.specs.Sums.{grants_of_call, grants_made, settles_grant, is_settled, open_grants}
@@ -132,11 +133,11 @@ numbers_stand limit h legal = (
       (none_later-call limit (state_after h) e.caller e.number e.call e.reply next.0 order)) h legal,
 )
 
-pub numbers_within : (limit : Limit) (h : List Entry) → IsLegal limit h → AtMost (used_of (account_of (state_after h))) limit
+pub numbers_within : (limit : Limit) (h : List Entry) → IsLegal limit h → Within limit (used_of (account_of (state_after h)))
 numbers_within limit h legal =
     let balanced = balanced_state limit h legal in
     let s = state_after h in
-    subst (λ c. AtMost (together c (held_in s.window s.grants)) limit) balanced.now (balanced.within s.window)
+    subst (λ c. Within limit (together c (held_in s.window s.grants))) balanced.now (balanced.within s.window)
 
 -- an account follows its history by one step
 pub follows : (limit : Limit) (h : List Entry) (e : Entry) (a : Account) → IsLegal limit h → NumbersBelow e.number (entries_by e.caller h) → StepsTo limit (state_after h) e a
@@ -144,9 +145,9 @@ pub follows : (limit : Limit) (h : List Entry) (e : Entry) (a : Account) → IsL
 follows limit h e a legal below step = (legal-push limit h e legal (step.0, below), subst (StandsFor a) (sym (state_after-push h e)) step.1)
 
 -- an open grant isn't of a later window, and where it is of the account's, its bound is held
-pub grant_is_held : (a : Account) (s : State) (g : Grant) → StandsFor a s → open_grant g.caller g.number s.grants ≡ Some g → (g.window ≤ a.window) × (g.window ≡ a.window → AtMost g.bound a.held)
+pub grant_is_held : (a : Account) (s : State) (g : Grant) → StandsFor a s → open_grant g.caller g.number s.grants ≡ Some g → (g.window ≤ a.window) × (g.window ≡ a.window → Within a.held g.bound)
 grant_is_held a s g stands there =
-    subst (λ (x : Account). (g.window ≤ x.window) × (g.window ≡ x.window → AtMost g.bound x.held)) (sym stands.0) (
+    subst (λ (x : Account). (g.window ≤ x.window) × (g.window ≡ x.window → Within x.held g.bound)) (sym stands.0) (
       found-window s.window g.caller g.number g s.grants stands.1 there,
       λ same.
           let left = held_in s.window (grants_without g.caller g.number s.grants) in
@@ -154,5 +155,5 @@ grant_is_held a s g stands there =
           ap (together left) (sym (counted_own s.window g.window g.bound same)) ∙ held_in-without s.window g.caller g.number g s.grants there in
           let types : left.types + g.bound.types ≡ (held_in s.window s.grants).types = types_of sum in
           let fields : left.fields + g.bound.fields ≡ (held_in s.window s.grants).fields = fields_of sum in
-          (omega arith, omega arith),
+          record { types = omega arith; fields = omega arith },
     )

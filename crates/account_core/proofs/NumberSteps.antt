@@ -1,9 +1,10 @@
 -- The calls on five numbers are steps of the machine, from each state that the numbers stand for.
 use Rattle.std.proofs.Common.{◌≡◌, ℕ, ◌≤◌, max, Bool, true, false, cond, nat_eq, Some, refl, sym, ap, subst, ◌∙◌, ⊎_elim, arith, le_refl, zero-le, if◌then◌else◌}
 use Rattle.std.proofs.lemmas.Bool.{cases_Bool}
+use Rattle.cost_num.specs.Within.{Within}
 use Rattle.cost_num.specs.declared.Cost.{Cost}
 use Rattle.account_core.specs.declared.Account.{Account}
-use Rattle.account_core.specs.Costs.{nothing, together, remaining, AtMost, is_at_most, counted_in}
+use Rattle.account_core.specs.Costs.{nothing, together, remaining, is_within, counted_in}
 use Rattle.account_core.specs.Machine.{Limit, State, reservation, settlement, CallReply, granted, short, done, entry, grant, held_in, open_grant, grants_without, standing_window, used_in, HasRoom, state_after_call}
 use Rattle.account_core.specs.Numbers.{NoneLater, StandsFor, StepsTo, moved_to, used_of, left_at, account_holding, reservation_reply, reserved_account, settled_account}
 use Rattle.account_core.proofs.CostSums.{remaining_part, fits, exceeds, counted_cases, counted_own, at_most_same}
@@ -24,12 +25,12 @@ moved_is a s at le stands =
     ap (λ (x : Account). moved_to x at) stands.0
     ∙ ap (λ (c : Cost). record { window = at; settled = counted_in at s.window s.settled; held = c }) (held_moved s at le stands.1)
 
-pub moved_within : (a : Account) (at : ℕ) (whole : Cost) → AtMost (used_of a) whole → AtMost (used_of (moved_to a at)) whole
+pub moved_within : (a : Account) (at : ℕ) (whole : Cost) → Within whole (used_of a) → Within whole (used_of (moved_to a at))
 moved_within a at whole h = go (nat_eq a.window at)
   where
-    go : (t : Bool) → AtMost (together (cond t a.settled nothing) (cond t a.held nothing)) whole
+    go : (t : Bool) → Within whole (together (cond t a.settled nothing) (cond t a.held nothing))
     go true = h
-    go false = (zero-le, zero-le)
+    go false = record { types = zero-le; fields = zero-le }
 
 -- a reservation in a window that has come, at numbers that stand for the state there
 grants_at : (limit : Limit) (bound : Cost) (s : State) (caller number at : ℕ) → s.window ≤ at → NoneLater s.window s.grants
@@ -42,7 +43,7 @@ grants_at limit bound s caller number at le order =
     )
 
 -- a reservation on an account's numbers is a step from each state that they stand for
-pub reserves : (limit : Limit) (bound : Cost) (a : Account) (s : State) (caller number window : ℕ) → StandsFor a s → AtMost (used_of a) limit
+pub reserves : (limit : Limit) (bound : Cost) (a : Account) (s : State) (caller number window : ℕ) → StandsFor a s → Within limit (used_of a)
     → StepsTo limit s (entry caller number (reservation window bound) (reservation_reply limit a window bound)) (reserved_account limit a window bound)
 reserves limit bound a s caller number window stands inside =
     let at : ℕ = max a.window window in
@@ -54,7 +55,7 @@ reserves limit bound a s caller number window stands inside =
     (entry caller number (reservation window bound) (if t then granted at else short (left_at limit a at)))
     (if t then account_holding (moved_to a at) bound else a) in
     ⊎_elim
-    (λ (e : is_at_most bound (left_at limit a at) ≡ true). subst P (sym e) (
+    (λ (e : is_within (left_at limit a at) bound ≡ true). subst P (sym e) (
       (
         same,
         at_most_same (together (used_in s at) bound) (together (used_of (moved_to a at)) bound) limit (ap (λ c. together c bound) (sym used))
@@ -63,17 +64,17 @@ reserves limit bound a s caller number window stands inside =
       subst (λ (x : Account). StandsFor (account_holding x bound) (state_after_call s caller number (reservation at bound) (granted at))) (sym moved)
           (grants_at limit bound s caller number at le stands.1),
     ))
-    (λ (e : is_at_most bound (left_at limit a at) ≡ false). subst P (sym e) (
+    (λ (e : is_within (left_at limit a at) bound ≡ false). subst P (sym e) (
       (
         subst (λ u. HasRoom limit s u bound → ⊥) same
-            (subst (λ c. AtMost (together c bound) limit → ⊥) used (exceeds (used_of (moved_to a at)) bound limit e)),
+            (subst (λ c. Within limit (together c bound) → ⊥) used (exceeds (used_of (moved_to a at)) bound limit e)),
         ap (remaining limit) used ∙ ap (λ u. remaining limit (used_in s u)) same,
       ),
       stands,
     ))
-    (cases_Bool (is_at_most bound (left_at limit a at)))
+    (cases_Bool (is_within (left_at limit a at) bound))
 
-pub reserves_as : (limit : Limit) (bound : Cost) (a : Account) (s : State) (caller number window : ℕ) (reply : CallReply) (new : Account) → StandsFor a s → AtMost (used_of a) limit
+pub reserves_as : (limit : Limit) (bound : Cost) (a : Account) (s : State) (caller number window : ℕ) (reply : CallReply) (new : Account) → StandsFor a s → Within limit (used_of a)
     → reply ≡ reservation_reply limit a window bound → new ≡ reserved_account limit a window bound
     → StepsTo limit s (entry caller number (reservation window bound) reply) new
 reserves_as limit bound a s caller number window reply new stands inside replied made =
@@ -83,7 +84,7 @@ reserves_as limit bound a s caller number window reply new stands inside replied
 
 -- so is a settlement of a grant that is open there
 pub settles_open : (limit : Limit) (bound measured : Cost) (a : Account) (s : State) (caller number of window : ℕ) → StandsFor a s
-    → open_grant caller of s.grants ≡ Some (grant caller of window bound) → AtMost measured bound
+    → open_grant caller of s.grants ≡ Some (grant caller of window bound) → Within bound measured
     → StepsTo limit s (entry caller number (settlement of window bound measured) done) (settled_account a window bound measured)
 settles_open limit bound measured a s caller number of window stands there small =
     let held = held_in-without s.window caller of (grant caller of window bound) s.grants there in
@@ -98,7 +99,7 @@ settles_open limit bound measured a s caller number of window stands there small
     )
 
 pub settles_as : (limit : Limit) (bound measured : Cost) (a : Account) (s : State) (caller number of window : ℕ) (new : Account) → StandsFor a s
-    → open_grant caller of s.grants ≡ Some (grant caller of window bound) → AtMost measured bound → new ≡ settled_account a window bound measured
+    → open_grant caller of s.grants ≡ Some (grant caller of window bound) → Within bound measured → new ≡ settled_account a window bound measured
     → StepsTo limit s (entry caller number (settlement of window bound measured) done) new
 settles_as limit bound measured a s caller number of window new stands there small made =
     subst (λ (x : Account). StepsTo limit s (entry caller number (settlement of window bound measured) done) x) (sym made)

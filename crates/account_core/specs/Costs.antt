@@ -1,5 +1,5 @@
--- Costs of two components, in thousandths: sums, differences, and which is at most another.
-use Rattle.std.specs.Prelude.{ℕ, ◌+◌, ◌-◌, ◌≤◌, Bool, nat_le, ◌&&◌, ◌==◌, if◌then◌else◌}
+-- Costs of two components, in thousandths: sums, differences, and whether one is within another.
+use Rattle.std.specs.Prelude.{ℕ, ◌+◌, ◌-◌, Bool, nat_le, ◌&&◌, ◌==◌, if◌then◌else◌}
 use Rattle.cost_num.specs.declared.Cost.{Cost}
 
 abbrev pub cost : ℕ → ℕ → Cost
@@ -16,12 +16,9 @@ together a b = cost (a.types + b.types) (a.fields + b.fields)
 abbrev pub remaining : Cost → Cost → Cost
 remaining whole part = cost (whole.types - part.types) (whole.fields - part.fields)
 
--- both components are at most the other's
-abbrev pub AtMost : Cost → Cost → Type 0
-AtMost a b = (a.types ≤ b.types) × (a.fields ≤ b.fields)
-
-abbrev pub is_at_most : Cost → Cost → Bool
-is_at_most a b = nat_le a.types b.types && nat_le a.fields b.fields
+-- whether a cost is within a limit, in both components
+abbrev pub is_within : Cost → Cost → Bool
+is_within limit c = nat_le c.types limit.types && nat_le c.fields limit.fields
 
 -- a cost that belongs to one window, as another window counts it: not at all, unless they are the same
 abbrev pub counted_in : ℕ → ℕ → Cost → Cost

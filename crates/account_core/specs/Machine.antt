@@ -1,9 +1,10 @@
 -- The budget machine of one client: its states, the calls on it with their replies, and its steps.
 use Rattle.std.specs.Prelude.{◌≡◌, ℕ, ◌==◌, ◌&&◌, if◌then◌else◌, max, Bool, List, [], ◌∷◌, ◌++◌, Option, Some}
 use Rattle.std.specs.List.{find}
+use Rattle.cost_num.specs.Within.{Within}
 use Rattle.cost_num.specs.declared.Cost.{Cost}
 use Rattle.account_core.specs.declared.Account.{Account}
-use Rattle.account_core.specs.Costs.{nothing, together, remaining, AtMost, counted_in}
+use Rattle.account_core.specs.Costs.{nothing, together, remaining, counted_in}
 
 -- what a client may spend: an allowance for each window
 abbrev pub Limit : Type 0
@@ -92,7 +93,7 @@ left_in limit s window = remaining (room limit (account_of s) window) (used_in s
 
 -- the window has room for this bound besides what is used
 abbrev pub HasRoom : Limit → State → ℕ → Cost → Type 0
-HasRoom limit s window bound = AtMost (together (used_in s window) bound) (room limit (account_of s) window)
+HasRoom limit s window bound = Within (room limit (account_of s) window) (together (used_in s window) bound)
 
 -- Which reply a call gets: a reservation is granted exactly where its window has room in both components, and else is
 -- short by what is left there; a settlement is done where the caller has that grant open and the measured cost is
@@ -103,7 +104,7 @@ IsReplied limit s caller (reservation window bound) (granted at) =
 IsReplied limit s caller (reservation window bound) (short left) =
     (HasRoom limit s (standing_window s window) bound → ⊥) × (left ≡ left_in limit s (standing_window s window))
 IsReplied limit s caller (settlement number window bound measured) done =
-    (open_grant caller number s.grants ≡ Some (grant caller number window bound)) × AtMost measured bound
+    (open_grant caller number s.grants ≡ Some (grant caller number window bound)) × Within bound measured
 IsReplied limit s caller _ _ = ⊥
 
 -- What a call leaves. A grant brings the machine to its window and opens. A refusal changes nothing. A settlement

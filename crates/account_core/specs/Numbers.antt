@@ -1,12 +1,13 @@
 -- The five numbers of an account, and the calls on them.
 use Rattle.std.specs.Prelude.{◌≡◌, ℕ, ◌≤◌, max, if◌then◌else◌, List}
 use Rattle.std.specs.List.{AllByRecursion}
+use Rattle.cost_num.specs.Within.{Within}
 use Rattle.cost_num.specs.declared.Cost.{Cost}
 use Rattle.account_core.specs.declared.Account.{Account}
 use Rattle.account_core.specs.declared.Ticket.{Ticket}
 use Rattle.account_core.specs.declared.Reply.{Reply}
 use Rattle.account_core.specs.declared.Reply.TheVariants.{Granted, Short}
-use Rattle.account_core.specs.Costs.{nothing, together, remaining, AtMost, is_at_most, counted_in}
+use Rattle.account_core.specs.Costs.{nothing, together, remaining, is_within, counted_in}
 use Rattle.account_core.specs.Machine.{Limit, Grant, State, Entry, CallReply, granted, short, account_of, room, IsStep, state_past}
 
 -- no grant stands in a window past this one
@@ -57,7 +58,7 @@ used_of account = together account.settled account.held
 
 -- an account keeps to its limit: what is settled and held is at most what its window may take
 abbrev pub KeepsLimit : Limit → Account → Type 0
-KeepsLimit limit account = AtMost (used_of account) (room limit account account.window)
+KeepsLimit limit account = Within (room limit account account.window) (used_of account)
 
 -- what an account has left in a window that it has come to, or comes to
 abbrev pub left_at : Limit → Account → ℕ → Cost
@@ -68,11 +69,11 @@ account_holding account bound = record { window = account.window; settled = acco
 
 -- the reply to a reservation that stands in a window, and the account after it
 abbrev pub reply_at : Limit → Account → ℕ → Cost → CallReply
-reply_at limit account at bound = if is_at_most bound (left_at limit account at) then granted at else short (left_at limit account at)
+reply_at limit account at bound = if is_within (left_at limit account at) bound then granted at else short (left_at limit account at)
 
 abbrev pub account_at : Limit → Account → ℕ → Cost → Account
 account_at limit account at bound =
-    if is_at_most bound (left_at limit account at) then account_holding (moved_to account at) bound else account
+    if is_within (left_at limit account at) bound then account_holding (moved_to account at) bound else account
 
 -- the same for a reservation that asks for a window
 abbrev pub reservation_reply : Limit → Account → ℕ → Cost → CallReply

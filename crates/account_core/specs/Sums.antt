@@ -1,8 +1,9 @@
 -- What a history has spent and left open in each window, and that both together keep to the window's allowance.
 use Rattle.std.specs.Prelude.{◌≡◌, ℕ, not, Bool, false, List, [], ◌∷◌, ◌++◌}
 use Rattle.std.specs.List.{filter, flat_map, list_any}
+use Rattle.cost_num.specs.Within.{Within}
 use Rattle.cost_num.specs.declared.Cost.{Cost}
-use Rattle.account_core.specs.Costs.{nothing, together, AtMost, counted_in}
+use Rattle.account_core.specs.Costs.{nothing, together, counted_in}
 use Rattle.account_core.specs.Machine.{Limit, Grant, Call, reservation, settlement, CallReply, granted, done, Entry, grant, is_grant, held_in}
 
 -- the grant that a call made, or none
@@ -48,4 +49,4 @@ allowance_in allowance history window = allowance
 -- at every moment of a history and in every window, what is spent and what is open are together at most the allowance
 abbrev pub KeepsAllowance : Limit → List Entry → Type 0
 KeepsAllowance limit history = (front rest : List Entry) → history ≡ front ++ rest → (window : ℕ)
-    → AtMost (together (spent_in window front) (open_in window front)) (allowance_in limit front window)
+    → Within (allowance_in limit front window) (together (spent_in window front) (open_in window front))

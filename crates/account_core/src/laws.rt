@@ -1,11 +1,11 @@
 //! Laws of the budget machine. Each is what a function ensures that does nothing.
 
-ghost use Rattle.std.specs.Prelude.{◌≡◌, ℕ, ◌≤◌, Bool, false, not, List, [], ◌∷◌, ◌++◌, Some};
+ghost use Rattle.std.specs.Prelude.{◌≡◌, ℕ, ◌≤◌, false, not, List, [], ◌∷◌, ◌++◌, Some};
 ghost use Rattle.std.specs.List.{filter};
+ghost use Rattle.cost_num.specs.Within.{Within};
 ghost use Rattle.cost_num.specs.declared.Cost.{Cost};
 ghost use Rattle.account_core.specs.declared.Account.{Account};
-ghost use Rattle.account_core.specs.Costs.{AtMost};
-ghost use Rattle.account_core.specs.Machine.{Limit, Grant, State, Entry, reservation, settlement, granted, done, entry, grant, is_grant, open_grant, account_of};
+ghost use Rattle.account_core.specs.Machine.{Limit, Grant, State, Entry, reservation, settlement, granted, done, entry, is_grant, open_grant, account_of};
 ghost use Rattle.account_core.specs.History.{state_after, entries_by, grants_by, NumbersBelow, IsNext, IsLegal};
 ghost use Rattle.account_core.specs.Sums.{is_settled, open_grants, KeepsAllowance};
 ghost use Rattle.account_core.specs.Numbers.{StandsFor, StepsTo, KeepsLimit, reservation_reply, reserved_account, settled_account};
@@ -61,7 +61,7 @@ pub fn keeps_callers_apart()
 pub fn holds_open_grants()
     ensures { (account : Account) (s : State) (g : Grant) → StandsFor account s
         → open_grant g.caller g.number s.grants ≡ Some g
-        → (g.window ≤ account.window) × (g.window ≡ account.window → AtMost g.bound account.held) }
+        → (g.window ≤ account.window) × (g.window ≡ account.window → Within account.held g.bound) }
 {}
 
 /// A call on an account's five numbers is a step from each state that they stand for: a reservation
@@ -72,7 +72,7 @@ pub fn steps_on_numbers()
         → StepsTo limit s (entry caller number (reservation window bound) (reservation_reply limit account window bound))
         (reserved_account limit account window bound) }
     ensures settles { (limit : Limit) (measured : Cost) (account : Account) (s : State) (number : ℕ) (g : Grant)
-        → StandsFor account s → open_grant g.caller g.number s.grants ≡ Some g → AtMost measured g.bound
+        → StandsFor account s → open_grant g.caller g.number s.grants ≡ Some g → Within g.bound measured
         → StepsTo limit s (entry g.caller number (settlement g.number g.window g.bound measured) done)
         (settled_account account g.window g.bound measured) }
 {}

@@ -7,12 +7,13 @@
 //! grants, and each call is one step of it.
 #![tactic(auto)]
 
-ghost use Rattle.std.specs.Prelude.{◌≡◌, ℕ, ◌+◌, ◌≤◌, ◌<◌, ◌^◌, List, Some, max, IfOk, IfErr};
-ghost use Rattle.account_core.specs.Costs.{cost, together, remaining, AtMost, is_at_most};
-ghost use Rattle.account_core.specs.Machine.{Limit, State, Entry, first, entry, reservation, settlement, granted, short, done, grant, open_grant, account_of, state_past};
+ghost use Rattle.std.specs.Prelude.{◌≡◌, ℕ, ◌+◌, ◌≤◌, ◌<◌, ◌^◌, Some, max, IfOk, IfErr};
+ghost use Rattle.cost_num.specs.Within.{Within};
+ghost use Rattle.account_core.specs.Costs.{cost, remaining};
+ghost use Rattle.account_core.specs.Machine.{Limit, State, first, entry, reservation, settlement, granted, short, done, grant, open_grant};
 ghost use Rattle.account_core.specs.Numbers.{StandsFor, StepsTo, reply_of, ticket_for, HasTicket, empty_account, moved_to, used_of, KeepsLimit, UnchangedIfShort, account_holding, reservation_reply, reserved_account, settled_account};
 
-use cost_num::{CAP, Cost};
+use cost_num::{CAP, Cost, covers};
 
 pub mod laws;
 
@@ -64,12 +65,6 @@ pub fn fresh() -> Account
     Account::empty(0)
 }
 
-fn is_within(bound: Cost, left: Cost) -> bool
-    ensures { result ≡ is_at_most bound left }
-{
-    bound.types <= left.types && bound.fields <= left.fields
-}
-
 impl Account {
     fn empty(window: u64) -> Account
         ensures { result ≡ empty_account window }
@@ -92,7 +87,7 @@ impl Account {
     }
 
     fn left(self, allowance: Cost) -> Cost
-        requires inside { AtMost (used_of self) allowance }
+        requires inside { Within allowance (used_of self) }
         ensures { result ≡ remaining allowance (used_of self) }
     {
         Cost {
@@ -115,7 +110,7 @@ impl Account {
 
     /// Holds a bound in a window that has room for it, and else says what is left there.
     fn hold(&mut self, allowance: Cost, window: u64, bound: Cost) -> Result<(), Cost>
-        requires cap { AtMost allowance (cost CAP CAP) }
+        requires cap { Within (cost CAP CAP) allowance }
         requires inside { KeepsLimit allowance self.old }
         ensures granted { IfOk result (λ _. reservation_reply allowance self.old window bound ≡ granted self.new.window) }
         ensures short { IfErr result (λ left. reservation_reply allowance self.old window bound ≡ short left) }
@@ -123,7 +118,7 @@ impl Account {
     {
         let here = self.moved_to(self.window.max(window));
         let left = here.left(allowance);
-        if !is_within(bound, left) {
+        if !covers(left, bound) {
             return Err(left);
         }
         *self = here.holding(bound);
@@ -131,11 +126,11 @@ impl Account {
     }
 
     fn settled_at(self, window: u64, bound: Cost, measured: Cost) -> Account
-        requires measured { AtMost measured bound }
-        requires held { window ≡ self.window → AtMost bound self.held }
-        requires inside { AtMost (used_of self) (cost CAP CAP) }
+        requires measured { Within bound measured }
+        requires held { window ≡ self.window → Within self.held bound }
+        requires inside { Within (cost CAP CAP) (used_of self) }
         ensures exact { result ≡ settled_account self window bound measured }
-        ensures inside { AtMost (used_of result) (used_of self) }
+        ensures inside { Within (used_of self) (used_of result) }
     {
         if window != self.window {
             return self;
@@ -169,7 +164,7 @@ impl Account {
         window: u64,
         bound: Cost,
     ) -> Reply
-        requires cap { AtMost allowance (cost CAP CAP) }
+        requires cap { Within (cost CAP CAP) allowance }
         requires inside { KeepsLimit allowance self.old }
         // A step of the machine, from each state that the account stands for, whoever calls.
         ensures step { (s : State) (caller : ℕ) → StandsFor self.old s
@@ -197,17 +192,17 @@ impl Account {
     /// In the account's window the bound is no longer held and the measured cost is settled. The
     /// account of a later window is as it was.
     pub fn settle(&mut self, ticket: Ticket, measured: Cost)
-        requires measured { AtMost measured ticket.bound }
+        requires measured { Within ticket.bound measured }
         requires window { ticket.window ≤ self.old.window }
-        requires held { ticket.window ≡ self.old.window → AtMost ticket.bound self.old.held }
-        requires inside { AtMost (used_of self.old) (cost CAP CAP) }
+        requires held { ticket.window ≡ self.old.window → Within self.old.held ticket.bound }
+        requires inside { Within (cost CAP CAP) (used_of self.old) }
         // A step of the machine, from each state that the account stands for and where the caller has this grant open.
         ensures step { (limit : Limit) (s : State) (caller number : ℕ) → StandsFor self.old s
             → open_grant caller ticket.seq s.grants ≡ Some (grant caller ticket.seq ticket.window ticket.bound)
             → StepsTo limit s (entry caller number (settlement ticket.seq ticket.window ticket.bound measured) done) self.new }
         // The same on the five numbers.
         ensures account { self.new ≡ settled_account self.old ticket.window ticket.bound measured }
-        ensures inside { AtMost (used_of self.new) (used_of self.old) }
+        ensures inside { Within (used_of self.old) (used_of self.new) }
     {
         let Ticket {
             client: _,
