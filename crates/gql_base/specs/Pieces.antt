@@ -108,14 +108,26 @@ BeginsNothing text = (p : Piece) (after : List ℕ) → IsPiece p → text ≡ p
 abbrev pub token_at : ℕ → Lexeme → Token
 token_at at lexeme = record { kind = kind_of lexeme; span = record { start = at; end = at + length (lexeme_bytes lexeme) } }
 
+-- the token that a piece at this place is, or none
+abbrev pub token_of : ℕ → Piece → List Token
+token_of at (token lexeme) = token_at at lexeme ∷ []
+token_of at byte_order_mark = []
+token_of at (blank byte) = []
+token_of at (comment bytes) = []
+
 -- the tokens among pieces, the first of which begins at this place
 unfoldable pub tokens_from : ℕ → List Piece → List Token
 tokens_from at [] = []
-tokens_from at (token lexeme ∷ ps) = token_at at lexeme ∷ tokens_from (at + length (lexeme_bytes lexeme)) ps
-tokens_from at (p ∷ ps) = tokens_from (at + length (piece_bytes p)) ps
+tokens_from at (p ∷ ps) = token_of at p ++ tokens_from (at + length (piece_bytes p)) ps
+
+-- the lexeme that a piece is, or none
+abbrev pub lexeme_in : Piece → List Lexeme
+lexeme_in (token lexeme) = lexeme ∷ []
+lexeme_in byte_order_mark = []
+lexeme_in (blank byte) = []
+lexeme_in (comment bytes) = []
 
 -- the tokens among pieces, without their places
 unfoldable pub lexemes_of : List Piece → List Lexeme
 lexemes_of [] = []
-lexemes_of (token lexeme ∷ ps) = lexeme ∷ lexemes_of ps
-lexemes_of (p ∷ ps) = lexemes_of ps
+lexemes_of (p ∷ ps) = lexeme_in p ++ lexemes_of ps

@@ -6,7 +6,7 @@ ghost use Rattle.std.specs.Char.{is_ascii_digit};
 ghost use Rattle.std.specs.Bool.{OnTrue};
 ghost use Rattle.gql_base.specs.declared.token.Token.{Token};
 ghost use Rattle.gql_base.specs.Characters.{is_name_start, is_name_continue, is_blank, is_comment_byte};
-ghost use Rattle.gql_base.specs.Fronts.{front_of, mark_of, ends_byte_order_mark};
+ghost use Rattle.gql_base.specs.Fronts.{front_of, piece_from, mark_of, is_byte_order_mark, ends_byte_order_mark};
 ghost use Rattle.gql_base.specs.Tokens.{Lexes, HasLexemes, IsBadCharacter, AreInOrder, IsFaultOf, Gives, RefusesAt, lexeme_of};
 
 use crate::token::{Span, Token, TokenKind};
@@ -155,44 +155,44 @@ fn mark_of(byte: u8) -> Option<TokenKind>
     }
 }
 
+/// Whether a byte order mark stands at the front: this byte, and then two of the rest.
+fn is_byte_order_mark(first: u8, rest: &[u8]) -> bool
+    ensures test { result ≡ is_byte_order_mark first rest.now }
+    ensures within { OnTrue result (2 ≤ length rest.now) }
+{
+    first == 0xef && ends_byte_order_mark(rest)
+}
+
+/// The piece that begins with this byte and goes on in the rest, if one does.
+fn piece_from(first: u8, rest: &[u8]) -> Option<Front>
+    ensures piece { result ≡ piece_from first rest.now }
+    ensures within { IfSome result (λ front. (0 < front.length) × (front.length ≤ 1 + length rest.now)) }
+{
+    if is_name_start(first) {
+        Some(Front { kind: Some(TokenKind::Name), length: 1 + name_length(rest) })
+    } else if first.is_ascii_digit() {
+        Some(Front { kind: Some(TokenKind::Int), length: 1 + digits_length(rest) })
+    } else if is_blank(first) {
+        Some(Front { kind: None, length: 1 })
+    } else if first == b'#' {
+        Some(Front { kind: None, length: 1 + comment_length(rest) })
+    } else if is_byte_order_mark(first, rest) {
+        Some(Front { kind: None, length: 3 })
+    } else {
+        match mark_of(first) {
+            Some(kind) => Some(Front { kind: Some(kind), length: 1 }),
+            None => None,
+        }
+    }
+}
+
 /// The piece at the front of `bytes`, if one begins there.
 fn front_piece(bytes: &[u8]) -> Option<Front>
     ensures piece { result ≡ front_of bytes.now }
     ensures within { IfSome result (λ front. (0 < front.length) × (front.length ≤ length bytes.now)) }
 {
-    let [first, rest @ ..] = bytes else {
-        return None;
-    };
-    if is_name_start(*first) {
-        Some(Front {
-            kind: Some(TokenKind::Name),
-            length: 1 + name_length(rest),
-        })
-    } else if first.is_ascii_digit() {
-        Some(Front {
-            kind: Some(TokenKind::Int),
-            length: 1 + digits_length(rest),
-        })
-    } else if is_blank(*first) {
-        Some(Front {
-            kind: None,
-            length: 1,
-        })
-    } else if *first == b'#' {
-        Some(Front {
-            kind: None,
-            length: 1 + comment_length(rest),
-        })
-    } else if *first == 0xef && ends_byte_order_mark(rest) {
-        Some(Front {
-            kind: None,
-            length: 3,
-        })
-    } else {
-        let kind = mark_of(*first)?;
-        Some(Front {
-            kind: Some(kind),
-            length: 1,
-        })
+    match bytes {
+        [first, rest @ ..] => piece_from(*first, rest),
+        [] => None,
     }
 }

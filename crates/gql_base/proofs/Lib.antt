@@ -1,0 +1,4 @@
+pub mod Runs
+pub mod FrontPieces
+pub mod Divisions
+pub mod OneDivision
