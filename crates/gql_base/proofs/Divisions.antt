@@ -1,6 +1,6 @@
 -- What holds of a text that is divided into pieces.
 use Rattle.std.proofs.Common.{◌≡◌, ℕ, zero, suc, ◌+◌, ◌-◌, ◌<◌, ◌≤◌, ◌⊎◌, inl, inr, List, [], ◌∷◌, ◌++◌, length, take, drop, get_or, map, refl, sym, ap, ◌∙◌, arith, Option, Some, None, subst}
-use Rattle.std.proofs.lemmas.List.{append-nil, length-append, length-drop, drop-drop, drop_at, take_at, append_assoc}
+use Rattle.std.proofs.lemmas.List.{append-nil, length-append, length-drop, drop-drop, drop_at, drop_all, take_at, append_assoc}
 use Rattle.gql_base.specs.declared.lexing.Front.{Front}
 use Rattle.gql_base.specs.declared.token.Token.{Token}
 use Rattle.gql_base.specs.declared.token.TokenKind.{TokenKind}
@@ -20,10 +20,10 @@ pub record LexedUpTo (text : List ℕ) (at : ℕ) (tokens : List Token) : Type 0
 -- a text in which nothing is read yet
 pub lexed_at_start : (text : List ℕ) (tokens : List Token) → tokens ≡ [] → LexedUpTo text 0 tokens
 unfolding Divides tokens_from
-lexed_at_start text tokens none = record { pieces = []; divided = refl; told = none; }
+lexed_at_start text tokens none = record { pieces = []; divided = refl; told = none }
 
 -- how many bytes pieces have
-pub extent : List Piece → ℕ
+unfoldable pub extent : List Piece → ℕ
 extent [] = 0
 extent (p ∷ ps) = length (piece_bytes p) + extent ps
 
@@ -31,7 +31,7 @@ pub extent_is : (ps : List Piece) (text rest : List ℕ) → Divides ps text res
 unfolding Divides extent
 extent_is [] text rest d = ap length d ∙ omega arith
 extent_is (p ∷ ps) text rest d =
-  omega (arith, ap length d.1, length-append (piece_bytes p) d.0, extent_is ps d.0 rest d.4)
+    omega (arith, ap length d.1, length-append (piece_bytes p) d.0, extent_is ps d.0 rest d.4)
 
 -- one more piece
 divides_more : (ps : List Piece) (text rest after : List ℕ) (p : Piece) → Divides ps text rest → rest ≡ piece_bytes p ++ after → IsPiece p → EndsBefore p after → Divides (ps ++ p ∷ []) text after
@@ -43,8 +43,8 @@ tokens_more : (at : ℕ) (ps : List Piece) (p : Piece) → tokens_from at (ps ++
 unfolding tokens_from extent
 tokens_more at [] p = append-nil (token_of at p) ∙ ap (λ n. token_of n p) (omega arith)
 tokens_more at (q ∷ qs) p =
-  let place : at + length (piece_bytes q) + extent qs ≡ at + (length (piece_bytes q) + extent qs) = omega arith in
-  rw (tokens_more (at + length (piece_bytes q)) qs p, place, append_assoc) refl
+    let place : at + length (piece_bytes q) + extent qs ≡ at + (length (piece_bytes q) + extent qs) = omega arith in
+    rw (tokens_more (at + length (piece_bytes q)) qs p, place, append_assoc) refl
 
 -- the place after pieces is as far as their bytes
 place_is : (ps : List Piece) (text : List ℕ) (at : ℕ) → at ≤ length text → Divides ps text (drop at text) → extent ps ≡ at
@@ -53,8 +53,8 @@ place_is ps text at within d = omega (arith, extent_is ps text (drop at text) d,
 -- the token of a piece that has this kind and length
 token_of_kind : (at : ℕ) (p : Piece) (kind : TokenKind) → piece_kind p ≡ Some kind → token_of at p ≡ record { kind = kind; span = record { start = at; end = at + length (piece_bytes p) } } ∷ []
 token_of_kind at (token lexeme) kind same =
-  let e : kind_of lexeme ≡ kind = cc in
-  ap (λ k. record { kind = k; span = record { start = at; end = at + length (lexeme_bytes lexeme) } } ∷ []) e
+    let e : kind_of lexeme ≡ kind = cc in
+    ap (λ k. record { kind = k; span = record { start = at; end = at + length (lexeme_bytes lexeme) } } ∷ []) e
 token_of_kind at byte_order_mark kind same = absurd (cc)
 token_of_kind at (blank byte) kind same = absurd (cc)
 token_of_kind at (comment bytes) kind same = absurd (cc)
@@ -71,8 +71,9 @@ lexed_more text at tokens read f begins within lexed more = record {
   pieces = lexed.pieces ++ begins.piece ∷ [];
   divided = rw (sym (drop-drop f.length at text)) (divides_more lexed.pieces text (drop at text) (drop f.length (drop at text)) begins.piece lexed.divided begins.cut begins.is begins.ends);
   told =
-    let place : 0 + extent lexed.pieces ≡ at = omega (arith, place_is lexed.pieces text at within lexed.divided) in
-    more ∙ ap (λ ts. ts ++ token_of at begins.piece) lexed.told ∙ sym (tokens_more 0 lexed.pieces begins.piece ∙ ap (λ n. tokens_from 0 lexed.pieces ++ token_of n begins.piece) place); }
+      let place : 0 + extent lexed.pieces ≡ at = omega (arith, place_is lexed.pieces text at within lexed.divided) in
+      more ∙ ap (λ ts. ts ++ token_of at begins.piece) lexed.told ∙ sym (tokens_more 0 lexed.pieces begins.piece ∙ ap (λ n. tokens_from 0 lexed.pieces ++ token_of n begins.piece) place);
+}
 
 -- what was found in the bytes from a place on
 begins_at : (text : List ℕ) (at : ℕ) (f : Front) → front_of (take (length text - at) (drop at text)) ≡ Some f → BeginsWith (drop at text) f
@@ -84,14 +85,32 @@ piece_kind_is p f kind told is = ap (λ g. g.kind) told ∙ is
 -- a piece that is ignored
 pub lexed_ignored : (text : List ℕ) (at : ℕ) (tokens : List Token) (f : Front) → at ≤ length text → LexedUpTo text at tokens → front_of (take (length text - at) (drop at text)) ≡ Some f → f.kind ≡ None → LexedUpTo text (at + f.length) tokens
 lexed_ignored text at tokens f within lexed found none =
-  let begins : BeginsWith (drop at text) f = begins_at text at f found in
-  lexed_more text at tokens tokens f begins within lexed
+    let begins : BeginsWith (drop at text) f = begins_at text at f found in
+    lexed_more text at tokens tokens f begins within lexed
     (sym (append-nil tokens) ∙ ap (λ ts. tokens ++ ts) (sym (token_of_none at begins.piece (piece_kind_is begins.piece f None begins.told none))))
 
 -- a piece that is a token
 pub lexed_token : (text : List ℕ) (at : ℕ) (tokens : List Token) (f : Front) (kind : TokenKind) → at ≤ length text → LexedUpTo text at tokens → front_of (take (length text - at) (drop at text)) ≡ Some f → f.kind ≡ Some kind → LexedUpTo text (at + f.length) (tokens ++ record { kind = kind; span = record { start = at; end = at + f.length } } ∷ [])
 lexed_token text at tokens f kind within lexed found some =
-  let begins : BeginsWith (drop at text) f = begins_at text at f found in
-  lexed_more text at tokens _ f begins within lexed
+    let begins : BeginsWith (drop at text) f = begins_at text at f found in
+    lexed_more text at tokens _ f begins within lexed
     (ap (λ ts. tokens ++ ts) (sym (token_of_kind at begins.piece kind (piece_kind_is begins.piece f (Some kind) begins.told some)
-      ∙ ap (λ n. record { kind = kind; span = record { start = at; end = at + n } } ∷ []) (ap (λ g. g.length) begins.told))))
+    ∙ ap (λ n. record { kind = kind; span = record { start = at; end = at + n } } ∷ []) (ap (λ g. g.length) begins.told))))
+
+-- a text that is read to its end
+pub lexed_whole : (bytes text : List ℕ) (at : ℕ) (tokens : List Token) → bytes ≡ text → length bytes ≤ at → LexedUpTo bytes at tokens → Lexes text tokens
+lexed_whole bytes text at tokens same end lexed = record {
+  pieces = lexed.pieces;
+  divided = rw (sym same) (subst (Divides lexed.pieces bytes) (drop_all at bytes end) lexed.divided);
+  told = lexed.told;
+}
+
+-- a text that is read up to a place where nothing is found
+pub bad_character_at : (bytes text : List ℕ) (at : ℕ) (tokens : List Token) → bytes ≡ text → at < length bytes → LexedUpTo bytes at tokens → front_of (take (length bytes - at) (drop at bytes)) ≡ None → IsBadCharacter text at
+bad_character_at bytes text at tokens same below lexed none =
+    subst (λ t. IsBadCharacter t at) same (record {
+      inside = below;
+      pieces = lexed.pieces;
+      divided = lexed.divided;
+      begins_none = begins_nothing (drop at bytes) (sym (ap front_of (rest_of bytes at)) ∙ none);
+    })

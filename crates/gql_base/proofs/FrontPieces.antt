@@ -126,7 +126,8 @@ begins_with_name c cs start = record {
   cut = ap (λ xs. c ∷ xs) (sym (take-append-drop (prefix_len is_name_continue cs) cs));
   is = (start, run_passes is_name_continue cs);
   ends = run_stops is_name_continue cs;
-  told = ap (λ n. front_with (Some Name) (suc n)) (run_length is_name_continue cs); }
+  told = ap (λ n. front_with (Some Name) (suc n)) (run_length is_name_continue cs);
+}
 
 begins_with_number : (c : ℕ) (cs : List ℕ) → is_ascii_digit c ≡ true → BeginsWith (c ∷ cs) (front_with (Some Int) (suc (prefix_len is_ascii_digit cs)))
 begins_with_number c cs start = record {
@@ -134,7 +135,8 @@ begins_with_number c cs start = record {
   cut = ap (λ xs. c ∷ xs) (sym (take-append-drop (prefix_len is_ascii_digit cs) cs));
   is = (start, run_passes is_ascii_digit cs);
   ends = run_stops is_ascii_digit cs;
-  told = ap (λ n. front_with (Some Int) (suc n)) (run_length is_ascii_digit cs); }
+  told = ap (λ n. front_with (Some Int) (suc n)) (run_length is_ascii_digit cs);
+}
 
 begins_with_comment : (c : ℕ) (cs : List ℕ) → (c == 35) ≡ true → BeginsWith (c ∷ cs) (front_with None (suc (prefix_len is_comment_byte cs)))
 begins_with_comment c cs start = record {
@@ -142,10 +144,11 @@ begins_with_comment c cs start = record {
   cut = rw (eqb-true c 35 start) (ap (λ xs. 35 ∷ xs) (sym (take-append-drop (prefix_len is_comment_byte cs) cs)));
   is = run_passes is_comment_byte cs;
   ends = run_stops is_comment_byte cs;
-  told = ap (λ n. front_with None (suc n)) (run_length is_comment_byte cs); }
+  told = ap (λ n. front_with None (suc n)) (run_length is_comment_byte cs);
+}
 
 begins_with_blank : (c : ℕ) (cs : List ℕ) → is_blank c ≡ true → BeginsWith (c ∷ cs) (front_with None 1)
-begins_with_blank c cs start = record { piece = blank c; cut = refl; is = start; ends = tt; told = refl; }
+begins_with_blank c cs start = record { piece = blank c; cut = refl; is = start; ends = tt; told = refl }
 
 no_byte_order_mark : (b : Bool) → (b && false) ≡ true → ⊥
 no_byte_order_mark true e = cc
@@ -158,15 +161,16 @@ begins_with_byte_order_mark : (c : ℕ) (cs : List ℕ) → is_byte_order_mark c
 begins_with_byte_order_mark c [] start = absurd (no_byte_order_mark (c == 239) start)
 begins_with_byte_order_mark c (d ∷ []) start = absurd (no_byte_order_mark (c == 239) start)
 begins_with_byte_order_mark c (d ∷ e ∷ es) start =
-  let told : (c ≡ 239) × (d ≡ 187) × (e ≡ 191) = byte_order_mark_bytes c d e start in
-  record { piece = byte_order_mark; cut = rw (told.0, told.1, told.2) refl; is = tt; ends = tt; told = refl; }
+    let told : (c ≡ 239) × (d ≡ 187) × (e ≡ 191) = byte_order_mark_bytes c d e start in
+    record { piece = byte_order_mark; cut = rw (told.0, told.1, told.2) refl; is = tt; ends = tt; told = refl }
 
 -- of two ways, that which is taken
 one_of : {A : Type 0} (P : A → Type 0) (b : Bool) (x : A) (others : Option A) (f : A) → (b ≡ true → P x) → (others ≡ Some f → P f) → (if b then Some x else others) ≡ Some f → P f
 one_of P b x others f here later found =
-  elim (cases_Bool b) [
-    inl t ↦ let taken : Some x ≡ Some f = rw t at found in let same : x ≡ f = cc in subst P same (here t)
-  | inr n ↦ later (rw n at found) ]
+    elim (cases_Bool b) [
+      | inl t ↦ let taken : Some x ≡ Some f = rw t at found in let same : x ≡ f = cc in subst P same (here t)
+      | inr n ↦ later (rw n at found)
+    ]
 
 IsMarkOf : ℕ → TokenKind → Type 0
 IsMarkOf c kind = mark_bytes kind ≡ c ∷ []
@@ -178,16 +182,16 @@ mark_when c n kind bytes same = rw (eqb-true c n same) bytes
 mark_of_is : (c : ℕ) (kind : TokenKind) → mark_of c ≡ Some kind → mark_bytes kind ≡ c ∷ []
 unfolding IsMarkOf
 mark_of_is c kind start =
-  one_of (IsMarkOf c) (c == 33) Bang _ kind (mark_when c 33 Bang refl) (
-  one_of (IsMarkOf c) (c == 40) OpenParen _ kind (mark_when c 40 OpenParen refl) (
-  one_of (IsMarkOf c) (c == 41) CloseParen _ kind (mark_when c 41 CloseParen refl) (
-  one_of (IsMarkOf c) (c == 58) Colon _ kind (mark_when c 58 Colon refl) (
-  one_of (IsMarkOf c) (c == 64) At _ kind (mark_when c 64 At refl) (
-  one_of (IsMarkOf c) (c == 91) OpenBracket _ kind (mark_when c 91 OpenBracket refl) (
-  one_of (IsMarkOf c) (c == 93) CloseBracket _ kind (mark_when c 93 CloseBracket refl) (
-  one_of (IsMarkOf c) (c == 123) OpenBrace _ kind (mark_when c 123 OpenBrace refl) (
-  one_of (IsMarkOf c) (c == 125) CloseBrace _ kind (mark_when c 125 CloseBrace refl) (
-  λ none. absurd (cc)))))))))) start
+    one_of (IsMarkOf c) (c == 33) Bang _ kind (mark_when c 33 Bang refl) (
+    one_of (IsMarkOf c) (c == 40) OpenParen _ kind (mark_when c 40 OpenParen refl) (
+    one_of (IsMarkOf c) (c == 41) CloseParen _ kind (mark_when c 41 CloseParen refl) (
+    one_of (IsMarkOf c) (c == 58) Colon _ kind (mark_when c 58 Colon refl) (
+    one_of (IsMarkOf c) (c == 64) At _ kind (mark_when c 64 At refl) (
+    one_of (IsMarkOf c) (c == 91) OpenBracket _ kind (mark_when c 91 OpenBracket refl) (
+    one_of (IsMarkOf c) (c == 93) CloseBracket _ kind (mark_when c 93 CloseBracket refl) (
+    one_of (IsMarkOf c) (c == 123) OpenBrace _ kind (mark_when c 123 OpenBrace refl) (
+    one_of (IsMarkOf c) (c == 125) CloseBrace _ kind (mark_when c 125 CloseBrace refl) (
+    λ none. absurd (cc)))))))))) start
 
 begins_with_mark : (c : ℕ) (cs : List ℕ) (kind : TokenKind) → mark_bytes kind ≡ c ∷ [] → BeginsWith (c ∷ cs) (front_with (Some kind) 1)
 begins_with_mark c cs kind bytes = record {
@@ -195,13 +199,14 @@ begins_with_mark c cs kind bytes = record {
   cut = ap (λ xs. xs ++ cs) (sym bytes);
   is = rw bytes (omega arith);
   ends = tt;
-  told = ap (λ xs. front_with (Some kind) (length xs)) bytes; }
+  told = ap (λ xs. front_with (Some kind) (length xs)) bytes;
+}
 
 begins_with_some_mark : (c : ℕ) (cs : List ℕ) (m : Option TokenKind) (f : Front) → mark_of c ≡ m → mark_front m ≡ Some f → BeginsWith (c ∷ cs) f
 begins_with_some_mark c cs None f is found = absurd (cc)
 begins_with_some_mark c cs (Some kind) f is found =
-  let same : front_with (Some kind) 1 ≡ f = cc in
-  subst (BeginsWith (c ∷ cs)) same (begins_with_mark c cs kind (mark_of_is c kind is))
+    let same : front_with (Some kind) 1 ≡ f = cc in
+    subst (BeginsWith (c ∷ cs)) same (begins_with_mark c cs kind (mark_of_is c kind is))
 
 one_more : (P : ℕ → Type 0) (n : ℕ) → P (suc n) → P (1 + n)
 one_more P n h = let e : suc n ≡ 1 + n = omega arith in subst P e h
@@ -211,15 +216,15 @@ pub begins_with : (text : List ℕ) (f : Front) → front_of text ≡ Some f →
 unfolding front_of
 begins_with [] f found = absurd (cc)
 begins_with (c ∷ cs) f found =
-  one_of (BeginsWith (c ∷ cs)) (is_name_start c) _ _ f
+    one_of (BeginsWith (c ∷ cs)) (is_name_start c) _ _ f
     (λ t. one_more (λ n. BeginsWith (c ∷ cs) (front_with (Some Name) n)) (prefix_len is_name_continue cs) (begins_with_name c cs t)) (
-  one_of (BeginsWith (c ∷ cs)) (is_ascii_digit c) _ _ f
+    one_of (BeginsWith (c ∷ cs)) (is_ascii_digit c) _ _ f
     (λ t. one_more (λ n. BeginsWith (c ∷ cs) (front_with (Some Int) n)) (prefix_len is_ascii_digit cs) (begins_with_number c cs t)) (
-  one_of (BeginsWith (c ∷ cs)) (is_blank c) _ _ f (begins_with_blank c cs) (
-  one_of (BeginsWith (c ∷ cs)) (c == 35) _ _ f
+    one_of (BeginsWith (c ∷ cs)) (is_blank c) _ _ f (begins_with_blank c cs) (
+    one_of (BeginsWith (c ∷ cs)) (c == 35) _ _ f
     (λ t. one_more (λ n. BeginsWith (c ∷ cs) (front_with None n)) (prefix_len is_comment_byte cs) (begins_with_comment c cs t)) (
-  one_of (BeginsWith (c ∷ cs)) (is_byte_order_mark c cs) _ _ f (begins_with_byte_order_mark c cs) (
-  begins_with_some_mark c cs (mark_of c) f refl))))) found
+    one_of (BeginsWith (c ∷ cs)) (is_byte_order_mark c cs) _ _ f (begins_with_byte_order_mark c cs) (
+    begins_with_some_mark c cs (mark_of c) f refl))))) found
 
 -- nothing is found in no text
 pub front_of_nothing : (text : List ℕ) → length text < 1 → None ≡ front_of text

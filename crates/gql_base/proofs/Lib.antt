@@ -2,3 +2,4 @@ pub mod Runs
 pub mod FrontPieces
 pub mod Divisions
 pub mod OneDivision
+pub mod Places

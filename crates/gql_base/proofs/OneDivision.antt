@@ -15,9 +15,10 @@ use Rattle.gql_base.proofs.Divisions.{extent, extent_is}
 
 -- where fronts of one length and what follows them make the same list, they are the same
 same_parts : (xs ys a b : List ℕ) → length xs ≡ length ys → xs ++ a ≡ ys ++ b → (xs ≡ ys) × (a ≡ b)
-same_parts xs ys a b long same =
-  ( sym (take_at xs a (length ys) long) ∙ ap (take (length ys)) same ∙ take_at ys b (length ys) refl
-  , sym (drop_at xs a (length ys) long) ∙ ap (drop (length ys)) same ∙ drop_at ys b (length ys) refl )
+same_parts xs ys a b long same = (
+  sym (take_at xs a (length ys) long) ∙ ap (take (length ys)) same ∙ take_at ys b (length ys) refl,
+  sym (drop_at xs a (length ys) long) ∙ ap (drop (length ys)) same ∙ drop_at ys b (length ys) refl,
+)
 
 -- the ignored piece that has these bytes
 ignored_with : List ℕ → Piece
@@ -66,11 +67,12 @@ piece_is (comment bytes) is = refl
 -- two pieces at the front of one text are the same, if each is as long as possible
 same_front : (p q : Piece) (a b : List ℕ) → IsPiece p → EndsBefore p a → IsPiece q → EndsBefore q b → piece_bytes p ++ a ≡ piece_bytes q ++ b → (p ≡ q) × (a ≡ b)
 same_front p q a b is_p ends_p is_q ends_q same =
-  let found : Some (outline p) ≡ Some (outline q) = sym (front_is p a is_p ends_p) ∙ ap front_of same ∙ front_is q b is_q ends_q in
-  let told : outline p ≡ outline q = cc in
-  let parts : (piece_bytes p ≡ piece_bytes q) × (a ≡ b) = same_parts (piece_bytes p) (piece_bytes q) a b (ap (λ f. f.length) told) same in
-  ( sym (piece_is p is_p) ∙ ap (λ k. piece_with k (piece_bytes p)) (ap (λ f. f.kind) told) ∙ ap (piece_with (piece_kind q)) parts.0 ∙ piece_is q is_q
-  , parts.1 )
+    let found : Some (outline p) ≡ Some (outline q) = sym (front_is p a is_p ends_p) ∙ ap front_of same ∙ front_is q b is_q ends_q in
+    let told : outline p ≡ outline q = cc in
+    let parts : (piece_bytes p ≡ piece_bytes q) × (a ≡ b) = same_parts (piece_bytes p) (piece_bytes q) a b (ap (λ f. f.length) told) same in (
+      sym (piece_is p is_p) ∙ ap (λ k. piece_with k (piece_bytes p)) (ap (λ f. f.kind) told) ∙ ap (piece_with (piece_kind q)) parts.0 ∙ piece_is q is_q,
+      parts.1,
+    )
 
 -- two divisions of one text are the same, if nothing begins where they end
 same_division : (ps qs : List Piece) (text other a b : List ℕ) → text ≡ other → Divides ps text a → Divides qs other b → BeginsNothing a → BeginsNothing b → (ps ≡ qs) × (a ≡ b)
@@ -79,9 +81,9 @@ same_division [] [] text other a b same d e stops_a stops_b = (refl, sym d ∙ s
 same_division [] (q ∷ qs) text other a b same d e stops_a stops_b = absurd (stops_a q e.0 e.2 (sym d ∙ same ∙ e.1))
 same_division (p ∷ ps) [] text other a b same d e stops_a stops_b = absurd (stops_b p d.0 d.2 (sym e ∙ sym same ∙ d.1))
 same_division (p ∷ ps) (q ∷ qs) text other a b same d e stops_a stops_b =
-  let first : (p ≡ q) × (d.0 ≡ e.0) = same_front p q d.0 e.0 d.2 d.3 e.2 e.3 (sym d.1 ∙ same ∙ e.1) in
-  let others : (ps ≡ qs) × (a ≡ b) = same_division ps qs d.0 e.0 a b first.1 d.4 e.4 stops_a stops_b in
-  (cc (first.0, others.0), others.1)
+    let first : (p ≡ q) × (d.0 ≡ e.0) = same_front p q d.0 e.0 d.2 d.3 e.2 e.3 (sym d.1 ∙ same ∙ e.1) in
+    let others : (ps ≡ qs) × (a ≡ b) = same_division ps qs d.0 e.0 a b first.1 d.4 e.4 stops_a stops_b in
+    (cc (first.0, others.0), others.1)
 
 -- nothing begins at the end
 at_end : BeginsNothing []
@@ -90,23 +92,23 @@ at_end = begins_nothing [] refl
 
 pub lexes_once : (text : List ℕ) (ts us : List Token) → Lexes text ts → Lexes text us → ts ≡ us
 lexes_once text ts us l m =
-  let same : (l.pieces ≡ m.pieces) × ([] ≡ []) = same_division l.pieces m.pieces text text [] [] refl l.divided m.divided at_end at_end in
-  l.told ∙ ap (tokens_from 0) same.0 ∙ sym m.told
+    let same : (l.pieces ≡ m.pieces) × ([] ≡ []) = same_division l.pieces m.pieces text text [] [] refl l.divided m.divided at_end at_end in
+    l.told ∙ ap (tokens_from 0) same.0 ∙ sym m.told
 
 pub has_lexemes_once : (text : List ℕ) (ls ms : List Lexeme) → HasLexemes text ls → HasLexemes text ms → ls ≡ ms
 has_lexemes_once text ls ms l m =
-  let same : (l.pieces ≡ m.pieces) × ([] ≡ []) = same_division l.pieces m.pieces text text [] [] refl l.divided m.divided at_end at_end in
-  l.told ∙ ap lexemes_of same.0 ∙ sym m.told
+    let same : (l.pieces ≡ m.pieces) × ([] ≡ []) = same_division l.pieces m.pieces text text [] [] refl l.divided m.divided at_end at_end in
+    l.told ∙ ap lexemes_of same.0 ∙ sym m.told
 
 pub no_bad_character : (text : List ℕ) (ts : List Token) (at : ℕ) → Lexes text ts → IsBadCharacter text at → ⊥
 no_bad_character text ts at l bad =
-  let same : (l.pieces ≡ bad.pieces) × ([] ≡ drop at text) = same_division l.pieces bad.pieces text text [] (drop at text) refl l.divided bad.divided at_end bad.begins_none in
-  omega (arith, bad.inside, ap length same.1, length-drop at text)
+    let same : (l.pieces ≡ bad.pieces) × ([] ≡ drop at text) = same_division l.pieces bad.pieces text text [] (drop at text) refl l.divided bad.divided at_end bad.begins_none in
+    omega (arith, bad.inside, ap length same.1, length-drop at text)
 
 pub one_bad_character : (text : List ℕ) (at place : ℕ) → IsBadCharacter text at → IsBadCharacter text place → at ≡ place
 one_bad_character text at place l m =
-  let same : (l.pieces ≡ m.pieces) × (drop at text ≡ drop place text) = same_division l.pieces m.pieces text text (drop at text) (drop place text) refl l.divided m.divided l.begins_none m.begins_none in
-  omega (arith, l.inside, m.inside, ap length same.1, length-drop at text, length-drop place text)
+    let same : (l.pieces ≡ m.pieces) × (drop at text ≡ drop place text) = same_division l.pieces m.pieces text text (drop at text) (drop place text) refl l.divided m.divided l.begins_none m.begins_none in
+    omega (arith, l.inside, m.inside, ap length same.1, length-drop at text, length-drop place text)
 
 -- A text is divided up to a place where nothing begins.
 record Divided (text : List ℕ) : Type 0 where
@@ -127,14 +129,14 @@ not_empty (comment bytes) is = omega arith
 
 divided_after : (text : List ℕ) (f : Front) (begins : BeginsWith text f) → Divided (drop f.length text) → Divided text
 unfolding Divides
-divided_after text f begins d = record { pieces = begins.piece ∷ d.pieces; rest = d.rest; divided = (drop f.length text, begins.cut, begins.is, begins.ends, d.divided); stops = d.stops; }
+divided_after text f begins d = record { pieces = begins.piece ∷ d.pieces; rest = d.rest; divided = (drop f.length text, begins.cut, begins.is, begins.ends, d.divided); stops = d.stops }
 
 shorter : (text : List ℕ) (f : Front) → BeginsWith text f → length (drop f.length text) < length text
 shorter text f begins = omega (arith, ap length begins.cut, length-append (piece_bytes begins.piece) (drop f.length text), not_empty begins.piece begins.is)
 
 divided_here : (text : List ℕ) → front_of text ≡ None → Divided text
 unfolding Divides
-divided_here text none = record { pieces = []; rest = text; divided = refl; stops = begins_nothing text none; }
+divided_here text none = record { pieces = []; rest = text; divided = refl; stops = begins_nothing text none }
 
 front_of_empty : front_of [] ≡ None
 unfolding front_of
@@ -143,8 +145,8 @@ front_of_empty = refl
 divided_step : (n : ℕ) (text : List ℕ) (found : Option Front) → length text ≤ suc n → front_of text ≡ found → ((others : List ℕ) → length others ≤ n → Divided others) → Divided text
 divided_step n text None short is shorter_ones = divided_here text is
 divided_step n text (Some f) short is shorter_ones =
-  let begins : BeginsWith text f = begins_with text f is in
-  divided_after text f begins (shorter_ones (drop f.length text) (omega (arith, short, shorter text f begins)))
+    let begins : BeginsWith text f = begins_with text f is in
+    divided_after text f begins (shorter_ones (drop f.length text) (omega (arith, short, shorter text f begins)))
 
 divided_by : (n : ℕ) (text : List ℕ) → length text ≤ n → Divided text
 divided_by zero [] short = divided_here [] front_of_empty
@@ -156,19 +158,23 @@ rest_is : (ps : List Piece) (text rest : List ℕ) → Divides ps text rest → 
 unfolding Divides extent
 rest_is [] text rest d = d
 rest_is (p ∷ ps) text rest d =
-  sym (drop-drop (extent ps) (length (piece_bytes p)) text) ∙ ap (drop (extent ps)) (ap (drop (length (piece_bytes p))) d.1 ∙ drop_at (piece_bytes p) d.0 (length (piece_bytes p)) refl) ∙ rest_is ps d.0 rest d.4
+    sym (drop-drop (extent ps) (length (piece_bytes p)) text) ∙ ap (drop (extent ps)) (ap (drop (length (piece_bytes p))) d.1 ∙ drop_at (piece_bytes p) d.0 (length (piece_bytes p)) refl) ∙ rest_is ps d.0 rest d.4
 
 lexes_or_not : (text : List ℕ) (ps : List Piece) (rest : List ℕ) → Divides ps text rest → BeginsNothing rest → ((ts : List Token) × Lexes text ts) ⊎ ((at : ℕ) × IsBadCharacter text at)
-lexes_or_not text ps [] d stops = inl (tokens_from 0 ps, record { pieces = ps; divided = d; told = refl; })
+lexes_or_not text ps [] d stops = inl (tokens_from 0 ps, record { pieces = ps; divided = d; told = refl })
 lexes_or_not text ps (c ∷ cs) d stops =
-  let place : drop (extent ps) text ≡ c ∷ cs = rest_is ps text (c ∷ cs) d in
-  inr (extent ps, record {
-    inside = omega (arith, extent_is ps text (c ∷ cs) d);
-    pieces = ps;
-    divided = subst (Divides ps text) (sym place) d;
-    begins_none = subst BeginsNothing (sym place) stops; })
+    let place : drop (extent ps) text ≡ c ∷ cs = rest_is ps text (c ∷ cs) d in
+    inr (
+      extent ps,
+      record {
+        inside = omega (arith, extent_is ps text (c ∷ cs) d);
+        pieces = ps;
+        divided = subst (Divides ps text) (sym place) d;
+        begins_none = subst BeginsNothing (sym place) stops;
+      },
+    )
 
 pub lexes_or_has_bad_character : (text : List ℕ) → ((ts : List Token) × Lexes text ts) ⊎ ((at : ℕ) × IsBadCharacter text at)
 lexes_or_has_bad_character text =
-  let d : Divided text = divided_by (length text) text (omega arith) in
-  lexes_or_not text d.pieces d.rest d.divided d.stops
+    let d : Divided text = divided_by (length text) text (omega arith) in
+    lexes_or_not text d.pieces d.rest d.divided d.stops

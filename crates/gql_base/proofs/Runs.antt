@@ -11,13 +11,13 @@ pub run_is_whole : (p : ℕ → Bool) (xs rest : List ℕ) → AllPass p xs → 
 run_is_whole p [] [] all ends = refl
 run_is_whole p [] (c ∷ cs) all ends = rw ends refl
 run_is_whole p (x ∷ xs) rest all ends =
-  rw (All-head (λ c. p c ≡ true) x xs all) (rw (run_is_whole p xs rest (All-tail (λ c. p c ≡ true) x xs all) ends) (omega arith))
+    rw (All-head (λ c. p c ≡ true) x xs all) (rw (run_is_whole p xs rest (All-tail (λ c. p c ≡ true) x xs all) ends) (omega arith))
 
 -- what a run holds passes
 pub run_passes : (p : ℕ → Bool) (xs : List ℕ) → AllPass p (take (prefix_len p xs) xs)
 run_passes p xs = λ k d below.
-  let inside : k < prefix_len p xs = omega (arith, below, length-take (prefix_len p xs) xs, prefix_len-le-length p xs) in
-  rw (get_or-take (prefix_len p xs) xs k d inside) (prefix_len_passes p xs k d inside)
+    let inside : k < prefix_len p xs = omega (arith, below, length-take (prefix_len p xs) xs, prefix_len-le-length p xs) in
+    rw (get_or-take (prefix_len p xs) xs k d inside) (prefix_len_passes p xs k d inside)
 
 begins_without : (p : ℕ → Bool) (n : ℕ) (xs : List ℕ) → (n < length xs → p (get_or xs n 0) ≡ false) → BeginsWithout p (drop n xs)
 begins_without p zero [] stops = tt

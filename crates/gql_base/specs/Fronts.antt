@@ -42,12 +42,12 @@ is_byte_order_mark c cs = (c == 239) && ends_byte_order_mark cs
 -- the piece that begins with a byte: the kind of a token, none for what is ignored, and its length in bytes
 abbrev pub piece_from : ℕ → List ℕ → Option Front
 piece_from c cs =
-  if is_name_start c then Some (front_with (Some Name) (1 + prefix_len is_name_continue cs))
-  else (if is_ascii_digit c then Some (front_with (Some Int) (1 + prefix_len is_ascii_digit cs))
-  else (if is_blank c then Some (front_with None 1)
-  else (if c == 35 then Some (front_with None (1 + prefix_len is_comment_byte cs))
-  else (if is_byte_order_mark c cs then Some (front_with None 3)
-  else mark_front (mark_of c)))))
+    if is_name_start c then Some (front_with (Some Name) (1 + prefix_len is_name_continue cs))
+    else (if is_ascii_digit c then Some (front_with (Some Int) (1 + prefix_len is_ascii_digit cs))
+    else (if is_blank c then Some (front_with None 1)
+    else (if c == 35 then Some (front_with None (1 + prefix_len is_comment_byte cs))
+    else (if is_byte_order_mark c cs then Some (front_with None 3)
+    else mark_front (mark_of c)))))
 
 -- the piece at the front of a text
 unfoldable pub front_of : List ℕ → Option Front

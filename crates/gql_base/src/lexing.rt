@@ -169,18 +169,36 @@ fn piece_from(first: u8, rest: &[u8]) -> Option<Front>
     ensures within { IfSome result (λ front. (0 < front.length) × (front.length ≤ 1 + length rest.now)) }
 {
     if is_name_start(first) {
-        Some(Front { kind: Some(TokenKind::Name), length: 1 + name_length(rest) })
+        Some(Front {
+            kind: Some(TokenKind::Name),
+            length: 1 + name_length(rest),
+        })
     } else if first.is_ascii_digit() {
-        Some(Front { kind: Some(TokenKind::Int), length: 1 + digits_length(rest) })
+        Some(Front {
+            kind: Some(TokenKind::Int),
+            length: 1 + digits_length(rest),
+        })
     } else if is_blank(first) {
-        Some(Front { kind: None, length: 1 })
+        Some(Front {
+            kind: None,
+            length: 1,
+        })
     } else if first == b'#' {
-        Some(Front { kind: None, length: 1 + comment_length(rest) })
+        Some(Front {
+            kind: None,
+            length: 1 + comment_length(rest),
+        })
     } else if is_byte_order_mark(first, rest) {
-        Some(Front { kind: None, length: 3 })
+        Some(Front {
+            kind: None,
+            length: 3,
+        })
     } else {
         match mark_of(first) {
-            Some(kind) => Some(Front { kind: Some(kind), length: 1 }),
+            Some(kind) => Some(Front {
+                kind: Some(kind),
+                length: 1,
+            }),
             None => None,
         }
     }

@@ -7,4 +7,4 @@ returns-in-empty-clause-piece c = front_of_nothing c.args.bytes.now c.in-empty.l
 
 pub returns-in-len1-up-clause-piece : goal.returns-in-len1-up-clause-piece
 returns-in-len1-up-clause-piece c =
-  c.piece_from.ensures.piece ∙ front_of_some c.args.bytes.now (omega (arith, c.in-len1-up.len_at_least))
+    c.piece_from.ensures.piece ∙ front_of_some c.args.bytes.now (omega (arith, c.in-len1-up.len_at_least))

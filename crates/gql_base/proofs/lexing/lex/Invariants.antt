@@ -7,7 +7,8 @@ use Rattle.gql_base.proofs.lexing.lex.Given as goal
 abbrev pub invariant-loop-at : goal.invariant-loop-at
 invariant-loop-at l = record {
   within : l.at ≤ length l.bytes;
-  lexed : LexedUpTo l.bytes l.at l.tokens.items; }
+  lexed : LexedUpTo l.bytes l.at l.tokens.items;
+}
 
 abbrev pub decreases-loop-at : goal.decreases-loop-at
 decreases-loop-at l = length l.bytes - l.at
