@@ -1,6 +1,6 @@
 -- Where the tokens of a text lie.
 use Rattle.std.proofs.Common.{◌≡◌, ℕ, zero, suc, ◌+◌, ◌-◌, ◌<◌, ◌≤◌, ◌⊎◌, inl, inr, ◌==◌, ◌&&◌, ◌||◌, nat_le, nat_lt, Bool, true, false, if◌then◌else◌, List, [], ◌∷◌, ◌++◌, length, take, drop, get_or, map, slice_range, IsTrue, IsUtf8, refl, sym, ap, ◌∙◌, arith, subst}
-use Rattle.std.specs.List.{AllPass}
+use Rattle.std.specs.List.{All, AllPass}
 use Rattle.std.specs.Char.{is_ascii_digit}
 use Rattle.std.proofs.lemmas.Bool.{cases_lt}
 use Rattle.std.proofs.lemmas.Bool.Decides.{nat_tests}
@@ -170,3 +170,25 @@ lexemes_from (comment bytes ∷ ps) text at utf8 within d = lexemes_after ps tex
 
 pub has_lexemes : (text : List ℕ) (ts : List Token) → IsUtf8 text → Lexes text ts → HasLexemes text (map (lexeme_of text) ts)
 has_lexemes text ts utf8 l = record { pieces = l.pieces; divided = l.divided; told = ap (map (lexeme_of text)) l.told ∙ lexemes_from l.pieces text 0 utf8 (omega arith) l.divided }
+
+-- what has lexemes has tokens that are these lexemes
+pub has_tokens : (text : List ℕ) (lexemes : List Lexeme) → IsUtf8 text → HasLexemes text lexemes → (ts : List Token) × Lexes text ts × (map (lexeme_of text) ts ≡ lexemes)
+has_tokens text lexemes utf8 h =
+  (tokens_from 0 h.pieces, record { pieces = h.pieces; divided = h.divided; told = refl; }, lexemes_from h.pieces text 0 utf8 (omega arith) h.divided ∙ sym h.told)
+
+LiesBelow : ℕ → Token → Type 0
+LiesBelow to t = (t.span.start < t.span.end) × (t.span.end ≤ to)
+
+order_ends : (from to : ℕ) (ts : List Token) → AreInOrder from to ts → from ≤ to
+unfolding AreInOrder
+order_ends from to [] order = order
+order_ends from to (t ∷ ts) order = omega (arith, order.0, order.1, order_ends t.span.end to ts order.2)
+
+order_within : (from to : ℕ) (ts : List Token) → AreInOrder from to ts → All (LiesBelow to) ts
+unfolding AreInOrder LiesBelow
+order_within from to [] order = λ k d below. absurd (omega (arith, below))
+order_within from to (t ∷ ts) order = All-cons (LiesBelow to) t ts (order.1, order_ends t.span.end to ts order.2) (order_within t.span.end to ts order.2)
+
+pub lie_within : (text : List ℕ) (ts : List Token) → Lexes text ts → All (λ t. (t.span.start < t.span.end) × (t.span.end ≤ length text)) ts
+unfolding LiesBelow
+lie_within text ts l = order_within 0 (length text) ts (in_order text ts l)

@@ -60,6 +60,11 @@ abbrev pub Gives : List Token → Result (Vec Token Global) LexFault → Type 0
 Gives tokens (Ok found) = found.items ≡ tokens
 Gives tokens (Err fault) = fault ≡ Memory
 
+-- The answer is tokens that are these lexemes, unless memory ran out.
+abbrev pub GivesLexemes : List ℕ → List Lexeme → Result (Vec Token Global) LexFault → Type 0
+GivesLexemes text lexemes (Ok found) = map (lexeme_of text) found.items ≡ lexemes
+GivesLexemes text lexemes (Err fault) = fault ≡ Memory
+
 -- The answer is a bad character at this place, unless memory ran out.
 abbrev pub RefusesAt : ℕ → Result (Vec Token Global) LexFault → Type 0
 RefusesAt at (Ok found) = ⊥

@@ -7,7 +7,8 @@ ghost use Rattle.std.specs.Bool.{OnTrue};
 ghost use Rattle.gql_base.specs.declared.token.Token.{Token};
 ghost use Rattle.gql_base.specs.Characters.{is_name_start, is_name_continue, is_blank, is_comment_byte};
 ghost use Rattle.gql_base.specs.Fronts.{front_of, piece_from, mark_of, is_byte_order_mark, ends_byte_order_mark};
-ghost use Rattle.gql_base.specs.Tokens.{Lexes, HasLexemes, IsBadCharacter, AreInOrder, IsFaultOf, Gives, RefusesAt, lexeme_of};
+ghost use Rattle.gql_base.specs.Pieces.{Lexeme};
+ghost use Rattle.gql_base.specs.Tokens.{Lexes, HasLexemes, IsBadCharacter, AreInOrder, IsFaultOf, Gives, GivesLexemes, RefusesAt, lexeme_of};
 
 use crate::token::{Span, Token, TokenKind};
 use std::alloc::{AllocError, AllocFailed, Global};
@@ -41,6 +42,7 @@ pub fn lex(alloc: Global, text: &str) -> Result<Vec<Token>, LexFault>
     ensures fault { IfErr result (λ fault. IsFaultOf text.now fault) }
     ensures refused { (at : ℕ) → IsBadCharacter text.now at → RefusesAt at result }
     ensures lexemes { IfOk result (λ tokens. HasLexemes text.now (map (lexeme_of text.now) tokens.items)) }
+    ensures only_lexemes { (lexemes : List Lexeme) → HasLexemes text.now lexemes → GivesLexemes text.now lexemes result }
     ensures in_order { IfOk result (λ tokens. AreInOrder 0 (length text.now) tokens.items) }
 {
     let bytes = text.as_bytes();

@@ -1,10 +1,10 @@
-use Rattle.std.proofs.Common.{arith, ℕ, ◌≡◌, ◌+◌, ◌-◌, ◌∙◌, ◌++◌, ◌∷◌, [], ap, sym, subst, length, take, drop}
+use Rattle.std.proofs.Common.{arith, ℕ, ◌≡◌, ◌+◌, ◌-◌, ◌∙◌, ◌++◌, ◌∷◌, [], ap, sym, subst, length, take, drop, List, map}
 use Rattle.std.proofs.lemmas.List.{length-take, length-drop}
 use Rattle.gql_base.specs.declared.token.Token.{Token}
-use Rattle.gql_base.specs.Tokens.{Lexes, IsBadCharacter}
+use Rattle.gql_base.specs.Tokens.{Lexes, lexeme_of, IsBadCharacter}
 use Rattle.gql_base.proofs.Divisions.{lexed_at_start, lexed_token, lexed_ignored, LexedUpTo, lexed_whole, bad_character_at}
-use Rattle.gql_base.proofs.OneDivision.{lexes_once, no_bad_character, one_bad_character}
-use Rattle.gql_base.proofs.Places.{in_order, has_lexemes}
+use Rattle.gql_base.proofs.OneDivision.{lexes_once, has_lexemes_once, no_bad_character, one_bad_character}
+use Rattle.gql_base.proofs.Places.{in_order, has_lexemes, has_tokens}
 use Rattle.gql_base.proofs.lexing.lex.Goals as goal
 
 pub loop-at-init : goal.loop-at-init
@@ -57,6 +57,15 @@ returns-clause-refused c = λ at here. no_bad_character c.args.text.now c.loop-a
 
 pub returns-clause-lexemes : goal.returns-clause-lexemes
 returns-clause-lexemes c = has_lexemes c.args.text.now c.loop-at.tokens.items c.utf8.text (whole c)
+
+pub returns-in_default-clause-only_lexemes : goal.returns-in_default-clause-only_lexemes
+returns-in_default-clause-only_lexemes c = λ lexemes has.
+  let tokens : (ts : List Token) × Lexes c.args.text.now ts × (map (lexeme_of c.args.text.now) ts ≡ lexemes) = has_tokens c.args.text.now lexemes c.utf8.text has in
+  absurd (no_bad_character c.args.text.now tokens.0 c.loop-at.at tokens.1 (bad c))
+
+pub returns-clause-only_lexemes : goal.returns-clause-only_lexemes
+returns-clause-only_lexemes c = λ lexemes has.
+  has_lexemes_once c.args.text.now (map (lexeme_of c.args.text.now) c.loop-at.tokens.items) lexemes (has_lexemes c.args.text.now c.loop-at.tokens.items c.utf8.text (whole c)) has
 
 pub returns-clause-in_order : goal.returns-clause-in_order
 returns-clause-in_order c = in_order c.args.text.now c.loop-at.tokens.items (whole c)

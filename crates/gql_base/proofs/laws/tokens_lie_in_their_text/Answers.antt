@@ -1,0 +1,8 @@
+use Rattle.gql_base.proofs.Places.{in_order, lie_within}
+use Rattle.gql_base.proofs.laws.tokens_lie_in_their_text.Goals as goal
+
+pub returns-clause-in_order : goal.returns-clause-in_order
+returns-clause-in_order c = in_order
+
+pub returns-clause-within : goal.returns-clause-within
+returns-clause-within c = lie_within
