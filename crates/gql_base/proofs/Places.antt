@@ -174,7 +174,7 @@ has_lexemes text ts utf8 l = record { pieces = l.pieces; divided = l.divided; to
 -- what has lexemes has tokens that are these lexemes
 pub has_tokens : (text : List ℕ) (lexemes : List Lexeme) → IsUtf8 text → HasLexemes text lexemes → (ts : List Token) × Lexes text ts × (map (lexeme_of text) ts ≡ lexemes)
 has_tokens text lexemes utf8 h =
-  (tokens_from 0 h.pieces, record { pieces = h.pieces; divided = h.divided; told = refl; }, lexemes_from h.pieces text 0 utf8 (omega arith) h.divided ∙ sym h.told)
+    (tokens_from 0 h.pieces, record { pieces = h.pieces; divided = h.divided; told = refl }, lexemes_from h.pieces text 0 utf8 (omega arith) h.divided ∙ sym h.told)
 
 LiesBelow : ℕ → Token → Type 0
 LiesBelow to t = (t.span.start < t.span.end) × (t.span.end ≤ to)

@@ -60,12 +60,12 @@ returns-clause-lexemes c = has_lexemes c.args.text.now c.loop-at.tokens.items c.
 
 pub returns-in_default-clause-only_lexemes : goal.returns-in_default-clause-only_lexemes
 returns-in_default-clause-only_lexemes c = λ lexemes has.
-  let tokens : (ts : List Token) × Lexes c.args.text.now ts × (map (lexeme_of c.args.text.now) ts ≡ lexemes) = has_tokens c.args.text.now lexemes c.utf8.text has in
-  absurd (no_bad_character c.args.text.now tokens.0 c.loop-at.at tokens.1 (bad c))
+    let tokens : (ts : List Token) × Lexes c.args.text.now ts × (map (lexeme_of c.args.text.now) ts ≡ lexemes) = has_tokens c.args.text.now lexemes c.utf8.text has in
+    absurd (no_bad_character c.args.text.now tokens.0 c.loop-at.at tokens.1 (bad c))
 
 pub returns-clause-only_lexemes : goal.returns-clause-only_lexemes
 returns-clause-only_lexemes c = λ lexemes has.
-  has_lexemes_once c.args.text.now (map (lexeme_of c.args.text.now) c.loop-at.tokens.items) lexemes (has_lexemes c.args.text.now c.loop-at.tokens.items c.utf8.text (whole c)) has
+    has_lexemes_once c.args.text.now (map (lexeme_of c.args.text.now) c.loop-at.tokens.items) lexemes (has_lexemes c.args.text.now c.loop-at.tokens.items c.utf8.text (whole c)) has
 
 pub returns-clause-in_order : goal.returns-clause-in_order
 returns-clause-in_order c = in_order c.args.text.now c.loop-at.tokens.items (whole c)
