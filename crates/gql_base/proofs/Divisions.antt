@@ -1,15 +1,14 @@
 -- What holds of a text that is divided into pieces.
-use Rattle.std.proofs.Common.{◌≡◌, ℕ, zero, suc, ◌+◌, ◌-◌, ◌<◌, ◌≤◌, ◌⊎◌, inl, inr, List, [], ◌∷◌, ◌++◌, length, take, drop, get_or, map, refl, sym, ap, ◌∙◌, arith, Option, Some, None, subst}
-use Rattle.std.proofs.lemmas.List.{append-nil, length-append, length-drop, drop-drop, drop_at, drop_all, take_at, append_assoc}
+use Rattle.std.proofs.Common.{◌≡◌, ℕ, ◌+◌, ◌-◌, ◌<◌, ◌≤◌, List, [], ◌∷◌, ◌++◌, length, take, drop, refl, sym, ap, ◌∙◌, arith, Option, Some, None, subst}
+use Rattle.std.proofs.lemmas.List.{append-nil, length-append, length-drop, drop-drop, drop_all, append_assoc}
 use Rattle.gql_base.specs.declared.lexing.Front.{Front}
 use Rattle.gql_base.specs.declared.token.Token.{Token}
 use Rattle.gql_base.specs.declared.token.TokenKind.{TokenKind}
-use Rattle.gql_base.specs.declared.token.TokenKind.TheVariants.{Name, Int, Str, BlockStr, Bang, Dollar, Amp, OpenParen, CloseParen, Spread, Colon, Equals, At, OpenBracket, CloseBracket, OpenBrace, Pipe, CloseBrace}
-use Rattle.gql_base.specs.Pieces.{Lexeme, word, number, mark, Piece, token, byte_order_mark, blank, comment, mark_bytes, lexeme_bytes, kind_of, piece_bytes, IsLexeme, IsPiece, EndsBefore, Divides, BeginsNothing, token_at, tokens_from, token_of, lexeme_in, lexemes_of}
-use Rattle.gql_base.specs.Tokens.{Lexes, HasLexemes, IsBadCharacter, AreInOrder}
-use Rattle.gql_base.specs.Fronts.{front_with, front_of}
+use Rattle.gql_base.specs.Pieces.{Piece, token, byte_order_mark, blank, comment, lexeme_bytes, kind_of, piece_bytes, IsPiece, EndsBefore, Divides, tokens_from, token_of}
+use Rattle.gql_base.specs.Tokens.{Lexes, IsBadCharacter}
+use Rattle.gql_base.specs.Fronts.{front_of}
 use Rattle.gql_base.proofs.Runs.{rest_of}
-use Rattle.gql_base.proofs.FrontPieces.{piece_kind, outline, front_is, begins_nothing, BeginsWith, begins_with}
+use Rattle.gql_base.proofs.FrontPieces.{piece_kind, outline, begins_nothing, BeginsWith, begins_with}
 
 -- All before the place is pieces, of which these are the tokens.
 pub record LexedUpTo (text : List ℕ) (at : ℕ) (tokens : List Token) : Type 0 where

@@ -1,18 +1,17 @@
 -- The piece that is found at the front of a text is the piece that begins there.
-use Rattle.std.proofs.Common.{◌≡◌, ℕ, zero, suc, ◌+◌, ◌-◌, ◌<◌, ◌⊎◌, inl, inr, Bool, true, false, ◌==◌, ◌&&◌, ◌||◌, if◌then◌else◌, List, [], ◌∷◌, ◌++◌, length, take, drop, get_or, refl, sym, ap, ◌∙◌, arith, Option, Some, None, IsTrue, subst}
-use Rattle.std.specs.List.{AllPass, prefix_len}
+use Rattle.std.proofs.Common.{◌≡◌, ℕ, suc, ◌+◌, ◌-◌, ◌<◌, inl, inr, Bool, true, false, ◌==◌, ◌&&◌, if◌then◌else◌, List, [], ◌∷◌, ◌++◌, length, take, drop, get_or, refl, sym, ap, ◌∙◌, arith, Option, Some, None, subst}
+use Rattle.std.specs.List.{prefix_len}
 use Rattle.std.specs.Char.{is_ascii_digit}
 use Rattle.std.proofs.lemmas.Bool.{cases_Bool, eqb-true}
 use Rattle.std.proofs.lemmas.Bool.Decides.{nat_tests}
-use Rattle.std.proofs.lemmas.List.{take-append-drop, length-take, length-append}
+use Rattle.std.proofs.lemmas.List.{take-append-drop, length-take}
 use Rattle.std.proofs.lemmas.List.Sums.{prefix_len-le-length}
-use Rattle.std.proofs.Math.Seq.{drop-append_seam, take-append_seam}
 use Rattle.gql_base.specs.declared.lexing.Front.{Front}
 use Rattle.gql_base.specs.declared.token.TokenKind.{TokenKind}
 use Rattle.gql_base.specs.declared.token.TokenKind.TheVariants.{Name, Int, Str, BlockStr, Bang, Dollar, Amp, OpenParen, CloseParen, Spread, Colon, Equals, At, OpenBracket, CloseBracket, OpenBrace, Pipe, CloseBrace}
 use Rattle.gql_base.specs.Characters.{is_name_start, is_name_continue, is_blank, is_comment_byte}
-use Rattle.gql_base.specs.Pieces.{Lexeme, word, number, mark, Piece, token, byte_order_mark, blank, comment, mark_bytes, lexeme_bytes, kind_of, piece_bytes, IsName, IsNumber, IsLexeme, IsPiece, BeginsWithout, EndsBefore, BeginsNothing}
-use Rattle.gql_base.specs.Fronts.{mark_of, ends_byte_order_mark, is_byte_order_mark, piece_from, front_with, mark_front, front_of}
+use Rattle.gql_base.specs.Pieces.{word, number, mark, Piece, token, byte_order_mark, blank, comment, mark_bytes, kind_of, piece_bytes, IsPiece, EndsBefore, BeginsNothing}
+use Rattle.gql_base.specs.Fronts.{mark_of, is_byte_order_mark, piece_from, front_with, mark_front, front_of}
 use Rattle.gql_base.proofs.Runs.{run_is_whole, run_passes, run_stops, rest_of}
 
 abbrev pub piece_kind : Piece → Option TokenKind

@@ -1,15 +1,15 @@
 -- A text is divided in one way, and up to its end or to one character that begins nothing.
-use Rattle.std.proofs.Common.{◌≡◌, ℕ, zero, suc, ◌+◌, ◌-◌, ◌<◌, ◌≤◌, ◌⊎◌, inl, inr, ◌==◌, Bool, true, false, if◌then◌else◌, List, [], ◌∷◌, ◌++◌, length, take, drop, get_or, map, refl, sym, ap, ◌∙◌, arith, Option, Some, None, subst}
+use Rattle.std.proofs.Common.{◌≡◌, ℕ, zero, suc, ◌<◌, ◌≤◌, ◌⊎◌, inl, inr, ◌==◌, true, false, if◌then◌else◌, List, [], ◌∷◌, ◌++◌, length, take, drop, refl, sym, ap, ◌∙◌, arith, Option, Some, None, subst}
 use Rattle.std.proofs.lemmas.Bool.Decides.{nat_tests}
-use Rattle.std.proofs.lemmas.List.{append-nil, length-append, length-drop, drop-drop, drop_at, take_at}
+use Rattle.std.proofs.lemmas.List.{length-append, length-drop, drop-drop, drop_at, take_at}
 use Rattle.gql_base.specs.declared.lexing.Front.{Front}
 use Rattle.gql_base.specs.declared.token.Token.{Token}
 use Rattle.gql_base.specs.declared.token.TokenKind.{TokenKind}
 use Rattle.gql_base.specs.declared.token.TokenKind.TheVariants.{Name, Int, Str, BlockStr, Bang, Dollar, Amp, OpenParen, CloseParen, Spread, Colon, Equals, At, OpenBracket, CloseBracket, OpenBrace, Pipe, CloseBrace}
 use Rattle.gql_base.specs.Characters.{is_blank}
-use Rattle.gql_base.specs.Pieces.{Lexeme, word, number, mark, Piece, token, byte_order_mark, blank, comment, mark_bytes, lexeme_bytes, kind_of, piece_bytes, IsLexeme, IsPiece, EndsBefore, Divides, BeginsNothing, token_at, tokens_from, token_of, lexeme_in, lexemes_of}
+use Rattle.gql_base.specs.Pieces.{Lexeme, word, number, mark, Piece, token, byte_order_mark, blank, comment, piece_bytes, IsPiece, EndsBefore, Divides, BeginsNothing, tokens_from, lexemes_of}
 use Rattle.gql_base.specs.Tokens.{Lexes, HasLexemes, IsBadCharacter}
-use Rattle.gql_base.specs.Fronts.{front_with, front_of}
+use Rattle.gql_base.specs.Fronts.{front_of}
 use Rattle.gql_base.proofs.FrontPieces.{piece_kind, outline, front_is, begins_nothing, BeginsWith, begins_with}
 use Rattle.gql_base.proofs.Divisions.{extent, extent_is}
 

@@ -1,17 +1,17 @@
 -- Where the tokens of a text lie.
-use Rattle.std.proofs.Common.{◌≡◌, ℕ, zero, suc, ◌+◌, ◌-◌, ◌<◌, ◌≤◌, ◌⊎◌, inl, inr, ◌==◌, ◌&&◌, ◌||◌, nat_le, nat_lt, Bool, true, false, if◌then◌else◌, List, [], ◌∷◌, ◌++◌, length, take, drop, get_or, map, slice_range, IsTrue, IsUtf8, refl, sym, ap, ◌∙◌, arith, subst}
-use Rattle.std.specs.List.{All, AllPass}
+use Rattle.std.proofs.Common.{◌≡◌, ℕ, zero, suc, ◌+◌, ◌-◌, ◌<◌, ◌≤◌, inl, inr, ◌&&◌, nat_le, Bool, true, if◌then◌else◌, List, [], ◌∷◌, ◌++◌, length, take, drop, get_or, map, IsUtf8, refl, sym, ap, ◌∙◌, arith, subst}
+use Rattle.std.specs.List.{All}
 use Rattle.std.specs.Char.{is_ascii_digit}
 use Rattle.std.proofs.lemmas.Bool.{cases_lt}
 use Rattle.std.proofs.lemmas.Bool.Decides.{nat_tests}
-use Rattle.std.proofs.lemmas.List.{get_or_append_left, append-nil, length-append, length-drop, drop-drop, drop_at, take_at, get_or-drop}
+use Rattle.std.proofs.lemmas.List.{get_or_append_left, length-append, length-drop, drop-drop, drop_at, take_at, get_or-drop}
 use Rattle.std.proofs.lemmas.List.Elements.{All-cons}
 use Rattle.std.proofs.lemmas.Str.{lead_after_ascii}
 use Rattle.gql_base.specs.declared.token.Token.{Token}
 use Rattle.gql_base.specs.declared.token.TokenKind.{TokenKind}
 use Rattle.gql_base.specs.declared.token.TokenKind.TheVariants.{Name, Int, Str, BlockStr, Bang, Dollar, Amp, OpenParen, CloseParen, Spread, Colon, Equals, At, OpenBracket, CloseBracket, OpenBrace, Pipe, CloseBrace}
 use Rattle.gql_base.specs.Characters.{is_name_start, is_name_continue}
-use Rattle.gql_base.specs.Pieces.{Lexeme, word, number, mark, Piece, token, byte_order_mark, blank, comment, mark_bytes, lexeme_bytes, kind_of, piece_bytes, IsLexeme, IsPiece, EndsBefore, Divides, BeginsNothing, token_at, tokens_from, token_of, lexeme_in, lexemes_of}
+use Rattle.gql_base.specs.Pieces.{Lexeme, word, number, mark, Piece, token, byte_order_mark, blank, comment, mark_bytes, lexeme_bytes, kind_of, IsLexeme, Divides, token_at, tokens_from, lexemes_of}
 use Rattle.gql_base.specs.Tokens.{Lexes, HasLexemes, AreInOrder, is_border, bytes_at, lexeme_with, lexeme_of}
 use Rattle.gql_base.proofs.OneDivision.{not_empty}
 

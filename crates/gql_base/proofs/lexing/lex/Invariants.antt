@@ -1,5 +1,4 @@
-use Rattle.std.proofs.Common.{◌≡◌, ℕ, ◌-◌, ◌≤◌, List, length, drop}
-use Rattle.gql_base.specs.Pieces.{Piece, Divides, tokens_from}
+use Rattle.std.proofs.Common.{◌-◌, ◌≤◌, length}
 use Rattle.gql_base.proofs.Divisions.{LexedUpTo}
 use Rattle.gql_base.proofs.lexing.lex.Given as goal
 
