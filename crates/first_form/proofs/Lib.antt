@@ -8,3 +8,5 @@ mod Loops
 mod Names
 mod Nodes
 mod Whole
+mod Unique
+mod Sizes

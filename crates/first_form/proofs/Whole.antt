@@ -52,7 +52,7 @@ sizes_known = passes_each SizedType (λ t. list_all (λ f. is_sized f.list) t.fi
 true_false : true ≡ false → ⊥
 true_false e = cc
 
-schema_read : (ws : Words) (types : List TypeTree) → SpellsSchema ws types → schema_at ws ≡ Some (types, [])
+pub schema_read : (ws : Words) (types : List TypeTree) → SpellsSchema ws types → schema_at ws ≡ Some (types, [])
 schema_read ws types is = ap schema_at (is.same ∙ sym (append-nil (schema_words types))) ∙ schema_exact.only types [] (sizes_known types is.sized) refl
 
 pub schema_found : (ws end : Words) (types : List TypeTree) → schema_at ws ≡ Some (types, end) → end ≡ [] → is_schema types ≡ true → SpellsSchema ws types
@@ -72,7 +72,7 @@ schema_unsound ws end found e unsound types is =
 
 -- ---- the tokens of a document
 
-set_read : (types : List TypeTree) (ws : Words) (t : TypeTree) (nodes : Firsts) → type_named types (codes "Query") ≡ Some t → SpellsDocument types ws nodes → set_at types most_open t.fields ws ≡ Some (nodes, [])
+pub set_read : (types : List TypeTree) (ws : Words) (t : TypeTree) (nodes : Firsts) → type_named types (codes "Query") ≡ Some t → SpellsDocument types ws nodes → set_at types most_open t.fields ws ≡ Some (nodes, [])
 set_read types ws t nodes e is =
     let f = is.fitting in
     let same : f.0 ≡ t = some_same f.0 t (sym f.1 ∙ e) in

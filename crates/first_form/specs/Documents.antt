@@ -8,7 +8,9 @@ use Rattle.static_cost.specs.declared.first.FirstKind.{FirstKind}
 use Rattle.static_cost.specs.declared.first.FirstKind.TheVariants.{Int, Str, Bool as BoolKind, Id, Object}
 use Rattle.static_cost.specs.declared.first.FirstList.{FirstList}
 use Rattle.static_cost.specs.Nodes.{First, first, Firsts, no_first, first_then}
-use Rattle.first_form.specs.Schemas.{FieldTree, TypeTree, kind_of, field_named, type_named, are_distinct, HasFirstSchema}
+use Rattle.first_form.specs.declared.first.FirstPart.{FirstPart}
+use Rattle.first_form.specs.declared.first.FirstPart.TheVariants.{Schema as SchemaPart, Document as DocumentPart}
+use Rattle.first_form.specs.Schemas.{FieldTree, TypeTree, kind_of, field_named, type_named, are_distinct, is_sized, HasFirstSchema}
 
 mutual
   -- the fields of a selection set, each with its name
@@ -116,6 +118,15 @@ unfoldable mutual
   AreOfFields types fields no_first = Unit {0}
   AreOfFields types fields (first_then f fs) = IsOfField types fields f × AreOfFields types fields fs
 
+-- Each size of a list of nodes is an Int.
+abbrev mutual
+  pub IsSmall : First → Type 0
+  IsSmall (first key kind nullable list below) = IsTrue (is_sized list) × AreSmall below
+
+  pub AreSmall : Firsts → Type 0
+  AreSmall no_first = Unit {0}
+  AreSmall (first_then f fs) = IsSmall f × AreSmall fs
+
 -- ---- the form
 
 -- The text is a document of the first form for a schema with these types, and stands for these nodes.
@@ -138,3 +149,8 @@ pub record IsRefusedDocument (schema document : List ℕ) : Type 0 where
   pub types : List TypeTree
   pub of_schema : HasFirstSchema schema types
   pub refused : (nodes : Firsts) → HasFirstDocument types document nodes → ⊥
+
+-- the name of a text that hasn't the form
+abbrev pub name_of_part : FirstPart → List ℕ
+name_of_part SchemaPart = codes "schema"
+name_of_part DocumentPart = codes "document"

@@ -2,8 +2,9 @@
 
 ghost use Rattle.std.specs.Prelude.{◌≡◌, List, length, IfOk, IsErrOf, IsTrue, codes};
 ghost use Rattle.static_cost.specs.Nodes.{Firsts, firsts_of};
+ghost use Rattle.static_cost.specs.FirstPlan.{AllSized};
 ghost use Rattle.first_form.specs.Schemas.{TypeTree, schema_words, are_sized, is_schema, HasFirstSchema};
-ghost use Rattle.first_form.specs.Documents.{HasFirstDocument, HaveFirstForm, IsRefusedDocument};
+ghost use Rattle.first_form.specs.Documents.{HasFirstDocument, HaveFirstForm, IsRefusedDocument, AreSmall, name_of_part};
 ghost use Rattle.first_form.specs.Faults.{stopped_of, fault_of, SpellsSchema, SpellsDocument};
 ghost use Rattle.first_form.specs.Sources.{words};
 ghost use Rattle.first_form.specs.Views.{types_of};
@@ -24,6 +25,18 @@ const MOST_OPEN: usize = 50;
 pub enum FirstPart {
     Schema,
     Document,
+}
+
+impl FirstPart {
+    /// The name of this text: `schema` or `document`.
+    pub fn name(&self) -> &'static str
+        ensures { result.now ≡ name_of_part self.now }
+    {
+        match self {
+            FirstPart::Schema => "schema",
+            FirstPart::Document => "document",
+        }
+    }
 }
 
 /// Why no nodes were read.
@@ -125,6 +138,9 @@ pub fn read_first(
     document: &str,
 ) -> Result<Vec<FirstNode>, FirstFault>
     ensures nodes { IfOk result (λ nodes. HaveFirstForm schema.now document.now (firsts_of nodes.items)) }
+    // What the bound of an operation asks: each list of objects has a size.
+    ensures sized { IfOk result (λ nodes. AllSized nodes.items) }
+    ensures small { IfOk result (λ nodes. AreSmall (firsts_of nodes.items)) }
     ensures schema_refused { IsErrOf result (FirstFault.NotBuilt FirstPart.Schema) → (types : List TypeTree) → HasFirstSchema schema.now types → ⊥ }
     ensures document_refused { IsErrOf result (FirstFault.NotBuilt FirstPart.Document) → IsRefusedDocument schema.now document.now }
 {
