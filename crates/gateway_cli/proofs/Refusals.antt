@@ -6,7 +6,7 @@ use Rattle.first_form.specs.declared.first.FirstPart.TheVariants.{Schema, Docume
 use Rattle.first_form.specs.declared.first.FirstFault.{FirstFault}
 use Rattle.first_form.specs.declared.first.FirstFault.TheVariants.{NotBuilt, Memory}
 use Rattle.static_cost.specs.declared.first.FirstNode.{FirstNode}
-use Rattle.gateway_cli.specs.declared.operation.TheConstants.{SCHEMA_LIMIT, DOCUMENT_LIMIT}
+use Rattle.gateway_cli.specs.declared.operation.TheConstants.{SCHEMA_LIMIT}
 use Rattle.gateway_cli.specs.declared.operation.Refusal.{Refusal}
 use Rattle.gateway_cli.specs.declared.operation.Refusal.TheVariants.{SchemaNotBuilt, DocumentNotBuilt, TypesTooCostly, FieldsTooCostly, BothTooCostly}
 use Rattle.gateway_cli.specs.Reading.{IsText}

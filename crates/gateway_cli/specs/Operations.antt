@@ -3,7 +3,7 @@ use Rattle.std.specs.Prelude.{ℕ, List}
 use Rattle.cost_num.specs.declared.Cost.{Cost}
 use Rattle.response_model.specs.Cost.{types, fields}
 use Rattle.first_form.specs.Schemas.{TypeTree, HasFirstSchema}
-use Rattle.first_form.specs.Documents.{HasFirstDocument, HaveFirstForm}
+use Rattle.first_form.specs.Documents.{HasFirstDocument}
 use Rattle.static_cost.specs.declared.first.FirstNode.{FirstNode}
 use Rattle.static_cost.specs.Nodes.{Firsts, firsts_of}
 use Rattle.static_cost.specs.FirstBound.{IsBoundOf, ExceedsCap}
