@@ -3,3 +3,4 @@ pub mod FrontPieces
 pub mod Divisions
 pub mod OneDivision
 pub mod Places
+pub mod Borders

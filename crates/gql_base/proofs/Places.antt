@@ -66,7 +66,7 @@ mark_is_ascii Spread k = omega arith
 mark_is_ascii Equals k = omega arith
 mark_is_ascii Pipe k = omega arith
 
-lexeme_is_ascii : (l : Lexeme) (k : ℕ) → IsLexeme l → k < length (lexeme_bytes l) → get_or (lexeme_bytes l) k 0 < 128
+pub lexeme_is_ascii : (l : Lexeme) (k : ℕ) → IsLexeme l → k < length (lexeme_bytes l) → get_or (lexeme_bytes l) k 0 < 128
 lexeme_is_ascii (word []) k is below = absurd is
 lexeme_is_ascii (word (c ∷ cs)) zero is below = start_is_ascii c is.0
 lexeme_is_ascii (word (c ∷ cs)) (suc k) is below = continue_is_ascii (get_or cs k 0) (is.1 k 0 (omega (arith, below)))
@@ -109,12 +109,12 @@ module _ (text xs after : List ℕ) (at : ℕ) (within : at ≤ length text) (cu
   part_is_ascii : (k : ℕ) → k < length xs → get_or text (at + k) 0 < 128
   part_is_ascii k below = rw (byte_of_part text xs after at k cut below) (ascii k below)
 
-  part_start : is_border text at ≡ true
+  pub part_start : is_border text at ≡ true
   part_start =
       let e : at + 0 ≡ at = omega arith in
       border_at text at (omega (arith, part_inside, some)) (subst (λ n. get_or text n 0 < 128) e (part_is_ascii 0 some))
 
-  part_end : IsUtf8 text → is_border text (at + length xs) ≡ true
+  pub part_end : IsUtf8 text → is_border text (at + length xs) ≡ true
   part_end utf8 =
       let e : at + (length xs - 1) + 1 ≡ at + length xs = omega (arith, some) in
       subst (λ n. is_border text n ≡ true) e

@@ -11,7 +11,7 @@ ghost use Rattle.gql_base.specs.Pieces.{Lexeme};
 ghost use Rattle.gql_base.specs.Tokens.{Lexes, HasLexemes, IsBadCharacter, AreInOrder, IsFaultOf, Gives, GivesLexemes, RefusesAt, lexeme_of};
 
 use crate::token::{Span, Token, TokenKind};
-use std::alloc::{AllocError, AllocFailed, Global};
+use std::alloc::{AllocFailed, Global};
 
 /// Why a text has no tokens.
 #[derive(Clone, Copy, Debug, PartialEq, Eq)]
@@ -71,24 +71,28 @@ struct Front {
     length: usize,
 }
 
+/// Whether a name may begin with this byte: a letter or `_`.
 fn is_name_start(byte: u8) -> bool
     ensures { result ≡ is_name_start byte }
 {
     byte.is_ascii_alphabetic() || byte == b'_'
 }
 
+/// Whether a name may go on with this byte: a letter, `_` or a digit.
 fn is_name_continue(byte: u8) -> bool
     ensures { result ≡ is_name_continue byte }
 {
     is_name_start(byte) || byte.is_ascii_digit()
 }
 
+/// Whether this byte is ignored by itself: a tab, a line end, a space or a comma.
 fn is_blank(byte: u8) -> bool
     ensures { result ≡ is_blank byte }
 {
     byte == b'\t' || byte == b'\n' || byte == b'\r' || byte == b' ' || byte == b','
 }
 
+/// Whether a comment may hold this byte: a tab, or a byte of a character from U+0020 on.
 fn is_comment_byte(byte: u8) -> bool
     ensures { result ≡ is_comment_byte byte }
 {

@@ -127,7 +127,7 @@ fn value_cost(component: Component, node: &FirstNode) -> u64
 /// and a field that returns objects weigh one, and scalars and their fields weigh nothing. The root
 /// counts as one object.
 ///
-/// Each list of objects must have a declared size. Otherwise it has no bound.
+/// Each list of objects must have a declared size, since objects in a list of any length have no bound.
 ///
 /// # Errors
 ///

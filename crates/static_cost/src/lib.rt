@@ -3,6 +3,8 @@
 
 mod bound;
 mod first;
+#[cfg(test)]
+mod tests;
 
 pub use bound::{TooCostly, first_bound, first_sound};
 pub use first::{FirstKind, FirstList, FirstNode};
