@@ -134,3 +134,6 @@ if_ok P Q (Err e) to is = tt
 pub refused_document : (stopped : Stop) (found : FirstFault) → found ≡ fault_of stopped Document → found ≡ fault.NotBuilt Document → stopped ≡ NotBuilt
 refused_document NotBuilt found e f = refl
 refused_document Memory found e f = let h : fault.Memory ≡ fault.NotBuilt Document = sym e ∙ f in cc
+
+pub spelled_over : {types others : List TypeTree} {ws : Lexemes} {nodes : Firsts} → types ≡ others → SpellsDocument types ws nodes → SpellsDocument others ws nodes
+spelled_over {ws = ws} {nodes = nodes} e is = subst (λ (types : List TypeTree). SpellsDocument types ws nodes) e is

@@ -8,10 +8,13 @@ ghost use Rattle.first_form.specs.Documents.{HasFirstDocument, HaveFirstForm, Is
 ghost use Rattle.first_form.specs.Faults.{stopped_of, fault_of, SpellsSchema, SpellsDocument};
 ghost use Rattle.first_form.specs.LexedTexts.{lexemes_at};
 ghost use Rattle.first_form.specs.Views.{types_of};
+ghost use Rattle.first_form.specs.IndexedTypes.{indexed_types};
 
 use crate::checks::{is_schema, type_named};
 use crate::definition::{TypeDefinition, read_types};
 use crate::lexed::{Lexed, Stop};
+use crate::indexed::{IndexedType, index_types};
+use crate::named::{NameIndex, index_of};
 use crate::selection::read_set;
 use gql_base::{LexFault, lex};
 use static_cost::FirstNode;
@@ -66,7 +69,8 @@ fn read_schema_tokens(alloc: Global, source: &Lexed) -> Result<Vec<TypeDefinitio
     ensures only { IsErrOf result Stop.NotBuilt → (types : List TypeTree) → SpellsSchema (lexemes_at source.now 0) types → ⊥ }
 {
     let types = read_types(alloc, source)?;
-    if is_schema(&types) {
+    let sound = is_schema(alloc, &types)?;
+    if sound {
         Ok(types)
     } else {
         Err(Stop::NotBuilt)
@@ -89,10 +93,10 @@ fn read_schema(alloc: Global, text: &str) -> Result<Vec<TypeDefinition>, Stop>
 fn read_document_tokens(
     alloc: Global,
     source: &Lexed,
-    types: &[TypeDefinition],
+    types: &NameIndex<'_, IndexedType<'_>>,
 ) -> Result<Vec<FirstNode>, Stop>
-    ensures found { IfOk result (λ nodes. SpellsDocument (types_of types.now) (lexemes_at source.now 0) (firsts_of nodes.items)) }
-    ensures only { IsErrOf result Stop.NotBuilt → (nodes : Firsts) → SpellsDocument (types_of types.now) (lexemes_at source.now 0) nodes → ⊥ }
+    ensures found { IfOk result (λ nodes. SpellsDocument (indexed_types types.now.items.now) (lexemes_at source.now 0) (firsts_of nodes.items)) }
+    ensures only { IsErrOf result Stop.NotBuilt → (nodes : Firsts) → SpellsDocument (indexed_types types.now.items.now) (lexemes_at source.now 0) nodes → ⊥ }
 {
     let Some(query) = type_named(types, "Query") else {
         return Err(Stop::NotBuilt);
@@ -118,7 +122,9 @@ fn read_document(
         text,
         tokens: &tokens,
     };
-    read_document_tokens(alloc, &source, types)
+    let indexed = index_types(alloc, types)?;
+    let index = index_of(alloc, &indexed)?;
+    read_document_tokens(alloc, &source, &index)
 }
 
 fn fault_of(stopped: Stop, which: FirstPart) -> FirstFault

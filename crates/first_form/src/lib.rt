@@ -5,6 +5,7 @@
 mod checks;
 mod definition;
 mod first;
+mod indexed;
 mod laws;
 mod lexed;
 mod named;

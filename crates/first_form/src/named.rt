@@ -1,12 +1,14 @@
-//! Things with names: looking them up, and whether no name stands twice.
+//! Things with names: finding them by their names, and whether no name stands twice.
 
-ghost use Rattle.std.specs.Prelude.{◌≡◌, map, find, option_copied};
-ghost use Rattle.std.specs.List.{list_any};
+ghost use Rattle.std.specs.Prelude.{◌≡◌, map, find, option_copied, IfOk};
 ghost use Rattle.std.specs.Str.{bytes_eq};
 ghost use Rattle.first_form.specs.Schemas.{are_distinct};
+ghost use Rattle.first_form.specs.Indexes.{FindsFirst};
 
 use crate::definition::{FieldDefinition, TypeDefinition};
 use static_cost::FirstNode;
+use std::alloc::{AllocError, Global};
+use std::collections::BTreeMap;
 
 /// Something with a name.
 pub trait Named {
@@ -45,41 +47,56 @@ impl Named for FirstNode {
     }
 }
 
-/// The first of these names. Each is looked at in turn.
-pub fn find_named<'a, T: Named>(items: &'a [T], name: &str) -> Option<&'a T>
-    ensures { option_copied result ≡ find (λ item. bytes_eq (T.name_of item) name.now) items.now }
-{
-    for item in items {
-        if item.name() == name {
-            return Some(item);
-        }
-    }
-    None
+/// A list of things with names, in which they are found by their names. The list is kept as it is.
+#[derive(Drop)]
+pub struct NameIndex<'a, T: Named> {
+    items: &'a [T],
+    /// The first of each name.
+    firsts: BTreeMap<&'a str, &'a T>,
+    /// Whether no name stands twice.
+    distinct: bool,
+    ghost finds: { FindsFirst T.name_of firsts items.now },
+    ghost tells: { distinct ≡ are_distinct (map T.name_of items.now) },
 }
 
-/// Whether one of these has the name.
-pub fn has_name<T: Named>(items: &[T], name: &str) -> bool
-    ensures { result ≡ list_any (bytes_eq name.now) (map T.name_of items.now) }
-{
-    for item in items {
-        if name == item.name() {
-            return true;
-        }
+impl<'a, T: Named> NameIndex<'a, T> {
+    /// The things of the list, in their order.
+    pub fn items(&self) -> &'a [T]
+        ensures { result.now ≡ self.now.items.now }
+    {
+        self.items
     }
-    false
+
+    /// The first of this name.
+    pub fn first_named(&self, name: &str) -> Option<&'a T>
+        ensures { option_copied result ≡ find (λ item. bytes_eq (T.name_of item) name.now) self.now.items.now }
+    {
+        self.firsts.get(name).copied()
+    }
+
+    /// Whether no name stands twice.
+    pub fn are_distinct(&self) -> bool
+        ensures { result ≡ are_distinct (map T.name_of self.now.items.now) }
+    {
+        self.distinct
+    }
 }
 
-/// Whether no name stands twice. Each name is compared with those after it, up to the first that stands
-/// there again.
-pub fn are_distinct<T: Named>(items: &[T]) -> bool
-    ensures { result ≡ are_distinct (map T.name_of items.now) }
+/// The index of a list by its names. The list is gone through from its end, so that the first of a name is what
+/// stays, and what it takes the place of shows that the name stands twice.
+pub fn index_of<'a, T: Named>(alloc: Global, items: &'a [T]) -> Result<NameIndex<'a, T>, AllocError>
+    ensures { IfOk result (λ index. index.items.now ≡ items.now) }
 {
-    let mut rest = items;
-    while let [item, others @ ..] = rest {
-        if has_name(others, item.name()) {
-            return false;
-        }
-        rest = others;
+    let mut firsts = BTreeMap::new(alloc);
+    let mut distinct = true;
+    for at in (0..items.len()).rev() {
+        let item = &items[at];
+        let later = firsts.insert(item.name(), item)?;
+        distinct &= later.is_none();
     }
-    true
+    Ok(NameIndex {
+        items,
+        firsts,
+        distinct,
+    })
 }

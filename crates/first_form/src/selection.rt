@@ -8,15 +8,17 @@ ghost use Rattle.first_form.specs.Documents.{list_of, size_of};
 ghost use Rattle.first_form.specs.Reading.{repeated, before};
 ghost use Rattle.first_form.specs.DocumentReading.{node_with, set_of, below_at, selection_at, is_set, opened_at, set_at};
 ghost use Rattle.first_form.specs.LexedTexts.{lexemes_at, Parses};
-ghost use Rattle.first_form.specs.Views.{field_of, fields_of, types_of};
+ghost use Rattle.first_form.specs.Views.{field_of, fields_of};
+ghost use Rattle.first_form.specs.IndexedTypes.{indexed_types};
 
 use crate::checks::{field_named, kind_of, type_named};
-use crate::definition::{FieldDefinition, TypeDefinition};
+use crate::definition::FieldDefinition;
 use crate::lexed::{Lexed, Stop};
-use crate::named::are_distinct;
+use crate::indexed::IndexedType;
+use crate::named::{NameIndex, index_of};
 use gql_base::{Text, TokenKind};
 use static_cost::{FirstKind, FirstList, FirstNode};
-use std::alloc::Global;
+use std::alloc::{AllocError, Global};
 
 /// The size of a list of objects for which none is assumed.
 const USUAL_SIZE: u64 = 10;
@@ -59,11 +61,19 @@ fn node_of(field: &FieldDefinition, key: Text, below: Vec<FirstNode>) -> FirstNo
     }
 }
 
-// Whether a set holds a field, and none twice.
-fn is_set(nodes: &[FirstNode]) -> bool
-    ensures { result ≡ is_set (firsts_of nodes.now) }
+// Whether there is a field, and none stands twice.
+fn is_indexed_set(nodes: &NameIndex<'_, FirstNode>) -> bool
+    ensures { result ≡ is_set (firsts_of nodes.now.items.now) }
 {
-    !nodes.is_empty() && are_distinct(nodes)
+    !nodes.items().is_empty() && nodes.are_distinct()
+}
+
+// Whether a set holds a field, and none twice.
+fn is_set(alloc: Global, nodes: &[FirstNode]) -> Result<bool, AllocError>
+    ensures { IfOk result (λ holds. holds ≡ is_set (firsts_of nodes.now)) }
+{
+    let index = index_of(alloc, nodes)?;
+    Ok(is_indexed_set(&index))
 }
 
 /// A selection set of these fields, and the place after it, where `levels` sets may still be opened.
@@ -72,11 +82,11 @@ pub fn read_set(
     alloc: Global,
     source: &Lexed,
     at: usize,
-    types: &[TypeDefinition],
-    fields: &[FieldDefinition],
+    types: &NameIndex<'_, IndexedType<'_>>,
+    fields: &NameIndex<'_, FieldDefinition>,
     levels: usize,
 ) -> Result<(Vec<FirstNode>, usize), Stop>
-    ensures read { Parses source.now (λ x. (firsts_of x.0.items, x.1)) result (set_at (types_of types.now) levels (fields_of fields.now) (lexemes_at source.now at)) }
+    ensures read { Parses source.now (λ x. (firsts_of x.0.items, x.1)) result (set_at (indexed_types types.now.items.now) levels (fields_of fields.now.items.now) (lexemes_at source.now at)) }
     ensures within { IfOk result (λ x. (at < x.1) × (x.1 ≤ length source.now.tokens.now)) }
 {
     if levels == 0 {
@@ -92,17 +102,18 @@ fn read_opened(
     alloc: Global,
     source: &Lexed,
     at: usize,
-    types: &[TypeDefinition],
-    fields: &[FieldDefinition],
+    types: &NameIndex<'_, IndexedType<'_>>,
+    fields: &NameIndex<'_, FieldDefinition>,
     levels: usize,
 ) -> Result<(Vec<FirstNode>, usize), Stop>
-    ensures read { Parses source.now (λ x. (firsts_of x.0.items, x.1)) result (opened_at (types_of types.now) (set_at (types_of types.now) levels) (fields_of fields.now) (lexemes_at source.now at)) }
+    ensures read { Parses source.now (λ x. (firsts_of x.0.items, x.1)) result (opened_at (indexed_types types.now.items.now) (set_at (indexed_types types.now.items.now) levels) (fields_of fields.now.items.now) (lexemes_at source.now at)) }
     ensures within { IfOk result (λ x. (at < x.1) × (x.1 ≤ length source.now.tokens.now)) }
 {
     let start = source.expects(at, TokenKind::OpenBrace)?;
     let (nodes, close) = read_selections(alloc, source, start, types, fields, levels)?;
     let end = source.expects(close, TokenKind::CloseBrace)?;
-    if is_set(&nodes) {
+    let holds = is_set(alloc, &nodes)?;
+    if holds {
         Ok((nodes, end))
     } else {
         Err(Stop::NotBuilt)
@@ -115,11 +126,11 @@ fn read_selections(
     alloc: Global,
     source: &Lexed,
     start: usize,
-    types: &[TypeDefinition],
-    fields: &[FieldDefinition],
+    types: &NameIndex<'_, IndexedType<'_>>,
+    fields: &NameIndex<'_, FieldDefinition>,
     levels: usize,
 ) -> Result<(Vec<FirstNode>, usize), Stop>
-    ensures read { Parses source.now (λ x. (map first_of x.0.items, x.1)) result (repeated (before CloseBrace) (selection_at (types_of types.now) (set_at (types_of types.now) levels) (fields_of fields.now)) (lexemes_at source.now start)) }
+    ensures read { Parses source.now (λ x. (map first_of x.0.items, x.1)) result (repeated (before CloseBrace) (selection_at (indexed_types types.now.items.now) (set_at (indexed_types types.now.items.now) levels) (fields_of fields.now.items.now)) (lexemes_at source.now start)) }
     ensures within { IfOk result (λ x. start ≤ x.1) }
 {
     let mut nodes = Vec::new(alloc);
@@ -139,11 +150,11 @@ fn read_selection(
     alloc: Global,
     source: &Lexed,
     at: usize,
-    types: &[TypeDefinition],
-    fields: &[FieldDefinition],
+    types: &NameIndex<'_, IndexedType<'_>>,
+    fields: &NameIndex<'_, FieldDefinition>,
     levels: usize,
 ) -> Result<(FirstNode, usize), Stop>
-    ensures read { Parses source.now (λ x. (first_of x.0, x.1)) result (selection_at (types_of types.now) (set_at (types_of types.now) levels) (fields_of fields.now) (lexemes_at source.now at)) }
+    ensures read { Parses source.now (λ x. (first_of x.0, x.1)) result (selection_at (indexed_types types.now.items.now) (set_at (indexed_types types.now.items.now) levels) (fields_of fields.now.items.now) (lexemes_at source.now at)) }
     ensures within { IfOk result (λ x. (at < x.1) × (x.1 ≤ length source.now.tokens.now)) }
 {
     let (key, end) = source.name(alloc, at)?;
@@ -160,11 +171,11 @@ fn read_below(
     alloc: Global,
     source: &Lexed,
     at: usize,
-    types: &[TypeDefinition],
+    types: &NameIndex<'_, IndexedType<'_>>,
     named: &str,
     levels: usize,
 ) -> Result<(Vec<FirstNode>, usize), Stop>
-    ensures read { Parses source.now (λ x. (firsts_of x.0.items, x.1)) result (below_at (kind_of named.now) (set_of (set_at (types_of types.now) levels) (type_named (types_of types.now) named.now)) (lexemes_at source.now at)) }
+    ensures read { Parses source.now (λ x. (firsts_of x.0.items, x.1)) result (below_at (kind_of named.now) (set_of (set_at (indexed_types types.now.items.now) levels) (type_named (indexed_types types.now.items.now) named.now)) (lexemes_at source.now at)) }
     ensures within { IfOk result (λ x. at ≤ x.1) }
     ensures inside { IfOk result (λ x. at ≤ length source.now.tokens.now → x.1 ≤ length source.now.tokens.now) }
 {

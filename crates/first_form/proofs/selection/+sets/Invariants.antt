@@ -4,7 +4,8 @@ use Rattle.static_cost.specs.Nodes.{first_of}
 use Rattle.first_form.specs.Reading.{repeated, before}
 use Rattle.first_form.specs.DocumentReading.{selection_at, set_at}
 use Rattle.first_form.specs.LexedTexts.{lexemes_at}
-use Rattle.first_form.specs.Views.{fields_of, types_of}
+use Rattle.first_form.specs.Views.{fields_of}
+use Rattle.first_form.specs.IndexedTypes.{indexed_types}
 use Rattle.first_form.proofs.Loops.{continued}
 use Rattle.first_form.proofs.selection.+sets.Given as goal
 
@@ -27,7 +28,7 @@ decreases-read_opened l = 5 * l.levels + 4
 -- The nodes so far, and those that are read from here on, are all.
 abbrev pub invariant-read_selections-nodes : goal.invariant-read_selections-nodes
 invariant-read_selections-nodes l = record {
-  same : continued (map first_of l.nodes.items) (repeated (before CloseBrace) (selection_at (types_of l.types) (set_at (types_of l.types) l.levels) (fields_of l.fields)) (lexemes_at l.source l.at)) ≡ repeated (before CloseBrace) (selection_at (types_of l.types) (set_at (types_of l.types) l.levels) (fields_of l.fields)) (lexemes_at l.source l.start);
+  same : continued (map first_of l.nodes.items) (repeated (before CloseBrace) (selection_at (indexed_types l.types.items.now) (set_at (indexed_types l.types.items.now) l.levels) (fields_of l.fields.items.now)) (lexemes_at l.source l.at)) ≡ repeated (before CloseBrace) (selection_at (indexed_types l.types.items.now) (set_at (indexed_types l.types.items.now) l.levels) (fields_of l.fields.items.now)) (lexemes_at l.source l.start);
   after : l.start ≤ l.at;
 }
 
