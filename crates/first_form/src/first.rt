@@ -12,8 +12,8 @@ ghost use Rattle.first_form.specs.IndexedTypes.{indexed_types};
 
 use crate::checks::{is_schema, type_named};
 use crate::definition::{TypeDefinition, read_types};
-use crate::lexed::{Lexed, Stop};
 use crate::indexed::{IndexedType, index_types};
+use crate::lexed::{Lexed, Stop};
 use crate::named::{NameIndex, index_of};
 use crate::selection::read_set;
 use gql_base::{LexFault, lex};

@@ -13,8 +13,8 @@ ghost use Rattle.first_form.specs.IndexedTypes.{indexed_types};
 
 use crate::checks::{field_named, kind_of, type_named};
 use crate::definition::FieldDefinition;
-use crate::lexed::{Lexed, Stop};
 use crate::indexed::IndexedType;
+use crate::lexed::{Lexed, Stop};
 use crate::named::{NameIndex, index_of};
 use gql_base::{Text, TokenKind};
 use static_cost::{FirstKind, FirstList, FirstNode};

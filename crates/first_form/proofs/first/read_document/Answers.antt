@@ -18,7 +18,7 @@ returns-clause-found c =
     let seen = ap indexed_types (c.in_ok-index.ensures ∙ c.deref-2.ensures.value) ∙ c.in_ok-indexed.ensures in
     if_ok _ _ c.read_document_tokens.result
     (λ nodes is. document_text (types_of c.args.types.now) c.args.text.now _ (firsts_of nodes.items) (subst (HasLexemes c.args.text.now) (sym (words_all _ c.in_ok-tokens.tokens.items c.deref.ensures.value)) c.in_ok-tokens.ensures.lexemes)
-        (spelled_over seen is))
+    (spelled_over seen is))
     c.read_document_tokens.ensures.found
 
 pub returns-clause-only : goal.returns-clause-only
@@ -26,4 +26,4 @@ returns-clause-only c = λ e nodes is.
     let seen = ap indexed_types (c.in_ok-index.ensures ∙ c.deref-2.ensures.value) ∙ c.in_ok-indexed.ensures in
     c.read_document_tokens.ensures.only e nodes
     (spelled_over (sym seen)
-        (document_of_text (types_of c.args.types.now) c.args.text.now _ nodes is (words_all _ c.in_ok-tokens.tokens.items c.deref.ensures.value ∙ c.in_ok-tokens.ensures.only_lexemes _ is.spelled)))
+    (document_of_text (types_of c.args.types.now) c.args.text.now _ nodes is (words_all _ c.in_ok-tokens.tokens.items c.deref.ensures.value ∙ c.in_ok-tokens.ensures.only_lexemes _ is.spelled)))
