@@ -2,6 +2,7 @@
 #![tactic(auto)]
 
 mod bound;
+pub mod examples;
 mod first;
 #[cfg(test)]
 mod tests;
