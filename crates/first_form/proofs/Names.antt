@@ -15,9 +15,9 @@ use Rattle.std.proofs.lemmas.Bool.{cases_Bool}
 pub find_view : {A B : Type 0} (view : B → A) (test : A → Bool) (all : List B) → option_map view (find (λ b. test (view b)) all) ≡ find test (map view all)
 find_view view test [] = refl
 find_view view test (b ∷ all) = elim (cases_Bool (test (view b))) [
-    | inl t ↦ rw t refl
-    | inr t ↦ rw t (find_view view test all)
-    ]
+  | inl t ↦ rw t refl
+  | inr t ↦ rw t (find_view view test all)
+]
 
 pub map_view : {A B C : Type 0} (view : B → A) (name : A → C) (all : List B) → map (λ b. name (view b)) all ≡ map name (map view all)
 map_view view name [] = refl

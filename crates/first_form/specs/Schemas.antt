@@ -69,11 +69,11 @@ type_named types name = find (λ t. bytes_eq t.name name) types
 -- what the values of a named type are: the built-in scalars by their names, else objects
 abbrev pub kind_of : List ℕ → FirstKind
 kind_of named =
-  if bytes_eq named (codes "Int") then Int
-  else (if bytes_eq named (codes "String") then Str
-  else (if bytes_eq named (codes "Boolean") then BoolKind
-  else (if bytes_eq named (codes "ID") then Id
-  else Object)))
+    if bytes_eq named (codes "Int") then Int
+    else (if bytes_eq named (codes "String") then Str
+    else (if bytes_eq named (codes "Boolean") then BoolKind
+    else (if bytes_eq named (codes "ID") then Id
+    else Object)))
 
 -- whether a name is that of a built-in scalar
 abbrev pub is_built_in : List ℕ → Bool
