@@ -1,14 +1,14 @@
 -- The nodes of documents are read just where tokens spell them.
-use Rattle.std.proofs.Common.{ℕ, zero, suc, ◌-◌, ◌≡◌, ◌<◌, ◌≤◌, max, Bool, true, false, List, [], ◌∷◌, ◌++◌, Option, None, Some, refl, sym, ap, ◌∙◌, subst, arith, append_assoc}
+use Rattle.std.proofs.Common.{ℕ, zero, suc, ◌-◌, ◌≡◌, ◌≤◌, true, false, List, [], ◌∷◌, ◌++◌, Option, None, Some, refl, sym, ap, ◌∙◌, subst, arith}
 use Rattle.std.specs.List.{flat_map}
 use Rattle.gql_base.specs.declared.token.TokenKind.TheVariants.{OpenBrace, CloseBrace}
-use Rattle.gql_base.specs.Pieces.{Lexeme, word, mark}
+use Rattle.gql_base.specs.Pieces.{word, mark}
 use Rattle.static_cost.specs.declared.first.FirstKind.{FirstKind}
 use Rattle.static_cost.specs.declared.first.FirstKind.TheVariants.{Int, Str, Bool as BoolKind, Id, Object}
 use Rattle.static_cost.specs.Nodes.{First, first, Firsts, no_first, first_then, firsts_from}
-use Rattle.first_form.specs.Schemas.{FieldTree, TypeTree, kind_of, field_named, type_named, are_distinct}
-use Rattle.first_form.specs.Documents.{Selections, no_selection, select, Subset, set, selection_words, subset_words, open_sets, open_in, subset_of, selection_of, selections_of, keys_of, list_of, IsSet, OfType, Below, IsOfField, AreOfFields}
-use Rattle.first_form.specs.Reading.{Lexemes, Parsed, peek, chain, satisfy, sequence, converted, verify, repeated, of_kind, name_in, before}
+use Rattle.first_form.specs.Schemas.{FieldTree, TypeTree, kind_of, field_named, type_named}
+use Rattle.first_form.specs.Documents.{set, selection_words, subset_words, open_sets, open_in, subset_of, selections_of, list_of, IsSet, OfType, Below, IsOfField, AreOfFields}
+use Rattle.first_form.specs.Reading.{Lexemes, Parsed, chain, before}
 use Rattle.first_form.specs.DocumentReading.{node_with, set_of, below_at, rest_at, selection_at, is_set, set_from, opened_at, set_at}
 use Rattle.first_form.proofs.Exact.{Exact, never, some_same, none_some, chain_some, sequence_exact, then_exact, converted_exact, verify_exact, as_exact}
 use Rattle.first_form.proofs.Repeated.{Each, repeated_exact, Begins, Repeatable, repeatable}

@@ -1,12 +1,11 @@
 -- Documents that fit a schema, and the nodes that stand for them.
-use Rattle.std.proofs.Common.{ℕ, ◌≡◌, ◌≤◌, Bool, true, false, List, [], ◌∷◌, Option, None, Some, refl, sym, ap, ◌∙◌, subst}
-use Rattle.std.specs.Prelude.{codes}
+use Rattle.std.proofs.Common.{ℕ, ◌≡◌, ◌≤◌, true, false, List, ◌∷◌, Some, refl, sym, ap, ◌∙◌, subst}
 use Rattle.gql_base.specs.Tokens.{HasLexemes}
 use Rattle.static_cost.specs.declared.first.FirstKind.{FirstKind}
 use Rattle.static_cost.specs.declared.first.FirstKind.TheVariants.{Int, Str, Bool as BoolKind, Id, Object}
 use Rattle.static_cost.specs.Nodes.{First, first, Firsts, no_first, first_then}
-use Rattle.first_form.specs.Schemas.{FieldTree, TypeTree, kind_of, is_leaf, field_named, type_named, are_distinct}
-use Rattle.first_form.specs.Documents.{Selections, no_selection, select, Subset, nothing, set, document_words, open_in, most_open, names_of, holds_field, IsSelectionSet, OfType, Fits, FitsBelow, IsDocumentFor, subset_of, selection_of, selections_of, keys_of, list_of, IsSet, Below, IsOfField, AreOfFields, HasFirstDocument}
+use Rattle.first_form.specs.Schemas.{FieldTree, TypeTree, kind_of, is_leaf, field_named, are_distinct}
+use Rattle.first_form.specs.Documents.{Selections, no_selection, select, Subset, nothing, set, document_words, open_in, most_open, names_of, holds_field, IsSelectionSet, OfType, Fits, FitsBelow, IsDocumentFor, subset_of, selections_of, keys_of, list_of, IsSet, Below, IsOfField, AreOfFields, HasFirstDocument}
 
 keys_named : (nodes : Firsts) → names_of (selections_of nodes) ≡ keys_of nodes
 keys_named no_first = refl

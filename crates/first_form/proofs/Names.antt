@@ -1,11 +1,11 @@
 -- Things with names, seen as trees.
-use Rattle.std.proofs.Common.{ℕ, ◌≡◌, Bool, true, false, List, [], ◌∷◌, length, map, find, Option, None, Some, inl, inr, refl, sym, ap, ◌∙◌}
-use Rattle.std.specs.Prelude.{cond, option_map, is_some, not, ◌==◌, nat_lt, ◌&&◌}
+use Rattle.std.proofs.Common.{◌≡◌, Bool, true, false, List, [], ◌∷◌, length, map, find, inl, inr, refl, sym, ap, ◌∙◌}
+use Rattle.std.specs.Prelude.{option_map, ◌==◌}
 use Rattle.static_cost.specs.declared.first.FirstNode.{FirstNode}
 use Rattle.first_form.specs.declared.definition.FieldDefinition.{FieldDefinition}
 use Rattle.first_form.specs.Schemas.{are_distinct, is_field_list, name_of_field}
 use Rattle.first_form.specs.Views.{field_of, fields_of, key_of}
-use Rattle.static_cost.specs.Nodes.{First, Firsts, firsts_from, first_of, firsts_of}
+use Rattle.static_cost.specs.Nodes.{First, firsts_from, first_of, firsts_of}
 use Rattle.first_form.specs.Documents.{keys_of}
 use Rattle.first_form.specs.DocumentReading.{is_set}
 use Rattle.first_form.proofs.Nodes.{open_node}

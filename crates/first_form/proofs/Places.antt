@@ -1,12 +1,12 @@
 -- The tokens of a source from a place on.
-use Rattle.std.proofs.Common.{ℕ, suc, ◌+◌, ◌≡◌, ◌≤◌, ◌<◌, Bool, true, false, List, [], ◌∷◌, length, map, drop, get_or, slice_index_or, Option, None, Some, refl, sym, ap, ◌∙◌, arith}
+use Rattle.std.proofs.Common.{ℕ, suc, ◌+◌, ◌≡◌, ◌≤◌, ◌<◌, List, [], ◌∷◌, length, slice_index_or, Some, refl, ap, ◌∙◌, arith}
 use Rattle.std.specs.Prelude.{◌==◌, not}
 use Rattle.std.proofs.lemmas.List.{drop_all}
 use Rattle.std.proofs.Math.Seq.{drop-cons}
 use Rattle.gql_base.specs.declared.token.TokenKind.{TokenKind}
 use Rattle.gql_base.specs.declared.token.TokenKind.TheVariants.{Name, Int, Str, BlockStr, Bang, Dollar, Amp, OpenParen, CloseParen, Spread, Colon, Equals, At, OpenBracket, CloseBracket, OpenBrace, Pipe, CloseBrace}
 use Rattle.gql_base.specs.declared.token.Token.{Token}
-use Rattle.gql_base.specs.Pieces.{Lexeme, kind_of}
+use Rattle.gql_base.specs.Pieces.{kind_of}
 use Rattle.gql_base.specs.Tokens.{lexeme_of, lexeme_with}
 use Rattle.first_form.specs.declared.lexed.Lexed.{Lexed}
 use Rattle.first_form.specs.Reading.{Lexemes, peek, consumed, satisfy, number_of, when, of_kind, peeks, before}

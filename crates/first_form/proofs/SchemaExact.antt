@@ -1,6 +1,6 @@
 -- The trees of schemas are read just where tokens spell them.
-use Rattle.std.proofs.Common.{ℕ, ◌+◌, ◌≡◌, ◌<◌, ◌≤◌, ◌^◌, ◌⊎◌, inl, inr, Bool, true, false, List, [], ◌∷◌, ◌++◌, Option, None, Some, refl, sym, ap, ◌∙◌, subst, arith}
-use Rattle.std.specs.Prelude.{◌==◌, not, ◌||◌, ◌&&◌, nat_le, nat_lt, codes, if◌then◌else◌}
+use Rattle.std.proofs.Common.{ℕ, ◌+◌, ◌≡◌, ◌<◌, ◌≤◌, ◌^◌, ◌⊎◌, inl, inr, Bool, true, false, List, [], ◌∷◌, ◌++◌, Option, None, Some, refl, sym, ap, ◌∙◌, arith}
+use Rattle.std.specs.Prelude.{◌||◌, ◌&&◌, nat_le, codes, if◌then◌else◌}
 use Rattle.std.specs.List.{flat_map}
 use Rattle.std.specs.Fmt.{decimal}
 use Rattle.std.specs.Str.{bytes_eq}
@@ -12,8 +12,8 @@ use Rattle.gql_base.specs.declared.token.TokenKind.TheVariants.{Bang, Colon, At,
 use Rattle.gql_base.specs.Pieces.{Lexeme, word, number, mark}
 use Rattle.static_cost.specs.declared.first.FirstList.{FirstList}
 use Rattle.first_form.specs.Schemas.{FieldTree, TypeTree, bang, size_words, type_words, field_words, definition_words, schema_words, greatest_size, is_size, is_sized}
-use Rattle.first_form.specs.Reading.{Lexemes, peek, consumed, satisfy, sequence, converted, choice, success, repeated, of_kind, name_in, keyword, peeks, before, has_more}
-use Rattle.first_form.specs.SchemaReading.{size_from_digits, size_in, never_null, bang_at, SizeParts, size_from, list_size_at, size_at, TypeParts, single_from, list_with, listed_from, single_at, listed_at, type_at, field_from, field_at, type_from, definition_at, schema_at}
+use Rattle.first_form.specs.Reading.{Lexemes, peek, consumed, satisfy, repeated, peeks, before, has_more}
+use Rattle.first_form.specs.SchemaReading.{size_from_digits, size_in, never_null, bang_at, SizeParts, size_from, list_size_at, size_at, TypeParts, single_from, listed_from, single_at, listed_at, type_at, field_from, field_at, type_from, definition_at, schema_at}
 use Rattle.gql_base.specs.declared.token.Token.{Token}
 use Rattle.gql_base.specs.declared.token.TokenKind.{TokenKind}
 use Rattle.gql_base.specs.declared.token.TokenKind.TheVariants.{Int}

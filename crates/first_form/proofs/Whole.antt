@@ -1,29 +1,25 @@
 -- Whole texts of the first form.
-use Rattle.std.proofs.Common.{ℕ, ◌≡◌, ◌≤◌, Bool, true, false, List, [], ◌∷◌, ◌++◌, length, map, drop, Option, None, Some, Result, Ok, Err, Vec, Global, refl, sym, ap, ◌∙◌, subst, arith, append-nil}
-use Rattle.std.specs.Prelude.{◌&&◌, codes, option_map, option_copied}
-use Rattle.std.specs.Result.{IfOk, IsErrOf}
+use Rattle.std.proofs.Common.{ℕ, ◌≡◌, ◌≤◌, Bool, true, false, List, [], ◌∷◌, ◌++◌, map, Some, Result, Ok, Err, refl, sym, ap, ◌∙◌, subst, append-nil}
+use Rattle.std.specs.Prelude.{codes}
+use Rattle.std.specs.Result.{IfOk}
 use Rattle.std.specs.List.{list_all}
 use Rattle.gql_base.specs.declared.lexing.LexFault.{LexFault}
 use Rattle.gql_base.specs.declared.lexing.LexFault.TheVariants.{BadChar, Memory as NoMemory}
 use Rattle.gql_base.specs.declared.token.Token.{Token}
 use Rattle.gql_base.specs.Tokens.{HasLexemes, lexeme_of}
-use Rattle.static_cost.specs.declared.first.FirstNode.{FirstNode}
-use Rattle.static_cost.specs.Nodes.{Firsts, firsts_of}
+use Rattle.static_cost.specs.Nodes.{Firsts}
 use Rattle.first_form.specs.declared.lexed.Lexed.{Lexed}
 use Rattle.first_form.specs.declared.lexed.Stop.{Stop}
 use Rattle.first_form.specs.declared.lexed.Stop.TheVariants.{NotBuilt, Memory}
-use Rattle.first_form.specs.declared.first.FirstPart.{FirstPart}
 use Rattle.first_form.specs.declared.first.FirstPart.TheVariants.{Document}
 use Rattle.first_form.specs.declared.first.FirstFault.{FirstFault}
 use Rattle.first_form.specs.declared.first.FirstFault.TheVariants as fault
-use Rattle.first_form.specs.declared.definition.TypeDefinition.{TypeDefinition}
-use Rattle.first_form.specs.Schemas.{FieldTree, TypeTree, is_sized, are_sized, is_schema, schema_words, type_named, HasFirstSchema}
-use Rattle.first_form.specs.Documents.{set, document_words, selections_of, open_in, most_open, IsSet, OfType, AreOfFields, HasFirstDocument, IsRefusedDocument}
+use Rattle.first_form.specs.Schemas.{TypeTree, is_sized, are_sized, is_schema, schema_words, type_named, HasFirstSchema}
+use Rattle.first_form.specs.Documents.{set, document_words, selections_of, open_in, most_open, AreOfFields, HasFirstDocument}
 use Rattle.first_form.specs.Reading.{Lexemes, peek, has_more}
 use Rattle.first_form.specs.SchemaReading.{schema_at}
 use Rattle.first_form.specs.DocumentReading.{set_at}
 use Rattle.first_form.specs.LexedTexts.{lexemes_at, Fails}
-use Rattle.first_form.specs.Views.{types_of}
 use Rattle.first_form.specs.Faults.{stopped_of, fault_of, SpellsSchema, SpellsDocument}
 use Rattle.first_form.proofs.Exact.{some_same, none_some}
 use Rattle.first_form.proofs.Repeated.{Each}

@@ -1,5 +1,5 @@
 -- How the nodes of a document are read at the front of tokens, in the service of the proofs.
-use Rattle.std.specs.Prelude.{ℕ, zero, suc, ◌&&◌, Bool, true, false, List, [], ◌∷◌, Option, None, Some}
+use Rattle.std.specs.Prelude.{ℕ, zero, suc, Bool, false, List, Option, None, Some}
 use Rattle.gql_base.specs.declared.token.TokenKind.TheVariants.{OpenBrace, CloseBrace}
 use Rattle.static_cost.specs.declared.first.FirstKind.{FirstKind}
 use Rattle.static_cost.specs.declared.first.FirstKind.TheVariants.{Int, Str, Bool as BoolKind, Id, Object}

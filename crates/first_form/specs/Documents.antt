@@ -1,6 +1,6 @@
 -- Documents of the first form: their trees, the tokens that spell them, and the nodes that they stand for.
 -- A document is one selection set (GraphQL October 2021, 2.4) of fields without alias, arguments and directives.
-use Rattle.std.specs.Prelude.{◌≡◌, ℕ, suc, ◌<◌, ◌≤◌, max, Bool, true, false, List, [], ◌∷◌, ◌++◌, Option, Some, None, IsTrue, codes}
+use Rattle.std.specs.Prelude.{◌≡◌, ℕ, suc, ◌≤◌, max, Bool, true, false, List, [], ◌∷◌, ◌++◌, Option, Some, None, IsTrue, codes}
 use Rattle.gql_base.specs.Pieces.{Lexeme, word, mark}
 use Rattle.gql_base.specs.Tokens.{HasLexemes}
 use Rattle.gql_base.specs.declared.token.TokenKind.TheVariants.{OpenBrace, CloseBrace}

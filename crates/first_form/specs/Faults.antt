@@ -1,5 +1,5 @@
 -- What tokens spell, and the faults of the parts of reading, in the service of the proofs.
-use Rattle.std.specs.Prelude.{ℕ, ◌≡◌, ◌≤◌, List, IsTrue, codes}
+use Rattle.std.specs.Prelude.{◌≡◌, ◌≤◌, List, IsTrue, codes}
 use Rattle.gql_base.specs.declared.lexing.LexFault.{LexFault}
 use Rattle.gql_base.specs.declared.lexing.LexFault.TheVariants.{BadChar, Memory as NoMemory}
 use Rattle.static_cost.specs.Nodes.{Firsts}

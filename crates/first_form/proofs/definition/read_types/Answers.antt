@@ -1,9 +1,7 @@
-use Rattle.std.proofs.Common.{◌∙◌, sym, ap, Some, subst, List}
+use Rattle.std.proofs.Common.{◌∙◌, sym, ap, Some}
 use Rattle.std.proofs.lemmas.Result.{err_from_is_err_and}
-use Rattle.first_form.specs.Schemas.{TypeTree}
-use Rattle.first_form.specs.Reading.{has_more, Lexemes, Parsed}
+use Rattle.first_form.specs.Reading.{has_more, Lexemes}
 use Rattle.first_form.specs.SchemaReading.{definition_at}
-use Rattle.first_form.specs.LexedTexts.{lexemes_at, Fails}
 use Rattle.first_form.specs.Views.{type_of, types_of}
 use Rattle.first_form.proofs.Loops.{loop_ends, loop_stops, loop_continues, at_the_end}
 use Rattle.first_form.proofs.SchemaExact.{types_repeat, schema_is}

@@ -1,9 +1,7 @@
-use Rattle.std.proofs.Common.{◌∙◌, ◌≡◌, List, ap, sym, Some, subst}
-use Rattle.std.specs.Prelude.{codes, option_map}
+use Rattle.std.proofs.Common.{◌∙◌, List, ap, sym, subst}
 use Rattle.std.proofs.lemmas.Result.{err_from_is_err_and}
 use Rattle.static_cost.specs.Nodes.{firsts_of}
 use Rattle.first_form.specs.declared.definition.FieldDefinition.{FieldDefinition}
-use Rattle.first_form.specs.Schemas.{type_named}
 use Rattle.first_form.specs.Documents.{most_open}
 use Rattle.first_form.specs.DocumentReading.{set_at}
 use Rattle.first_form.specs.LexedTexts.{lexemes_at, Fails}

@@ -1,5 +1,4 @@
-use Rattle.std.proofs.Common.{◌∙◌, ◌≡◌, true, List, ap, sym, subst, refl, Err}
-use Rattle.static_cost.specs.Nodes.{Firsts}
+use Rattle.std.proofs.Common.{◌≡◌, true, List, ap, sym, subst, refl, Err}
 use Rattle.first_form.specs.declared.definition.TypeDefinition.{TypeDefinition}
 use Rattle.first_form.specs.Schemas.{are_sized}
 use Rattle.first_form.specs.Documents.{HasFirstDocument}

@@ -1,4 +1,4 @@
-use Rattle.std.proofs.Common.{◌∙◌, ap, sym, length, arith, Err}
+use Rattle.std.proofs.Common.{◌∙◌, ap, sym, length, arith}
 use Rattle.std.proofs.lemmas.Result.{err_from_is_err_and}
 use Rattle.first_form.specs.Schemas.{is_schema}
 use Rattle.first_form.specs.Views.{types_of}

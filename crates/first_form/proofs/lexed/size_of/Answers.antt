@@ -1,5 +1,5 @@
 -- Digits are read, and their number is written as they are, where some number is.
-use Rattle.std.proofs.Common.{◌≡◌, arith, Ok, sym, ap, ◌∙◌}
+use Rattle.std.proofs.Common.{◌≡◌, arith, sym, ap, ◌∙◌}
 use Rattle.std.specs.Fmt.{decimal}
 use Rattle.std.proofs.lemmas.Fmt.{parse-decimal}
 use Rattle.first_form.proofs.Tokens.{same_number, not_both}

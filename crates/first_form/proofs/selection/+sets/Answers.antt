@@ -1,10 +1,10 @@
-use Rattle.std.proofs.Common.{◌∙◌, ◌-◌, ◌≡◌, ℕ, sym, subst, arith, map}
+use Rattle.std.proofs.Common.{◌∙◌, sym, subst, arith, map}
 use Rattle.std.proofs.lemmas.Result.{err_from_is_err_and}
 use Rattle.gql_base.specs.declared.token.TokenKind.TheVariants.{CloseBrace}
 use Rattle.static_cost.specs.Nodes.{first_of, firsts_of}
 use Rattle.first_form.specs.Reading.{before}
 use Rattle.first_form.specs.DocumentReading.{selection_at, set_at}
-use Rattle.first_form.specs.LexedTexts.{lexemes_at, Parses}
+use Rattle.first_form.specs.LexedTexts.{Parses}
 use Rattle.first_form.specs.Views.{fields_of, types_of}
 use Rattle.first_form.proofs.Loops.{loop_ends, loop_stops, loop_continues}
 use Rattle.first_form.proofs.DocumentExact.{selections_repeat, no_set, some_set}
