@@ -10,4 +10,4 @@ mod Nodes
 mod Whole
 mod Unique
 mod Sizes
-mod Fitting
+pub mod Fitting

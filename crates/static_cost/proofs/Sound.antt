@@ -44,5 +44,8 @@ mutual
   fields_sound no_first sized = tt
   fields_sound (first_then f others) sized = field_sound f (nodes_of_firsts others) sized.0 (fields_sound others sized.1)
 
+pub fields_plan_sound : (fs : Firsts) → FieldsSized fs → IsSound holds (value_plan Object (nodes_of_firsts fs))
+fields_plan_sound fs sized = value_sound Object (nodes_of_firsts fs) (fields_sound fs sized)
+
 pub plan_sound : (nodes : List FirstNode) → AllSized nodes → IsSound holds (plan_of nodes)
-plan_sound nodes sized = value_sound Object (nodes_of_firsts (firsts_of nodes)) (fields_sound (firsts_of nodes) sized)
+plan_sound nodes sized = fields_plan_sound (firsts_of nodes) sized
