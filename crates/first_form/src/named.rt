@@ -5,7 +5,7 @@ ghost use Rattle.std.specs.Str.{bytes_eq};
 ghost use Rattle.first_form.specs.Schemas.{are_distinct};
 ghost use Rattle.first_form.specs.Indexes.{FindsFirst};
 
-use crate::definition::{FieldDefinition, TypeDefinition};
+use crate::definition::FieldDefinition;
 use static_cost::FirstNode;
 use std::alloc::{AllocError, Global};
 use std::collections::BTreeMap;
@@ -29,14 +29,6 @@ impl Named for FieldDefinition {
     }
 }
 
-impl Named for TypeDefinition {
-    ghost name_of = { λ of. of.name };
-
-    fn name(&self) -> &str {
-        self.name.as_str()
-    }
-}
-
 impl Named for FirstNode {
     ghost use Rattle.first_form.specs.Views.{key_of};
 
@@ -47,7 +39,7 @@ impl Named for FirstNode {
     }
 }
 
-/// A list of things with names, in which they are found by their names. The list is kept as it is.
+/// A list of things, found by their names.
 #[derive(Drop)]
 pub struct NameIndex<'a, T: Named> {
     items: &'a [T],
@@ -82,8 +74,8 @@ impl<'a, T: Named> NameIndex<'a, T> {
     }
 }
 
-/// The index of a list by its names. The list is gone through from its end, so that the first of a name is what
-/// stays, and what it takes the place of shows that the name stands twice.
+/// The index of a list by its names. It fails for want of memory alone. The list is gone through from its end: the
+/// first of a name is what stays, and where it takes the place of a later one the name stands twice.
 pub fn index_of<'a, T: Named>(alloc: Global, items: &'a [T]) -> Result<NameIndex<'a, T>, AllocError>
     ensures { IfOk result (λ index. index.items.now ≡ items.now) }
 {
