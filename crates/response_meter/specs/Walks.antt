@@ -1,0 +1,64 @@
+-- What the parts of the walk over a reply's data do: each tests a value, counts it, and writes its text.
+use Rattle.std.specs.Prelude.{◌≡◌, ℕ, List, [], ◌∷◌, ◌++◌, Bool, true, false, not, Option, Some, None, Result, Ok, Err}
+use Rattle.cost_num.specs.Capped.{capped}
+use Rattle.cost_num.specs.declared.Cost.{Cost}
+use Rattle.serde_json.specs.Data.{Data, Items, Members}
+use Rattle.response_model.specs.Plan.{Plan, Nodes, no_type, object_type, position}
+use Rattle.response_model.specs.Response.{Tree, Elements, Entries}
+use Rattle.response_model.specs.Cost.{Part, types, fields, cost, entries_cost, elements_cost}
+use Rattle.static_cost.specs.declared.first.FirstNode.{FirstNode}
+use Rattle.static_cost.specs.Nodes.{First, first, Firsts, first_of}
+use Rattle.static_cost.specs.FirstPlan.{value_plan, nodes_of_firsts}
+use Rattle.static_cost.specs.Leaves.{holds}
+use Rattle.response_meter.specs.declared.fault.MeterFault.{MeterFault}
+use Rattle.response_meter.specs.declared.fault.Why.TheVariants.{BadErrors}
+use Rattle.response_meter.specs.Faults.{Fault, Tells, given}
+use Rattle.response_meter.specs.FirstFault as tests
+use Rattle.response_meter.specs.Trees as trees
+use Rattle.response_meter.specs.Errors.{ReplyError}
+use Rattle.response_meter.specs.Answer.{tree_text, elements_text, entries_text, errors_part}
+
+-- No type name is asked in an operation of the first form: no object type has a name, and there is no alias.
+abbrev pub no_name : ℕ → List ℕ
+no_name T = []
+
+-- The tests and the trees of the first form.
+abbrev pub value_fault : Plan → Data → Option Fault
+value_fault plan json = tests.value_fault holds no_name [] false plan json
+
+abbrev pub value_tree : Plan → Data → Tree
+value_tree plan json = trees.value_tree no_name [] false plan json
+
+abbrev pub entries_fault : Nodes → Members → Option Fault
+entries_fault nodes ms = tests.entries_fault holds no_name [] nodes ms
+
+abbrev pub member_entries : Nodes → Members → Entries
+member_entries nodes ms = trees.member_entries no_name [] nodes ms
+
+-- The plan of a field's value, or of each item of its list.
+abbrev pub plan_in : First → Plan
+plan_in (first key kind nullable list below) = value_plan kind (nodes_of_firsts below)
+
+-- Nothing is wrong, the cost so far is capped, and the text was appended. Or a fault is told.
+abbrev pub Measures : List ℕ → List ℕ → Result Cost MeterFault → Option Fault → (Part → ℕ) → List ℕ → Type 0
+Measures before after (Ok c) fault costs text = (fault ≡ None) × (c.types ≡ capped (costs types)) × (c.fields ≡ capped (costs fields)) × (after ≡ before ++ text)
+Measures before after (Err f) fault costs text = Tells f fault
+
+-- A value with its plan, the entries of an object, and the items of a list from the n-th on.
+abbrev pub MeasuresTree : List ℕ → List ℕ → Result Cost MeterFault → Option Fault → Plan → Tree → Type 0
+MeasuresTree before after result fault plan t = Measures before after result fault (λ part. cost part plan t) (tree_text t)
+
+abbrev pub MeasuresEntries : List ℕ → List ℕ → Result Cost MeterFault → Option Fault → List ℕ → Nodes → Entries → Type 0
+MeasuresEntries before after result fault front nodes es = Measures before after result fault (λ part. entries_cost part nodes es) (entries_text front es)
+
+abbrev pub MeasuresElements : List ℕ → List ℕ → Result Cost MeterFault → Option Fault → List ℕ → Plan → Elements → Type 0
+MeasuresElements before after result fault front plan ts = Measures before after result fault (λ part. elements_cost part plan ts) (elements_text front ts)
+
+-- The errors are well formed, and their part of the answer was appended; the result says whether there are any.
+abbrev pub has_some : List ReplyError → Bool
+has_some [] = false
+has_some (e ∷ es) = true
+
+abbrev pub WritesErrors : List ℕ → List ℕ → Result Bool MeterFault → Option (List ReplyError) → Type 0
+WritesErrors before after (Ok some) errors = (es : List ReplyError) × (errors ≡ Some es) × (some ≡ has_some es) × (after ≡ before ++ errors_part es)
+WritesErrors before after (Err f) errors = Tells f (given errors BadErrors (λ es. None))
