@@ -1,5 +1,5 @@
 -- What the parts of the walk over a reply's data do: each tests a value, counts it, and writes its text.
-use Rattle.std.specs.Prelude.{◌≡◌, ℕ, List, [], ◌∷◌, ◌++◌, Bool, true, false, not, Option, Some, None, Result, Ok, Err}
+use Rattle.std.specs.Prelude.{◌≡◌, ℕ, List, [], ◌∷◌, ◌++◌, Bool, true, false, not, Option, Some, None, Result, Ok, Err, ⊤}
 use Rattle.cost_num.specs.Capped.{capped}
 use Rattle.cost_num.specs.declared.Cost.{Cost}
 use Rattle.serde_json.specs.Data.{Data, Items, Members}
@@ -62,3 +62,8 @@ has_some (e ∷ es) = true
 abbrev pub WritesErrors : List ℕ → List ℕ → Result Bool MeterFault → Option (List ReplyError) → Type 0
 WritesErrors before after (Ok some) errors = (es : List ReplyError) × (errors ≡ Some es) × (some ≡ has_some es) × (after ≡ before ++ errors_part es)
 WritesErrors before after (Err f) errors = Tells f (given errors BadErrors (λ es. None))
+
+-- What is well formed was appended as this text. Or it is told that it is not.
+abbrev pub Writes : {A : Type 0} → List ℕ → List ℕ → Result ⊤ MeterFault → Option A → (A → List ℕ) → Type 0
+Writes {A = A} before after (Ok u) read text = (x : A) × (read ≡ Some x) × (after ≡ before ++ text x)
+Writes before after (Err f) read text = Tells f (given read BadErrors (λ x. None))
