@@ -24,12 +24,12 @@ abbrev mutual
   -- The elements and the closing bracket. `front` stands before the first element, and a comma before each other.
   pub elements_text : List ℕ → Elements → List ℕ
   elements_text front no_element = codes "]"
-  elements_text front (element t ts) = front ++ tree_text t ++ elements_text comma ts
+  elements_text front (element t ts) = front ++ (tree_text t ++ elements_text comma ts)
 
   -- The entries and the closing brace, likewise.
   pub entries_text : List ℕ → Entries → List ℕ
   entries_text front no_entry = codes "}"
-  entries_text front (entry k t es) = front ++ key_text k ++ tree_text t ++ entries_text comma es
+  entries_text front (entry k t es) = front ++ ((key_text k ++ tree_text t) ++ entries_text comma es)
 
 -- A path as JSON: keys as strings, items by their numbers.
 abbrev pub step_json : PathStep → Data
@@ -51,7 +51,7 @@ error_text e = codes "{\"message\":" ++ compact_text (string e.message) ++ path_
 -- The errors and the closing bracket, likewise.
 abbrev pub errors_text : List ℕ → List ReplyError → List ℕ
 errors_text front [] = codes "]"
-errors_text front (e ∷ es) = front ++ error_text e ++ errors_text comma es
+errors_text front (e ∷ es) = front ++ (error_text e ++ errors_text comma es)
 
 -- The entry of the errors, where there are errors.
 abbrev pub errors_part : List ReplyError → List ℕ

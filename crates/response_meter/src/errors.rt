@@ -2,7 +2,7 @@
 
 ghost use Rattle.std.specs.Prelude.{◌≡◌, ◌++◌, [], Some, IsTrue, is_some, option_map, option_and_then, string_bytes};
 ghost use Rattle.serde_json.specs.View.{view, items_view};
-ghost use Rattle.response_meter.specs.Errors.{errors_of, errors_in, error_of, path_of, steps_of};
+ghost use Rattle.response_meter.specs.Errors.{errors_of, errors_in, error_of, path_of, steps_of, step_of};
 ghost use Rattle.response_meter.specs.Walks.{WritesErrors, Writes};
 ghost use Rattle.response_meter.specs.Answer.{errors_text, error_text, path_text};
 ghost use Rattle.serde_json.specs.Find.{as_array};
@@ -20,6 +20,7 @@ pub(crate) fn write_errors(alloc: Global, errors: Option<&Value>, into: &mut Str
     match errors {
         None | Some(Value::Null) => Ok(false),
         Some(Value::Array(items)) => {
+            let items = items.as_slice();
             if items.is_empty() {
                 return Ok(false);
             }
@@ -82,7 +83,30 @@ fn is_path(path: &Value) -> bool
     ensures { result ≡ is_some (option_and_then steps_of (as_array (view path.now))) }
 {
     match path {
-        Value::Array(steps) => steps.iter().all(|step| step.is_string() || step.is_u64()),
+        Value::Array(steps) => are_steps(steps),
+        _ => false,
+    }
+}
+
+/// Whether each value is a string or a whole number of at least 0.
+fn are_steps(steps: &[Value]) -> bool
+    ensures { result ≡ is_some (steps_of (items_view steps.now)) }
+{
+    'steps: for step in steps {
+        if !is_step(step) {
+            return false;
+        }
+    }
+    true
+}
+
+/// Whether a value is a string or a whole number of at least 0.
+fn is_step(step: &Value) -> bool
+    ensures { result ≡ is_some (step_of (view step.now)) }
+{
+    match step {
+        Value::String(_) => true,
+        Value::Number(number) => number.is_u64(),
         _ => false,
     }
 }

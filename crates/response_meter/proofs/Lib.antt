@@ -1,0 +1,5 @@
+pub mod Left
+pub mod Fields
+pub mod Elements
+pub mod Places
+pub mod ErrorTexts
