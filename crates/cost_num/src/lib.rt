@@ -9,9 +9,13 @@ ghost use Rattle.cost_num.specs.Capped.{capped};
 ghost use Rattle.cost_num.specs.CostText.{cost_text};
 ghost use Rattle.cost_num.specs.Within.{Within};
 
+pub mod laws;
 mod printed;
 #[cfg(test)]
 mod tests;
+mod weights;
+
+pub use weights::{WeightFault, read_allowance, read_weight};
 
 /// The greatest cost that a component may have, in thousandths.
 pub const CAP: u64 = 1_000_000_000_000_000;
@@ -22,6 +26,9 @@ pub const PLACES: usize = 3;
 /// How many of the smallest parts that costs are counted in make up one: ten to the power of
 /// `PLACES`.
 pub const UNIT: u64 = 1_000;
+
+/// The greatest weight, in thousandths.
+pub const GREATEST_WEIGHT: u64 = 1_000_000 * UNIT;
 
 /// A type cost and a field cost, each in thousandths.
 #[derive(Clone, Copy, Debug, PartialEq, Eq)]

@@ -1,4 +1,7 @@
-use crate::{CAP, Cost, add_capped, cost_bytes, covers, times_capped};
+use crate::{
+    CAP, Cost, WeightFault, add_capped, cost_bytes, covers, read_allowance, read_weight,
+    times_capped,
+};
 use std::test::Fail;
 
 #[test]
@@ -65,4 +68,71 @@ fn costs_are_printed(rt: HostRuntime) -> Result<(), Fail> {
         assert_eq!(rt; buffer[47], b'x', "{text}");
     }
     Ok(())
+}
+
+#[test]
+fn weights_are_read_in_thousandths(rt: HostRuntime) {
+    for (text, weight) in [
+        ("1.2300", Ok(1_230)),
+        ("1.2345", Err(WeightFault::TooFine { at: 5 })),
+        ("-1", Err(WeightFault::Negative)),
+        ("1e3", Err(WeightFault::Exponent)),
+        ("1.", Err(WeightFault::BadDigit { at: 2 })),
+        ("", Err(WeightFault::Empty)),
+        ("1000000", Ok(1_000_000_000)),
+        ("1000000.001", Err(WeightFault::TooLarge)),
+        ("0", Ok(0)),
+        ("00.10", Ok(100)),
+        ("0.5", Ok(500)),
+        ("12.04", Ok(12_040)),
+        ("7.001", Ok(7_001)),
+        ("1000000.000", Ok(1_000_000_000)),
+        ("999999.999", Ok(999_999_999)),
+        (".5", Err(WeightFault::BadDigit { at: 0 })),
+        (".", Err(WeightFault::BadDigit { at: 0 })),
+        ("e", Err(WeightFault::BadDigit { at: 0 })),
+        ("1.e3", Err(WeightFault::BadDigit { at: 2 })),
+        ("1e", Err(WeightFault::Exponent)),
+        ("1E5", Err(WeightFault::Exponent)),
+        ("1.5e3", Err(WeightFault::Exponent)),
+        ("1.5.", Err(WeightFault::BadDigit { at: 3 })),
+        ("1..5", Err(WeightFault::BadDigit { at: 2 })),
+        ("+1", Err(WeightFault::BadDigit { at: 0 })),
+        (" 1", Err(WeightFault::BadDigit { at: 0 })),
+        ("1 ", Err(WeightFault::BadDigit { at: 1 })),
+        ("1-", Err(WeightFault::BadDigit { at: 1 })),
+        ("-", Err(WeightFault::Negative)),
+        ("-1e3", Err(WeightFault::Negative)),
+        ("1٣", Err(WeightFault::BadDigit { at: 1 })),
+        ("1.٣", Err(WeightFault::BadDigit { at: 2 })),
+        ("1.2345x", Err(WeightFault::BadDigit { at: 6 })),
+        ("1.0000000000000001", Err(WeightFault::TooFine { at: 17 })),
+        ("1000000.0001", Err(WeightFault::TooFine { at: 11 })),
+        (
+            "9999999999999999999999999999999999999999",
+            Err(WeightFault::TooLarge),
+        ),
+        ("0000000000000000000000000000000000000012", Ok(12_000)),
+        (
+            "3.0000000000000000000000000000000000000000000000000000000000000000000000000000000000000000000000000000",
+            Ok(3_000),
+        ),
+    ] {
+        assert_eq!(rt; read_weight(text), weight, "{text}");
+    }
+}
+
+#[test]
+fn allowances_are_read_up_to_the_cap(rt: HostRuntime) {
+    for (text, allowance) in [
+        ("1000000000000", Ok(CAP)),
+        ("1000000000000.001", Err(WeightFault::TooLarge)),
+        ("999999999999.999", Ok(CAP - 1)),
+        ("1000000.001", Ok(1_000_000_001)),
+        ("6.000", Ok(6_000)),
+        ("6.0001", Err(WeightFault::TooFine { at: 5 })),
+        ("99999999999999999999", Err(WeightFault::TooLarge)),
+    ] {
+        assert_eq!(rt; read_allowance(text), allowance, "{text}");
+    }
 }

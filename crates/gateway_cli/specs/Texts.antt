@@ -1,8 +1,8 @@
 -- The lines that the commands write.
 use Rattle.std.specs.Prelude.{ℕ, List, Option, [], ◌∷◌, ◌++◌, codes}
 use Rattle.std.specs.Io.KnownBytes.{Appends}
-use Rattle.gateway_cli.specs.declared.price.Refusal.{Refusal}
-use Rattle.gateway_cli.specs.declared.price.Refusal.TheVariants.{SchemaNotBuilt, DocumentNotBuilt, TypesTooCostly, FieldsTooCostly, BothTooCostly}
+use Rattle.gateway_cli.specs.declared.operation.Refusal.{Refusal}
+use Rattle.gateway_cli.specs.declared.operation.Refusal.TheVariants.{SchemaNotBuilt, DocumentNotBuilt, TypesTooCostly, FieldsTooCostly, BothTooCostly}
 
 -- a text and its line end
 abbrev pub line : List ℕ → List ℕ

@@ -1,14 +1,12 @@
 //! The one call that does all of the program.
 
-ghost use Rattle.std.specs.Prelude.{◌≡◌, ◌≤◌, ◌⊎◌, List, ℕ};
-ghost use Rattle.std.specs.Io.KnownBytes.{Appends, Keeps};
+ghost use Rattle.std.specs.Prelude.{◌≡◌, ◌≤◌, ◌⊎◌};
+ghost use Rattle.std.specs.Io.KnownBytes.{Keeps};
 ghost use Rattle.outside.specs.Faults.{Rose};
-ghost use Rattle.cost_num.specs.CostText.{cost_text};
-ghost use Rattle.cost_num.specs.declared.Cost.{Cost as CostType};
-ghost use Rattle.gateway_cli.specs.declared.price.Refusal.{Refusal as RefusalType};
-ghost use Rattle.gateway_cli.specs.Texts.{line, refusal_text, file_text, SaysFile};
-ghost use Rattle.gateway_cli.specs.Words.{IsPrice, IsNoCommand};
+ghost use Rattle.gateway_cli.specs.Texts.{SaysFile};
+ghost use Rattle.gateway_cli.specs.Words.{IsPriceOf, IsNoCommand};
 ghost use Rattle.gateway_cli.specs.Statuses.{IsSilent, IsQuiet};
+ghost use Rattle.gateway_cli.specs.Outcomes.{PrintsPrice, PrintsRefusal};
 
 use crate::price::price;
 use crate::report;
@@ -27,13 +25,14 @@ pub fn run<Rt, F: Files, K: Sink, E: Sink>(
     err: &mut E,
 ) -> u8
     ensures known { result ≤ NO_MEMORY }
-    ensures priced { result ≡ DONE → IsPrice words.now (λ schema document. (cost : CostType)
-        × Appends (K.written out.old) (K.written out.new) (line (cost_text cost))) }
-    ensures refused { result ≡ REFUSED → IsPrice words.now (λ schema document. (refusal : RefusalType)
-        × Appends (E.written err.old) (E.written err.new) (line (refusal_text refusal))) }
+    ensures priced { result ≡ DONE → IsPriceOf words.now (λ schema document. PrintsPrice (F.content files.old schema)
+        (F.content files.old document) (K.written out.old) (K.written out.new)) }
+    ensures refused { result ≡ REFUSED → IsPriceOf words.now (λ schema document. PrintsRefusal (F.content files.old schema)
+        (F.content files.old document) (E.written err.old) (E.written err.new)) }
     ensures usage { result ≡ USAGE → IsNoCommand words.now }
+    ensures other_words { IsNoCommand words.now → result ≡ USAGE }
     ensures file_failed { result ≡ FILE_FAILED → Rose (F.faults files.old) (F.faults files.new)
-        × IsPrice words.now (λ schema document. SaysFile schema (E.written err.old) (E.written err.new)
+        × IsPriceOf words.now (λ schema document. SaysFile schema (E.written err.old) (E.written err.new)
         ⊎ SaysFile document (E.written err.old) (E.written err.new) ⊎ Rose (E.faults err.old) (E.faults err.new)) }
     ensures stream_failed { result ≡ STREAM_FAILED → Rose (K.faults out.old) (K.faults out.new) ⊎ Rose (E.faults err.old) (E.faults err.new) }
     ensures silent { IsSilent result → Keeps (K.written out.old) (K.written out.new) }

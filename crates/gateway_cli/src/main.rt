@@ -2,6 +2,7 @@
 #![tactic(auto)]
 
 mod command;
+mod operation;
 mod price;
 mod report;
 #[cfg(test)]

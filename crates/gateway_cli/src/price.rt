@@ -1,41 +1,25 @@
 //! The command `price SCHEMA DOCUMENT`.
 
-ghost use Rattle.std.specs.Prelude.{◌≡◌, ◌≤◌, ◌<◌, ◌⊎◌, ◌≢◌, ◌↔◌, OnOk, OnErr, IfOk, IsErrOf, Option, List, ℕ, length, IsUtf8, IfErr, IfSome, IfNone};
-ghost use Rattle.std.specs.Io.KnownBytes.{Appends, Keeps};
+ghost use Rattle.std.specs.Prelude.{◌≡◌, ◌≤◌, ◌⊎◌, ◌≢◌, IfOk, IfErr};
+ghost use Rattle.std.specs.Io.KnownBytes.{Keeps};
 ghost use Rattle.outside.specs.Faults.{Rose};
-ghost use Rattle.cost_num.specs.CostText.{cost_text};
-ghost use Rattle.gateway_cli.specs.Texts.{line, refusal_text, SaysFile};
+ghost use Rattle.static_cost.specs.FirstBound.{IsWithinCap};
+ghost use Rattle.gateway_cli.specs.Reading.{IsRead};
+ghost use Rattle.gateway_cli.specs.Texts.{SaysFile};
 ghost use Rattle.gateway_cli.specs.Statuses.{IsSilent, IsQuiet};
-ghost use Rattle.gateway_cli.specs.Causes.{IsFileFault};
-ghost use Rattle.cost_num.specs.declared.Cost.{Cost as CostType};
-ghost use Rattle.gateway_cli.specs.Reading.{IsRead, IsText};
+ghost use Rattle.gateway_cli.specs.Causes.{IsFileFault, IfRefused};
+ghost use Rattle.gateway_cli.specs.Faults.{IfRefusedAs};
+ghost use Rattle.gateway_cli.specs.Operations.{HasPrice, IsRefused};
+ghost use Rattle.gateway_cli.specs.Outcomes.{IsPrice, IsRefusal, PrintsPrice, PrintsRefusal};
 
+use crate::operation::{
+    DOCUMENT_LIMIT, OperationFault, Refusal, SCHEMA_LIMIT, bound_of, operation_of,
+};
 use crate::report;
 use crate::report::{DONE, FILE_FAILED, NO_MEMORY, REFUSED, STREAM_FAILED, USAGE};
-use cost_num::{CAP, Cost};
-use gql_base::Text;
+use cost_num::Cost;
 use outside::{FileFault, Files, Sink};
 use std::alloc::Global;
-
-/// How many bytes a schema file may have.
-pub const SCHEMA_LIMIT: usize = 4_194_304;
-/// How many bytes a document file may have.
-pub const DOCUMENT_LIMIT: usize = 262_144;
-
-/// Why an operation has no price.
-#[derive(Clone, Copy, Debug, Drop, PartialEq, Eq)]
-pub enum Refusal {
-    /// The schema hasn't the form that can be priced.
-    SchemaNotBuilt,
-    /// The document hasn't the form that can be priced.
-    DocumentNotBuilt,
-    /// The greatest type cost exceeds the cap.
-    TypesTooCostly,
-    /// The greatest field cost exceeds the cap.
-    FieldsTooCostly,
-    /// Both exceed the cap.
-    BothTooCostly,
-}
 
 /// Why there is no price to print.
 #[derive(Clone, Copy, Debug, Drop, PartialEq, Eq)]
@@ -50,35 +34,40 @@ pub enum PriceFault {
     Memory,
 }
 
-// The text that a file holds, or nothing where it is longer than the limit or is not UTF-8.
-fn text_of(read: Vec<u8>, limit: usize) -> Option<Text>
-    ensures text { IfSome result (λ text. (text ≡ read.items) × IsText limit read.items) }
-    ensures none { IfNone result (¬ IsText limit read.items) }
+// The price of the operation that the bytes of a schema file and of a document file hold.
+fn price_of(alloc: Global, schema: Vec<u8>, document: Vec<u8>) -> Result<Cost, OperationFault>
+    ensures priced { IfOk result (HasPrice schema.items document.items) }
+    ensures within_cap { IfOk result IsWithinCap }
+    ensures refused { IfErr result (λ fault. IfRefusedAs fault (IsRefused schema.items document.items)) }
 {
-    if read.len() > limit {
-        return None;
+    let operation = match operation_of(alloc, schema, document) {
+        Ok(operation) => operation,
+        Err(fault) => return Err(fault),
+    };
+    match bound_of(&operation) {
+        Ok(cost) => Ok(cost),
+        Err(refusal) => Err(OperationFault::Refused(refusal)),
     }
-    Text::from_utf8(read).ok()
 }
 
-// The price of the operation that two texts spell.
-fn price_of(alloc: Global, _schema: &str, _document: &str) -> Result<Cost, PriceFault>
-    ensures capped { IfOk result (λ cost. (cost.types ≤ CAP) × (cost.fields ≤ CAP)) }
-    ensures reads_nothing { IfErr result (λ fault. ¬ IsFileFault fault) }
-{
-    let _ = alloc;
-    Err(PriceFault::Memory)
+/// The bytes of a schema file and of a document file, each at most one past its limit.
+#[derive(Drop)]
+struct Read {
+    schema: Vec<u8>,
+    document: Vec<u8>,
 }
 
-// The price of the operation that two files hold.
-fn price_files<F: Files>(
+// Reads both files, the schema first.
+fn read_files<F: Files>(
     alloc: Global,
     schema: &str,
     document: &str,
     files: &mut F,
-) -> Result<Cost, PriceFault>
-    ensures capped { IfOk result (λ cost. (cost.types ≤ CAP) × (cost.fields ≤ CAP)) }
+) -> Result<Read, PriceFault>
+    ensures schema { IfOk result (λ read. IsRead SCHEMA_LIMIT (F.content files.old schema.now) read.schema.items) }
+    ensures document { IfOk result (λ read. IsRead DOCUMENT_LIMIT (F.content files.old document.now) read.document.items) }
     ensures failed { IfErr result (λ fault. IsFileFault fault → Rose (F.faults files.old) (F.faults files.new)) }
+    ensures refused { IfErr result (λ fault. IfRefused fault (λ refusal. ⊥)) }
 {
     let schema = match files.read(alloc, schema, SCHEMA_LIMIT) {
         Ok(read) => read,
@@ -90,13 +79,31 @@ fn price_files<F: Files>(
         Err(FileFault::Failed) => return Err(PriceFault::DocumentFailed),
         Err(FileFault::Memory) => return Err(PriceFault::Memory),
     };
-    let Some(schema) = text_of(schema, SCHEMA_LIMIT) else {
-        return Err(PriceFault::Refused(Refusal::SchemaNotBuilt));
+    Ok(Read { schema, document })
+}
+
+// The price of the operation that two files hold.
+fn price_files<F: Files>(
+    alloc: Global,
+    schema: &str,
+    document: &str,
+    files: &mut F,
+) -> Result<Cost, PriceFault>
+    ensures priced { IfOk result (IsPrice (F.content files.old schema.now) (F.content files.old document.now)) }
+    ensures within_cap { IfOk result IsWithinCap }
+    ensures refused { IfErr result (λ fault. IfRefused fault
+        (IsRefusal (F.content files.old schema.now) (F.content files.old document.now))) }
+    ensures failed { IfErr result (λ fault. IsFileFault fault → Rose (F.faults files.old) (F.faults files.new)) }
+{
+    let read = match read_files(alloc, schema, document, files) {
+        Ok(read) => read,
+        Err(fault) => return Err(fault),
     };
-    let Some(document) = text_of(document, DOCUMENT_LIMIT) else {
-        return Err(PriceFault::Refused(Refusal::DocumentNotBuilt));
-    };
-    price_of(alloc, schema.as_str(), document.as_str())
+    match price_of(alloc, read.schema, read.document) {
+        Ok(cost) => Ok(cost),
+        Err(OperationFault::Refused(refusal)) => Err(PriceFault::Refused(refusal)),
+        Err(OperationFault::Memory) => Err(PriceFault::Memory),
+    }
 }
 
 /// Prices the operation that two files hold, writes its line, and gives the status.
@@ -109,11 +116,16 @@ pub fn price<F: Files, K: Sink, E: Sink>(
     err: &mut E,
 ) -> u8
     ensures known { (result ≤ NO_MEMORY) × (result ≢ USAGE) }
-    ensures priced { result ≡ DONE → (cost : CostType) × Appends (K.written out.old) (K.written out.new) (line (cost_text cost)) }
-    ensures refused { result ≡ REFUSED → (refusal : Refusal) × Appends (E.written err.old) (E.written err.new) (line (refusal_text refusal)) }
+    ensures priced { result ≡ DONE → PrintsPrice (F.content files.old schema.now)
+        (F.content files.old document.now) (K.written out.old) (K.written out.new) }
+    ensures refused { result ≡ REFUSED → PrintsRefusal (F.content files.old schema.now)
+        (F.content files.old document.now) (E.written err.old) (E.written err.new) }
     ensures file_failed { result ≡ FILE_FAILED → Rose (F.faults files.old) (F.faults files.new)
-        × (SaysFile schema.now (E.written err.old) (E.written err.new) ⊎ SaysFile document.now (E.written err.old) (E.written err.new) ⊎ Rose (E.faults err.old) (E.faults err.new)) }
-    ensures stream_failed { result ≡ STREAM_FAILED → Rose (K.faults out.old) (K.faults out.new) ⊎ Rose (E.faults err.old) (E.faults err.new) }
+        × (SaysFile schema.now (E.written err.old) (E.written err.new)
+        ⊎ SaysFile document.now (E.written err.old) (E.written err.new)
+        ⊎ Rose (E.faults err.old) (E.faults err.new)) }
+    ensures stream_failed { result ≡ STREAM_FAILED → Rose (K.faults out.old) (K.faults out.new)
+        ⊎ Rose (E.faults err.old) (E.faults err.new) }
     ensures silent { IsSilent result → Keeps (K.written out.old) (K.written out.new) }
     ensures quiet { IsQuiet result → Keeps (E.written err.old) (E.written err.new) }
 {

@@ -6,7 +6,7 @@ ghost use Rattle.outside.specs.Faults.{Rose};
 ghost use Rattle.cost_num.specs.CostText.{cost_text};
 ghost use Rattle.gateway_cli.specs.Texts.{line, refusal_text, file_text};
 
-use crate::price::Refusal;
+use crate::operation::Refusal;
 use cost_num::{CAP, Cost, cost_bytes};
 use outside::{Sink, WriteFault, write_whole};
 

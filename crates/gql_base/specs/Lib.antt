@@ -1,0 +1,4 @@
+pub mod Characters
+pub mod Pieces
+pub mod Tokens
+pub mod Fronts

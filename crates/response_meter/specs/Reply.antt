@@ -54,10 +54,13 @@ module _ (holds : ℕ → Data → Bool) (name : ℕ → List ℕ) (alias : List
 
   -- The first test that a reply does not pass, in reading order:
   -- it is JSON, it is an object, its errors are well formed, it has data or errors, and its data fits and keeps the sizes.
+  abbrev pub reply_fault : Plan → List ℕ → Option Fault
+  reply_fault plan bytes = given (json_of bytes) NotJson (λ json. given (as_object json) NotObject (λ ms.
+      given (errors_of (errors_entry ms)) BadErrors (λ errors. content_fault plan errors (data_entry ms))))
+
+  -- Its path begins at the data.
   abbrev pub first_fault : Plan → List ℕ → Option Fault
-  first_fault plan bytes = at_step (codes "data")
-      (given (json_of bytes) NotJson (λ json. given (as_object json) NotObject (λ ms.
-        given (errors_of (errors_entry ms)) BadErrors (λ errors. content_fault plan errors (data_entry ms)))))
+  first_fault plan bytes = at_step (codes "data") (reply_fault plan bytes)
 
 -- What a reply costs: that of its data, or nothing where it has none.
 abbrev pub reply_cost : Part → Plan → Option Tree → ℕ

@@ -1,8 +1,8 @@
 -- What the parts of the walk over a reply's data do: each tests a value, counts it, and writes its text.
-use Rattle.std.specs.Prelude.{◌≡◌, ◌+◌, ℕ, List, [], ◌∷◌, ◌++◌, Bool, true, false, Option, Some, None, Result, Ok, Err, ⊤}
+use Rattle.std.specs.Prelude.{◌≡◌, ◌+◌, ℕ, List, [], ◌∷◌, ◌++◌, Bool, true, false, Option, Some, None, option_map, Result, Ok, Err, ⊤}
 use Rattle.cost_num.specs.Capped.{capped}
 use Rattle.cost_num.specs.declared.Cost.{Cost}
-use Rattle.serde_json.specs.Data.{Data, Members}
+use Rattle.serde_json.specs.Data.{Data, Members, object}
 use Rattle.serde_json.specs.Find.{get_member}
 use Rattle.response_model.specs.Plan.{Plan, Nodes}
 use Rattle.response_model.specs.Response.{Tree, Elements, Entries}
@@ -16,8 +16,11 @@ use Rattle.response_meter.specs.declared.fault.Why.TheVariants.{BadErrors, Missi
 use Rattle.response_meter.specs.Faults.{Fault, Tells, given, at_step, key_step}
 use Rattle.response_meter.specs.FirstFault as tests
 use Rattle.response_meter.specs.Trees as trees
-use Rattle.response_meter.specs.Errors.{ReplyError}
-use Rattle.response_meter.specs.Answer.{key_text, tree_text, elements_text, entries_text, errors_part}
+use Rattle.response_meter.specs.Errors.{ReplyError, errors_of}
+use Rattle.response_meter.specs.Reply as reply
+use Rattle.response_meter.specs.Reply.{json_of, errors_entry, data_entry, reply_cost}
+use Rattle.response_meter.specs.declared.metered.FirstMetered.{FirstMetered}
+use Rattle.response_meter.specs.Answer.{key_text, tree_text, elements_text, entries_text, errors_part, data_part, answer_text}
 
 -- No type name is asked in an operation of the first form: no object type has a name, and there is no alias.
 abbrev pub no_name : ℕ → List ℕ
@@ -96,3 +99,29 @@ WritesErrors before after (Err f) errors = Tells f (given errors BadErrors (λ e
 abbrev pub Writes : {A : Type 0} → List ℕ → List ℕ → Result ⊤ MeterFault → Option A → (A → List ℕ) → Type 0
 Writes {A = A} before after (Ok u) read text = (x : A) × (read ≡ Some x) × (after ≡ before ++ text x)
 Writes before after (Err f) read text = Tells f (given read BadErrors (λ x. None))
+
+-- The data of a reply, where it has any.
+abbrev pub content_tree : Plan → Option Data → Option Tree
+content_tree plan json = option_map (trees.data_tree no_name [] plan) json
+
+abbrev pub content_fault : Plan → List ReplyError → Option Data → Option Fault
+content_fault plan errors json = reply.content_fault holds no_name [] plan errors json
+
+abbrev pub MeasuresContent : List ℕ → List ℕ → Result Cost MeterFault → Plan → List ReplyError → Option Data → Type 0
+MeasuresContent before after result plan errors json =
+    Measures before after result (content_fault plan errors json) (λ part. reply_cost part plan (content_tree plan json)) (data_part errors (content_tree plan json))
+
+-- What was found in a reply that passes every test.
+pub record Found (plan : Plan) (bytes : List ℕ) (metered : FirstMetered) : Type 0 where
+  pub members : Members
+  pub errors : List ReplyError
+  pub is_json : json_of bytes ≡ Some (object members)
+  pub errors_read : errors_of (errors_entry members) ≡ Some errors
+  pub no_fault : content_fault plan errors (data_entry members) ≡ None
+  pub types_cost : metered.cost.types ≡ capped (reply_cost types plan (content_tree plan (data_entry members)))
+  pub fields_cost : metered.cost.fields ≡ capped (reply_cost fields plan (content_tree plan (data_entry members)))
+  pub text : metered.text ≡ answer_text (content_tree plan (data_entry members)) errors
+
+abbrev pub MeasuresReply : Result FirstMetered MeterFault → Plan → List ℕ → Type 0
+MeasuresReply (Ok metered) plan bytes = Found plan bytes metered
+MeasuresReply (Err f) plan bytes = Tells f (reply.reply_fault holds no_name [] plan bytes)

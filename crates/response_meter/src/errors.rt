@@ -17,9 +17,12 @@ use std::alloc::Global;
 pub(crate) fn write_errors(alloc: Global, errors: Option<&Value>, into: &mut String) -> Result<bool, MeterFault>
     ensures { WritesErrors (string_bytes into.old) (string_bytes into.new) result (errors_of (option_map (λ v. view v.now) errors.entry)) }
 {
+    let Some(errors) = errors else {
+        return Ok(false);
+    };
     match errors {
-        None | Some(Value::Null) => Ok(false),
-        Some(Value::Array(items)) => {
+        Value::Null => Ok(false),
+        Value::Array(items) => {
             let items = items.as_slice();
             if items.is_empty() {
                 return Ok(false);
@@ -28,7 +31,7 @@ pub(crate) fn write_errors(alloc: Global, errors: Option<&Value>, into: &mut Str
             write_items(alloc, items, into)?;
             Ok(true)
         }
-        Some(_) => Err(not_response(alloc, Why::BadErrors)),
+        _ => Err(not_response(alloc, Why::BadErrors)),
     }
 }
 

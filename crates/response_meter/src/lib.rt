@@ -3,9 +3,13 @@
 
 mod errors;
 mod fault;
+mod meter;
 mod metered;
+#[cfg(test)]
+mod tests;
 mod walk;
 mod writing;
 
 pub use fault::{MeterFault, Why};
+pub use meter::first_meter;
 pub use metered::FirstMetered;

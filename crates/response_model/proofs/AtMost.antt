@@ -1,10 +1,10 @@
 -- No response of a sound plan costs more than the greatest cost.
-use Rattle.std.proofs.Common.{◌≡◌, ℕ, suc, zero, ◌+◌, ◌*◌, ◌≤◌, Bool, true, false, Option, Some, None, refl, ap, arith, zero-le, le_refl, le_trans, mul-le-mul_right, suc-mul}
+use Rattle.std.proofs.Common.{◌≡◌, ℕ, ◌*◌, ◌≤◌, Bool, Option, Some, None, refl, ap, arith, zero-le, le_refl, le_trans, mul-le-mul_right, suc-mul}
 use Rattle.serde_json.specs.Data.{Data}
-use Rattle.response_model.specs.Plan.{Form, single, listed, Plan, leaf_plan, position, ObjectTypes, Nodes, no_node, node, nodes_of}
+use Rattle.response_model.specs.Plan.{Form, single, listed, Plan, leaf_plan, position, Nodes, no_node, node, nodes_of}
 use Rattle.response_model.specs.Response.{Tree, null, leaf, list_of, object, Elements, no_element, element, Entries, no_entry, entry, count, Fits, EntriesFit, ElementsFit, IsWithin, SizesKept, EntriesKept, ElementsKept}
-use Rattle.response_model.specs.Cost.{Part, types, fields, value_cost, entry_cost, cost, entries_cost, elements_cost}
-use Rattle.response_model.specs.Bound.{IsBound, greatest_in, greatest_cost, greatest_of_types, greatest_of_nodes, IsCountable, IsSound, NodesSound}
+use Rattle.response_model.specs.Cost.{Part, types, fields, value_cost, cost, entries_cost, elements_cost}
+use Rattle.response_model.specs.Bound.{greatest_in, greatest_cost, greatest_of_nodes, IsCountable, IsSound, NodesSound}
 use Rattle.response_model.proofs.Lookup.{nodes_sound, own_at_most}
 
 weightless : (part : Part) (w : ℕ) → w ≡ 0 → value_cost part w ≡ 0

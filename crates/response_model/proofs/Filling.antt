@@ -1,12 +1,12 @@
 -- A filled tree is a response that attains the greatest cost; there is one, and it is the one that the recursion gives.
 use Rattle.std.proofs.Common.{◌≡◌, ℕ, suc, zero, ◌+◌, ◌*◌, ◌≤◌, ◌<◌, ◌↔◌, List, Bool, true, false, cond, Option, Some, None, refl, sym, ap, ◌∙◌, subst, arith, le_refl, suc-mul, leb-false}
 use Rattle.serde_json.specs.Data.{Data}
-use Rattle.response_model.specs.Plan.{Form, single, listed, Plan, leaf_plan, position, ObjectTypes, no_type, object_type, Nodes, no_node, node, is_possible, weight_of, nodes_of}
+use Rattle.response_model.specs.Plan.{Form, single, listed, Plan, leaf_plan, position, ObjectTypes, no_type, object_type, Nodes, no_node, node, weight_of, nodes_of}
 use Rattle.response_model.specs.Response.{Tree, null, leaf, list_of, object, Elements, no_element, element, Entries, no_entry, entry, count, Fits, EntriesFit, ElementsFit, SizesKept, EntriesKept, ElementsKept}
-use Rattle.response_model.specs.Cost.{Part, value_cost, entry_cost, cost, entries_cost, elements_cost}
+use Rattle.response_model.specs.Cost.{Part, value_cost, cost, entries_cost, elements_cost}
 use Rattle.response_model.specs.Bound.{IsBound, IsResponse, Exceeds, greatest_in, greatest_cost, greatest_of_types, greatest_of_nodes, HasType, IsSound, TypesSound, NodesSound}
 use Rattle.response_model.specs.Filled.{IsFilled, EntriesFilled, ElementsFilled, filled_count, repeated, filled_in, attains, filled_type, filled, filled_object, filled_entries}
-use Rattle.response_model.proofs.Lookup.{types_differ, nodes_in_front, nodes_behind, nodes_sound, Attained, first_attained, costly_has_type, filled_type_first, one_first_type}
+use Rattle.response_model.proofs.Lookup.{types_differ, nodes_in_front, nodes_behind, nodes_sound, first_attained, costly_has_type, filled_type_first, one_first_type}
 use Rattle.response_model.proofs.AtMost.{at_most}
 
 -- Where one value stands, neither its nullability nor a size matters.
@@ -180,6 +180,7 @@ mutual
 module _ (holds : ℕ → Data → Bool) where
   pub exceeds : (part : Part) (plan : Plan) (n : ℕ) → IsSound holds plan → Exceeds holds part plan n ↔ (n < greatest_cost part plan)
   exceeds part plan n sound =
-      let b = bound_is holds part plan sound in
-      (λ (over : Exceeds holds part plan n). let most = b.upper over.0 over.1 in let more = over.2 in omega arith,
-       λ (less : n < greatest_cost part plan). (b.attained.0, b.attained.1, subst (λ (m : ℕ). n < m) (sym b.attained.2) less))
+      let b = bound_is holds part plan sound in (
+        λ (over : Exceeds holds part plan n). let most = b.upper over.0 over.1 in let more = over.2 in omega arith,
+        λ (less : n < greatest_cost part plan). (b.attained.0, b.attained.1, subst (λ (m : ℕ). n < m) (sym b.attained.2) less),
+      )

@@ -1,8 +1,8 @@
 -- What a position says of one of its types.
-use Rattle.std.proofs.Common.{◌≡◌, ◌⊎◌, inl, inr, ⊎_elim, ℕ, ◌+◌, ◌≤◌, ◌<◌, max, Bool, true, false, true≢false, cond, ◌||◌, eqb, leb, refl, sym, ap, ◌∙◌, subst, arith, eqb-true, eq-eqb, leb-true, leb-false}
+use Rattle.std.proofs.Common.{◌≡◌, inl, inr, ⊎_elim, ℕ, ◌+◌, ◌≤◌, ◌<◌, max, Bool, true, false, true≢false, cond, ◌||◌, eqb, refl, sym, ap, ◌∙◌, subst, arith, eqb-true, eq-eqb, leb-true, leb-false}
 use Rattle.std.proofs.lemmas.Bool.{cases_Bool}
 use Rattle.serde_json.specs.Data.{Data}
-use Rattle.response_model.specs.Plan.{Plan, ObjectTypes, no_type, object_type, Nodes, no_node, node, is_possible, weight_of, nodes_of}
+use Rattle.response_model.specs.Plan.{ObjectTypes, no_type, object_type, Nodes, is_possible, weight_of, nodes_of}
 use Rattle.response_model.specs.Cost.{Part, value_cost}
 use Rattle.response_model.specs.Bound.{greatest_of_types, greatest_of_nodes, HasType, TypesSound, NodesSound}
 use Rattle.response_model.specs.Filled.{IsFirstType, attains, filled_type}
@@ -64,12 +64,12 @@ module _ (holds : ℕ → Data → Bool) where
         costs = own_in_front part (eqb U T) w (weight_of T others) nodes (nodes_of T others) (eq-eqb U T here.0) ∙ here.1;
       })
       (λ (later : (value_cost part w + greatest_of_nodes part nodes < n) × IsFirstType part n others T).
-        let behind = first_attained part n others T sound.2 later.1 in
-        let differ = types_differ U T others sound.0 behind.possible_type in
-        record {
-          possible_type = ap (λ (b : Bool). b || is_possible T others) differ ∙ behind.possible_type;
-          costs = own_behind part (eqb U T) w (weight_of T others) nodes (nodes_of T others) differ ∙ behind.costs;
-        })
+      let behind = first_attained part n others T sound.2 later.1 in
+      let differ = types_differ U T others sound.0 behind.possible_type in
+      record {
+        possible_type = ap (λ (b : Bool). b || is_possible T others) differ ∙ behind.possible_type;
+        costs = own_behind part (eqb U T) w (weight_of T others) nodes (nodes_of T others) differ ∙ behind.costs;
+      })
       is
 
 -- A position that costs something has a type.
@@ -100,13 +100,13 @@ pub one_first_type : (part : Part) (n : ℕ) (possible : ObjectTypes) (T U : ℕ
 one_first_type part n no_type T U p q = absurd p
 one_first_type part n (object_type V w nodes others) T U p q = ⊎_elim
     (λ (here : (V ≡ T) × (value_cost part w + greatest_of_nodes part nodes ≡ n)). ⊎_elim
-      (λ (too : (V ≡ U) × (value_cost part w + greatest_of_nodes part nodes ≡ n)). sym here.0 ∙ too.0)
-      (λ (later : (value_cost part w + greatest_of_nodes part nodes < n) × IsFirstType part n others U). absurd (not_less here.1 later.0))
-      q)
+    (λ (too : (V ≡ U) × (value_cost part w + greatest_of_nodes part nodes ≡ n)). sym here.0 ∙ too.0)
+    (λ (later : (value_cost part w + greatest_of_nodes part nodes < n) × IsFirstType part n others U). absurd (not_less here.1 later.0))
+    q)
     (λ (later : (value_cost part w + greatest_of_nodes part nodes < n) × IsFirstType part n others T). ⊎_elim
-      (λ (here : (V ≡ U) × (value_cost part w + greatest_of_nodes part nodes ≡ n)). absurd (not_less here.1 later.0))
-      (λ (too : (value_cost part w + greatest_of_nodes part nodes < n) × IsFirstType part n others U). one_first_type part n others T U later.1 too.1)
-      q)
+    (λ (here : (V ≡ U) × (value_cost part w + greatest_of_nodes part nodes ≡ n)). absurd (not_less here.1 later.0))
+    (λ (too : (value_cost part w + greatest_of_nodes part nodes < n) × IsFirstType part n others U). one_first_type part n others T U later.1 too.1)
+    q)
     p
   where
     not_less : {m k : ℕ} → m ≡ k → m < k → ⊥

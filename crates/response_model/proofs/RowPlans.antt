@@ -1,10 +1,10 @@
 -- The rows of a plan stand for that plan.
-use Rattle.std.proofs.Common.{◌≡◌, ⊎_elim, inl, inr, ◌⊎◌, ℕ, suc, ◌+◌, ◌<◌, ◌≤◌, List, [], ◌∷◌, ◌++◌, Bool, true, false, true≢false, cond, eqb, Option, Some, None, refl, sym, ap, ◌∙◌, subst, arith, eqb-true, eq-eqb}
+use Rattle.std.proofs.Common.{◌≡◌, ⊎_elim, ℕ, suc, ◌<◌, List, [], ◌++◌, Bool, true, false, true≢false, cond, eqb, refl, sym, ap, ◌∙◌, subst, arith, eqb-true, eq-eqb}
 use Rattle.std.proofs.lemmas.Bool.{cases_Bool}
 use Rattle.std.proofs.lemmas.List.{append_assoc, append-nil}
 use Rattle.std.proofs.Math.Nat.{eq-or-lt_of_le}
 use Rattle.response_model.specs.Plan.{Selected, Plan, leaf_plan, position, ObjectTypes, no_type, object_type, Nodes, no_node, node}
-use Rattle.response_model.specs.Rows.{Leaf, Row, type_row, node_row, leaf_in, rows_below, rows_of_types, rows_of_nodes, put_at, Pending, plan_below, in_front, pending, plan_of_rows}
+use Rattle.response_model.specs.Rows.{Row, type_row, node_row, leaf_in, rows_below, rows_of_types, rows_of_nodes, put_at, Pending, plan_below, in_front, pending, plan_of_rows}
 
 put_here : {X : Type 0} (d : ℕ) (x : X) (table : ℕ → X) → put_at d x table d ≡ x
 put_here d x table = ap (λ (b : Bool). cond b x (table d)) (eq-eqb d d refl)
@@ -80,15 +80,17 @@ deeper d e deep apart = ⊎_elim (λ (same : suc d ≡ e). absurd (apart (sym sa
 -- A node's row in front of the rows below it and behind it.
 node_in_front : (d : ℕ) (s : Selected) (below : Plan) (others : Nodes) (m q rest : Pending) → BelowPending d below m q → NodesPending d others q rest → NodesPending d (node s below others) (in_front (node_row d s (leaf_in below)) m) rest
 node_in_front d s below others m q rest under behind = record {
-  clear = λ e deep.
-    (put_elsewhere d (node s (plan_below (leaf_in below) (m.possible (suc d))) (m.nodes d)) m.nodes e (above_apart e d deep) ∙ no_nodes e deep,
-     put_clear (suc d) no_type m.possible e (λ apart. (under.clear e (deeper d e deep apart)).1));
-  above = λ e less.
-    (put_elsewhere d (node s (plan_below (leaf_in below) (m.possible (suc d))) (m.nodes d)) m.nodes e (below_apart e d less) ∙ (under.above e (omega arith)).0 ∙ (behind.above e less).0,
-     put_elsewhere (suc d) no_type m.possible e (below_apart e (suc d) (omega arith)) ∙ (under.above e (omega arith)).1 ∙ (behind.above e less).1);
+  clear = λ e deep. (
+    put_elsewhere d (node s (plan_below (leaf_in below) (m.possible (suc d))) (m.nodes d)) m.nodes e (above_apart e d deep) ∙ no_nodes e deep,
+    put_clear (suc d) no_type m.possible e (λ apart. (under.clear e (deeper d e deep apart)).1),
+  );
+  above = λ e less. (
+    put_elsewhere d (node s (plan_below (leaf_in below) (m.possible (suc d))) (m.nodes d)) m.nodes e (below_apart e d less) ∙ (under.above e (omega arith)).0 ∙ (behind.above e less).0,
+    put_elsewhere (suc d) no_type m.possible e (below_apart e (suc d) (omega arith)) ∙ (under.above e (omega arith)).1 ∙ (behind.above e less).1,
+  );
   own = put_here d (node s (plan_below (leaf_in below) (m.possible (suc d))) (m.nodes d)) m.nodes
-    ∙ ap (λ (b : Plan). node s b (m.nodes d)) under.own
-    ∙ ap (λ (ns : Nodes). node s below ns) ((under.above d (omega arith)).0 ∙ behind.own);
+      ∙ ap (λ (b : Plan). node s b (m.nodes d)) under.own
+      ∙ ap (λ (ns : Nodes). node s below ns) ((under.above d (omega arith)).0 ∙ behind.own);
   types = put_elsewhere (suc d) no_type m.possible d (below_apart d (suc d) (omega arith)) ∙ (under.above d (omega arith)).1 ∙ behind.types;
 }
   where
@@ -101,15 +103,17 @@ node_in_front d s below others m q rest under behind = record {
 -- A type's row in front of the rows of its nodes and those of the types behind it.
 type_in_front : (d T w : ℕ) (nodes : Nodes) (others : ObjectTypes) (m q rest : Pending) → NodesPending d nodes m q → TypesPending d others q rest → TypesPending d (object_type T w nodes others) (in_front (type_row d T w) m) rest
 type_in_front d T w nodes others m q rest inside behind = record {
-  clear = λ e deep.
-    (put_elsewhere d no_node m.nodes e (above_apart e d deep) ∙ (inside.clear e deep).0,
-     put_elsewhere d (object_type T w (m.nodes d) (m.possible d)) m.possible e (above_apart e d deep) ∙ (inside.clear e deep).1);
-  above = λ e less.
-    (put_elsewhere d no_node m.nodes e (below_apart e d less) ∙ (inside.above e less).0 ∙ (behind.above e less).0,
-     put_elsewhere d (object_type T w (m.nodes d) (m.possible d)) m.possible e (below_apart e d less) ∙ (inside.above e less).1 ∙ (behind.above e less).1);
+  clear = λ e deep. (
+    put_elsewhere d no_node m.nodes e (above_apart e d deep) ∙ (inside.clear e deep).0,
+    put_elsewhere d (object_type T w (m.nodes d) (m.possible d)) m.possible e (above_apart e d deep) ∙ (inside.clear e deep).1,
+  );
+  above = λ e less. (
+    put_elsewhere d no_node m.nodes e (below_apart e d less) ∙ (inside.above e less).0 ∙ (behind.above e less).0,
+    put_elsewhere d (object_type T w (m.nodes d) (m.possible d)) m.possible e (below_apart e d less) ∙ (inside.above e less).1 ∙ (behind.above e less).1,
+  );
   own = put_here d (object_type T w (m.nodes d) (m.possible d)) m.possible
-    ∙ ap (λ (ns : Nodes). object_type T w ns (m.possible d)) (inside.own ∙ ap (λ (ns : Nodes). nodes_then nodes ns) behind.nodes ∙ nodes_then_none nodes)
-    ∙ ap (λ (ts : ObjectTypes). object_type T w nodes ts) (inside.types ∙ behind.own);
+      ∙ ap (λ (ns : Nodes). object_type T w ns (m.possible d)) (inside.own ∙ ap (λ (ns : Nodes). nodes_then nodes ns) behind.nodes ∙ nodes_then_none nodes)
+      ∙ ap (λ (ts : ObjectTypes). object_type T w nodes ts) (inside.types ∙ behind.own);
   nodes = put_here d no_node m.nodes;
 }
 
@@ -131,7 +135,7 @@ mutual
       let behind = types_pending d others rows clear none in
       let inside = nodes_pending d nodes (rows_of_types d others ++ rows) behind.clear in
       subst (λ (xs : List Row). TypesPending d (object_type T w nodes others) (in_front (type_row d T w) (pending xs)) (pending rows)) (sym (append_assoc (rows_of_nodes d nodes) (rows_of_types d others) rows))
-        (type_in_front d T w nodes others (pending (rows_of_nodes d nodes ++ (rows_of_types d others ++ rows))) (pending (rows_of_types d others ++ rows)) (pending rows) inside behind)
+      (type_in_front d T w nodes others (pending (rows_of_nodes d nodes ++ (rows_of_types d others ++ rows))) (pending (rows_of_types d others ++ rows)) (pending rows) inside behind)
 
   nodes_pending : (d : ℕ) (nodes : Nodes) (rows : List Row) → ClearBelow d (pending rows) → NodesPending d nodes (pending (rows_of_nodes d nodes ++ rows)) (pending rows)
   nodes_pending d no_node rows clear = record { clear = clear; above = λ e less. (refl, refl); own = refl; types = refl }
@@ -139,7 +143,7 @@ mutual
       let behind = nodes_pending d others rows clear in
       let under = below_pending d below (rows_of_nodes d others ++ rows) behind.clear in
       subst (λ (xs : List Row). NodesPending d (node s below others) (in_front (node_row d s (leaf_in below)) (pending xs)) (pending rows)) (sym (append_assoc (rows_below (suc d) below) (rows_of_nodes d others) rows))
-        (node_in_front d s below others (pending (rows_below (suc d) below ++ (rows_of_nodes d others ++ rows))) (pending (rows_of_nodes d others ++ rows)) (pending rows) under behind)
+      (node_in_front d s below others (pending (rows_below (suc d) below ++ (rows_of_nodes d others ++ rows))) (pending (rows_of_nodes d others ++ rows)) (pending rows) under behind)
 
 pub plan_again : (possible : ObjectTypes) → plan_of_rows (rows_of_types 0 possible) ≡ position possible
 plan_again possible =

@@ -1,6 +1,6 @@
 -- Going over the rows from the last to the first keeps, at each depth, the costs of what is pending there.
-use Rattle.std.proofs.Common.{◌≡◌, ℕ, suc, ◌+◌, max, List, [], ◌∷◌, Bool, true, false, cond, eqb, Option, Some, None, refl, sym, ap, ◌∙◌}
-use Rattle.response_model.specs.Plan.{Selected, Plan, position, ObjectTypes, no_type, object_type, Nodes, no_node, node}
+use Rattle.std.proofs.Common.{◌≡◌, ℕ, suc, ◌+◌, max, List, [], ◌∷◌, Bool, true, false, cond, eqb, Option, Some, None, refl, ap, ◌∙◌}
+use Rattle.response_model.specs.Plan.{ObjectTypes, no_type, object_type, no_node, node}
 use Rattle.response_model.specs.Cost.{Part, value_cost, entry_cost}
 use Rattle.response_model.specs.Bound.{greatest_in, greatest_cost, greatest_of_types, greatest_of_nodes}
 use Rattle.response_model.specs.Rows.{Leaf, Row, type_row, node_row, put_at, Pending, plan_below, in_front, pending, plan_of_rows, Totals, greatest_below, totals_in_front, totals}
@@ -25,16 +25,16 @@ row_agrees : (part : Part) (row : Row) (p : Pending) (t : Totals) → Agree part
 row_agrees part (type_row d T w) p t a = record {
   sums = agree_at (greatest_of_nodes part) d no_node 0 p.nodes t.sum refl a.sums;
   greatests =
-    let own : max (value_cost part w + t.sum d) (t.greatest d) ≡ max (value_cost part w + greatest_of_nodes part (p.nodes d)) (greatest_of_types part (p.possible d)) =
+      let own : max (value_cost part w + t.sum d) (t.greatest d) ≡ max (value_cost part w + greatest_of_nodes part (p.nodes d)) (greatest_of_types part (p.possible d)) =
       ap (λ (n : ℕ). max (value_cost part w + n) (t.greatest d)) (a.sums d) ∙ ap (λ (n : ℕ). max (value_cost part w + greatest_of_nodes part (p.nodes d)) n) (a.greatests d) in
-    agree_at (greatest_of_types part) d (object_type T w (p.nodes d) (p.possible d)) (max (value_cost part w + t.sum d) (t.greatest d)) p.possible t.greatest own a.greatests;
+      agree_at (greatest_of_types part) d (object_type T w (p.nodes d) (p.possible d)) (max (value_cost part w + t.sum d) (t.greatest d)) p.possible t.greatest own a.greatests;
 }
 row_agrees part (node_row d s below) p t a = record {
   sums =
-    let under : greatest_below part below (t.greatest (suc d)) ≡ greatest_cost part (plan_below below (p.possible (suc d))) = below_agrees part below (p.possible (suc d)) (t.greatest (suc d)) (a.greatests (suc d)) in
-    let own = ap (λ (n : ℕ). entry_cost part s + greatest_in s.form s.size n + t.sum d) under
+      let under : greatest_below part below (t.greatest (suc d)) ≡ greatest_cost part (plan_below below (p.possible (suc d))) = below_agrees part below (p.possible (suc d)) (t.greatest (suc d)) (a.greatests (suc d)) in
+      let own = ap (λ (n : ℕ). entry_cost part s + greatest_in s.form s.size n + t.sum d) under
       ∙ ap (λ (n : ℕ). entry_cost part s + greatest_in s.form s.size (greatest_cost part (plan_below below (p.possible (suc d)))) + n) (a.sums d) in
-    agree_at (greatest_of_nodes part) d (node s (plan_below below (p.possible (suc d))) (p.nodes d)) (entry_cost part s + greatest_in s.form s.size (greatest_below part below (t.greatest (suc d))) + t.sum d) p.nodes t.sum own a.sums;
+      agree_at (greatest_of_nodes part) d (node s (plan_below below (p.possible (suc d))) (p.nodes d)) (entry_cost part s + greatest_in s.form s.size (greatest_below part below (t.greatest (suc d))) + t.sum d) p.nodes t.sum own a.sums;
   greatests = agree_at (greatest_of_types part) (suc d) no_type 0 p.possible t.greatest refl a.greatests;
 }
 

@@ -1,8 +1,8 @@
 -- Small plans, replies and responses, by which the definitions are read aloud and computed.
-use Rattle.std.specs.Prelude.{ℕ, List, [], ◌∷◌, codes, Bool, true, false, cond, eqb, Option, Some, None}
+use Rattle.std.specs.Prelude.{ℕ, List, [], codes, Bool, true, false, cond, eqb, Option, Some, None}
 use Rattle.serde_json.specs.Data.{Data, null as json_null, boolean, number, string, array, object as json_object, no_items, item, Members, no_members, member}
 use Rattle.response_model.specs.Plan.{Form, single, listed, Selected, type_name, numbered, Plan, leaf_plan, position, ObjectTypes, no_type, object_type, Nodes, no_node, node}
-use Rattle.response_model.specs.Response.{Tree, null, leaf, list_of, object, Elements, no_element, element, Entries, no_entry, entry}
+use Rattle.response_model.specs.Response.{Tree, leaf, list_of, object, Elements, no_element, element, no_entry, entry}
 
 -- The object types are Query, User and Post, told by 0, 1 and 2. The one scalar type, told by 0, holds strings.
 abbrev pub name_of_type : ℕ → List ℕ
@@ -99,9 +99,13 @@ tags_and_kind = query (node (plain (codes "tags") (listed true false) None 500) 
 abbrev pub tagged : Elements → List ℕ → Tree
 tagged ts kind = object 0 (entry (codes "tags") (list_of ts) (entry (codes "kind") (leaf (string kind)) no_entry))
 
--- {"search":[{"gateway_typename":"Post","author":{"id":""}},null]}, and the same with another type name and further members of its first item.
-abbrev pub search_reply : List ℕ → Members → Data
-search_reply type more = json_object (member (codes "search") (array (item (json_object (member (codes "author") (json_object (member (codes "id") (string []) no_members)) (member added_alias (string type) more))) (item json_null no_items))) no_members)
+-- {"search":[ITEM,null]}
+abbrev pub search_reply : Members → Data
+search_reply ms = json_object (member (codes "search") (array (item (json_object ms) (item json_null no_items))) no_members)
+
+-- The members of {"author":{"id":""},"gateway_typename":"Post"}, with more behind them.
+abbrev pub post_members : Members → Members
+post_members more = member (codes "author") (json_object (member (codes "id") (string []) no_members)) (member added_alias (string (codes "Post")) more)
 
 -- {"kind":"Query","tags":TAGS}, whose keys stand in another order than the nodes.
 abbrev pub tags_reply : Data → Data
@@ -117,3 +121,10 @@ user_or_post = query (node (plain (codes "node") (single true) None 1000) (posit
 
 abbrev pub one_node : Tree → Tree
 one_node t = object 0 (entry (codes "node") t no_entry)
+
+-- { a: user { name } b: user { name } }
+abbrev pub aliased : List ℕ → Selected
+aliased key = record { key = key; field = codes "user"; asked = false; form = single true; size = None; weight = 1000; arguments = 0 }
+
+abbrev pub two_users : Plan
+two_users = query (node (aliased (codes "a")) (user (name_then no_node)) (node (aliased (codes "b")) (user (name_then no_node)) no_node))

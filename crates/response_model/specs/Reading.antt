@@ -2,7 +2,7 @@
 use Rattle.std.specs.Prelude.{◌≡◌, ℕ, List, Bool, true, false, ◌&&◌, ◌||◌, bytes_eq, Some}
 use Rattle.serde_json.specs.Data.{Data, null as json_null, string, array, object as json_object, Items, no_items, item, Members, no_members, member}
 use Rattle.serde_json.specs.Find.{get_member}
-use Rattle.response_model.specs.Plan.{Form, single, listed, Selected, Plan, leaf_plan, position, ObjectTypes, no_type, object_type, Nodes, no_node, node, is_possible, nodes_of}
+use Rattle.response_model.specs.Plan.{Form, single, listed, Plan, leaf_plan, position, ObjectTypes, no_type, object_type, Nodes, no_node, node, is_possible, nodes_of}
 use Rattle.response_model.specs.Response.{Tree, null, leaf, list_of, object, Elements, no_element, element, Entries, no_entry, entry, is_null}
 
 -- Whether a node has this response key.

@@ -1,7 +1,7 @@
 -- The data of a response as a tree, when it fits a plan, and when it keeps the declared sizes.
 use Rattle.std.specs.Prelude.{◌≡◌, ℕ, suc, ◌≤◌, List, Bool, true, false, Option, Some, None}
 use Rattle.serde_json.specs.Data.{Data, null as json_null, boolean, number, string, array, object as json_object}
-use Rattle.response_model.specs.Plan.{Form, single, listed, Selected, LeafType, type_name, numbered, Plan, leaf_plan, position, ObjectTypes, Nodes, no_node, node, is_possible, nodes_of}
+use Rattle.response_model.specs.Plan.{Form, single, listed, LeafType, type_name, numbered, Plan, leaf_plan, position, Nodes, no_node, node, is_possible, nodes_of}
 
 mutual
   -- The value of a response: null, a leaf, a list, or an object of an object type.

@@ -9,14 +9,13 @@ ghost use Rattle.response_model.specs.Cost.{types, fields, cost};
 ghost use Rattle.response_model.specs.Bound.{IsBound, IsResponse};
 ghost use Rattle.response_model.specs.Filled.{filled};
 ghost use Rattle.response_model.specs.Rows.{type_row, node_row, leaf_in, rows_below};
-ghost use Rattle.response_model.specs.Examples.{name_of_type, holds_string, added_alias, plain, text, friends_of_friends, search, asked_search, of_id, user_of_three, post_of_author, found, five, names_of_friends, befriended, named, tags_and_kind, tagged, search_reply, tags_reply, find, user_or_post, one_node};
+ghost use Rattle.response_model.specs.Examples.{name_of_type, holds_string, added_alias, plain, text, friends_of_friends, search, asked_search, of_id, user_of_three, post_of_author, found, five, names_of_friends, befriended, named, tags_and_kind, tagged, search_reply, post_members, tags_reply, find, user_or_post, one_node, aliased, two_users};
 
 /// Three friends of three friends: 1 + 1 + 3 + 9 values, and as field cost 1 + 1 + 3 + 9 times 0.25.
 pub fn bound_of_friends()
     ensures types_cost { IsBound holds_string types friends_of_friends 14000 }
     ensures fields_cost { IsBound holds_string fields friends_of_friends 7250 }
-{
-}
+{}
 
 /// Five users have the greatest type cost, five posts the greatest field cost.
 pub fn bound_of_search()
@@ -25,15 +24,13 @@ pub fn bound_of_search()
     ensures fields_cost { IsBound holds_string fields search 21000 }
     ensures fields_attained { filled fields search ≡ found (five post_of_author) }
     ensures others_cost { (cost fields search (found (five user_of_three)) ≡ 6000) × (cost types search (found (five post_of_author)) ≡ 18500) }
-{
-}
+{}
 
 /// The cost of an entry's arguments is part of the field cost.
 pub fn bound_with_arguments()
     ensures types_cost { IsBound holds_string types find 1000 }
     ensures fields_cost { IsBound holds_string fields find 4700 }
-{
-}
+{}
 
 /// A list of any length costs what its entry costs, and `__typename` nothing.
 pub fn list_of_any_length()
@@ -41,15 +38,13 @@ pub fn list_of_any_length()
     ensures fields_cost { IsBound holds_string fields tags_and_kind 500 }
     ensures allowed { IsResponse holds_string tags_and_kind (tagged (five (leaf (string (codes "a")))) (codes "Query")) }
     ensures empty { filled fields tags_and_kind ≡ tagged no_element (codes "Query") }
-{
-}
+{}
 
 /// Of two types that cost the same the first fills the response.
 pub fn first_of_equals()
     ensures types_attained { filled types user_or_post ≡ one_node of_id }
     ensures fields_attained { filled fields user_or_post ≡ one_node of_id }
-{
-}
+{}
 
 /// A null adds nothing, and stands only where the plan allows it: as the whole response, and apart from that by the form of its entry.
 pub fn null_adds_nothing()
@@ -59,32 +54,28 @@ pub fn null_adds_nothing()
     ensures root_allowed { IsResponse holds_string search null × (cost types search null ≡ 0) × (cost fields search null ≡ 0) }
     ensures list_allowed { IsResponse holds_string tags_and_kind (object 0 (entry (codes "tags") null (entry (codes "kind") (leaf (string (codes "Query"))) no_entry))) }
     ensures item_refused { IsResponse holds_string tags_and_kind (tagged (element null no_element) (codes "Query")) → ⊥ }
-{
-}
+{}
 
 /// An entry counts once, whatever the length of its list, and also where its value is null.
 pub fn entry_counts_once()
     ensures three { cost fields names_of_friends (befriended (element (named (leaf (string []))) (element (named null) (element (named null) no_element)))) ≡ 2750 }
     ensures none { cost fields names_of_friends (befriended no_element) ≡ 2000 }
     ensures absent { cost fields names_of_friends (object 0 (entry (codes "user") null no_entry)) ≡ 1000 }
-{
-}
+{}
 
 /// Four friends fit where three are declared, and don't keep the size; three keep it.
 pub fn four_friends()
     ensures fits { Fits holds_string (single true) names_of_friends (befriended (element (named null) (element (named null) (element (named null) (element (named null) no_element))))) }
     ensures too_many { SizesKept None names_of_friends (befriended (element (named null) (element (named null) (element (named null) (element (named null) no_element))))) → ⊥ }
     ensures enough { SizesKept None names_of_friends (befriended (element (named null) (element (named null) (element (named null) no_element)))) }
-{
-}
+{}
 
 /// A leaf holds what its type holds, and never null: a text is no truth value, and `__typename` no name but that of its object.
 pub fn leaf_holds()
     ensures null_refused { IsResponse (λ type json. true) tags_and_kind (tagged (element (leaf json_null) no_element) (codes "Query")) → ⊥ }
     ensures truth_refused { IsResponse holds_string tags_and_kind (tagged (element (leaf (boolean true)) no_element) (codes "Query")) → ⊥ }
     ensures name_refused { IsResponse holds_string tags_and_kind (tagged no_element (codes "User")) → ⊥ }
-{
-}
+{}
 
 /// An object is of a possible type, and has the entries of that type's nodes in their order.
 pub fn object_has_its_entries()
@@ -93,24 +84,25 @@ pub fn object_has_its_entries()
     ensures missing { IsResponse holds_string tags_and_kind (object 0 (entry (codes "tags") null no_entry)) → ⊥ }
     ensures further { IsResponse holds_string user_or_post (object 0 (entry (codes "node") null (entry (codes "node") null no_entry))) → ⊥ }
     ensures other_order { IsResponse holds_string tags_and_kind (object 0 (entry (codes "kind") (leaf (string (codes "Query"))) (entry (codes "tags") null no_entry))) → ⊥ }
-{
-}
+{}
 
 /// A reply with the added alias reads as the tree without it, in the order of the nodes.
 pub fn reply_read()
-    ensures read { ReadsReply name_of_type added_alias search (search_reply (codes "Post") no_members) (found (element post_of_author (element null no_element))) }
-    ensures known_types { (t : Tree) → ReadsReply name_of_type added_alias search (search_reply (codes "Query") no_members) t → ⊥ }
-    ensures known_keys { (t : Tree) → ReadsReply name_of_type added_alias search (search_reply (codes "Post") (member (codes "title") json_null no_members)) t → ⊥ }
+    ensures read { ReadsReply name_of_type added_alias search (search_reply (post_members no_members)) (found (element post_of_author (element null no_element))) }
+    ensures known_types { (t : Tree) → ReadsReply name_of_type added_alias search (search_reply (member added_alias (string (codes "Query")) no_members)) t → ⊥ }
+    ensures known_keys { (t : Tree) → ReadsReply name_of_type added_alias search (search_reply (post_members (member (codes "title") json_null no_members))) t → ⊥ }
+    ensures all_keys { (t : Tree) → ReadsReply name_of_type added_alias search (search_reply (member added_alias (string (codes "Post")) no_members)) t → ⊥ }
     ensures in_order { ReadsReply name_of_type added_alias tags_and_kind (tags_reply (array (item json_null no_items))) (tagged (element null no_element) (codes "Query")) }
     ensures list_due { (t : Tree) → ReadsReply name_of_type added_alias tags_and_kind (tags_reply (string [])) t → ⊥ }
     ensures any_leaf { Reads name_of_type added_alias (single false) false text (array no_items) (leaf (array no_items)) }
-{
-}
+{}
 
 /// The rows of a plan in depth-first order: each type before its nodes, each node before what is below it.
-pub fn rows_of_search()
-    ensures { rows_below 0 search ≡ type_row 0 0 1000 ∷ node_row 0 asked_search None
+pub fn rows_in_depth_first_order()
+    ensures of_types { rows_below 0 search ≡ type_row 0 0 1000 ∷ node_row 0 asked_search None
         ∷ type_row 1 1 1000 ∷ node_row 1 (plain (codes "friends") (listed false false) (Some 3) 1000) None ∷ type_row 2 1 1000 ∷ node_row 2 (plain (codes "id") (single false) None 0) (leaf_in text)
         ∷ type_row 1 2 2500 ∷ node_row 1 (plain (codes "author") (single true) None 4000) None ∷ type_row 2 1 1000 ∷ node_row 2 (plain (codes "id") (single false) None 0) (leaf_in text) ∷ [] }
-{
-}
+    ensures of_nodes { rows_below 0 two_users ≡ type_row 0 0 1000
+        ∷ node_row 0 (aliased (codes "a")) None ∷ type_row 1 1 1000 ∷ node_row 1 (plain (codes "name") (single true) None 250) (leaf_in text)
+        ∷ node_row 0 (aliased (codes "b")) None ∷ type_row 1 1 1000 ∷ node_row 1 (plain (codes "name") (single true) None 250) (leaf_in text) ∷ [] }
+{}

@@ -13,53 +13,45 @@ ghost use Rattle.response_model.specs.Rows.{Row, plan_of_rows, rows_below, total
 /// Of every sound plan the recursion over the plan gives the bound, for both parts of the cost.
 pub fn greatest_is_bound()
     ensures { (holds : ℕ → Data → Bool) (part : Part) (plan : Plan) → IsSound holds plan → IsBound holds part plan (greatest_cost part plan) }
-{
-}
+{}
 
 /// Some response of a sound plan costs more than a number exactly where the greatest cost does.
 pub fn greatest_exceeds()
     ensures { (holds : ℕ → Data → Bool) (part : Part) (plan : Plan) (n : ℕ) → IsSound holds plan → (Exceeds holds part plan n ↔ (n < greatest_cost part plan)) }
-{
-}
+{}
 
 /// There is one bound of a plan for each part of the cost.
 pub fn one_bound()
     ensures { (holds : ℕ → Data → Bool) (part : Part) (plan : Plan) (a b : ℕ) → IsBound holds part plan a → IsBound holds part plan b → a ≡ b }
-{
-}
+{}
 
 /// The response that the recursion fills is filled.
 pub fn filled_response()
     ensures { (holds : ℕ → Data → Bool) (part : Part) (plan : Plan) → IsSound holds plan → IsFilled part (single true) None plan (filled part plan) }
-{
-}
+{}
 
 /// A filled tree is a response that attains the greatest cost.
 pub fn filled_attains()
     ensures { (holds : ℕ → Data → Bool) (part : Part) (plan : Plan) (t : Tree) → IsSound holds plan → IsFilled part (single true) None plan t → IsResponse holds plan t × (cost part plan t ≡ greatest_cost part plan) }
-{
-}
+{}
 
 /// There is one filled tree.
 pub fn one_filled()
     ensures { (part : Part) (plan : Plan) (t s : Tree) → IsFilled part (single true) None plan t → IsFilled part (single true) None plan s → t ≡ s }
-{
-}
+{}
 
 /// A JSON value reads as at most one tree, where object types have different names.
 pub fn one_reading()
     ensures { (name : ℕ → List ℕ) (alias : List ℕ) (form : Form) (asked : Bool) (plan : Plan) (json : Data) (t s : Tree) → ((T U : ℕ) → name T ≡ name U → T ≡ U) → Reads name alias form asked plan json t → Reads name alias form asked plan json s → t ≡ s }
-{
-}
+{}
 
 /// Going over flat rows once, from the last to the first, gives the greatest cost of the plan that they stand for.
 pub fn rows_cost()
     ensures { (part : Part) (rows : List Row) → (totals part rows).greatest 0 ≡ greatest_cost part (plan_of_rows rows) }
-{
-}
+{}
 
-/// The rows of a plan in depth-first order stand for that plan.
+/// The rows of a plan in depth-first order stand for that plan, and going over them gives its greatest cost.
 pub fn rows_of_plan()
-    ensures { (possible : ObjectTypes) → plan_of_rows (rows_below 0 (position possible)) ≡ position possible }
-{
-}
+    ensures plan { (possible : ObjectTypes) → plan_of_rows (rows_below 0 (position possible)) ≡ position possible }
+    ensures costs { (part : Part) (possible : ObjectTypes) → (totals part (rows_below 0 (position possible))).greatest 0 ≡ greatest_cost part (position possible) }
+{}

@@ -1,1 +1,5 @@
 pub mod Sound
+pub mod OneField
+pub mod Sums
+pub mod Bounds
+pub mod Made

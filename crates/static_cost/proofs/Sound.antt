@@ -1,7 +1,7 @@
 -- An operation in which each list of objects has a declared size stands for a sound plan.
-use Rattle.std.proofs.Common.{◌≡◌, ℕ, Bool, true, false, true≢false, Option, Some, None, IsSome, List, refl, sym}
+use Rattle.std.proofs.Common.{ℕ, Bool, true≢false, Option, Some, None, IsSome, List, refl, sym}
 use Rattle.serde_json.specs.Data.{Data}
-use Rattle.response_model.specs.Plan.{Form, single, listed, LeafType, leaf_plan, Nodes, no_node}
+use Rattle.response_model.specs.Plan.{listed, LeafType, leaf_plan, Nodes}
 use Rattle.response_model.specs.Bound.{IsCountable, IsSound, NodesSound}
 use Rattle.static_cost.specs.declared.first.FirstKind.{FirstKind}
 use Rattle.static_cost.specs.declared.first.FirstKind.TheVariants.{Int, Str, Bool as Boolean, Id, Object}
@@ -44,5 +44,8 @@ mutual
   fields_sound no_first sized = tt
   fields_sound (first_then f others) sized = field_sound f (nodes_of_firsts others) sized.0 (fields_sound others sized.1)
 
+pub fields_plan_sound : (fs : Firsts) → FieldsSized fs → IsSound holds (value_plan Object (nodes_of_firsts fs))
+fields_plan_sound fs sized = value_sound Object (nodes_of_firsts fs) (fields_sound fs sized)
+
 pub plan_sound : (nodes : List FirstNode) → AllSized nodes → IsSound holds (plan_of nodes)
-plan_sound nodes sized = value_sound Object (nodes_of_firsts (firsts_of nodes)) (fields_sound (firsts_of nodes) sized)
+plan_sound nodes sized = fields_plan_sound (firsts_of nodes) sized

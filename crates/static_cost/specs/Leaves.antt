@@ -1,6 +1,6 @@
 -- The built-in scalar types of the first form (GraphQL October 2021, 3.5): their numbers, what they hold as JSON, and what fills them.
 use Rattle.std.specs.Prelude.{ℕ, ◌^◌, ℤ, pos, neg_ℤ, int_le, int_lt, [], Bool, true, false, ◌&&◌, Option, Some, None, is_some, nat_eq, if◌then◌else◌}
-use Rattle.serde_json.specs.Data.{Data, null, boolean, number, string, array, object, Num, unsigned}
+use Rattle.serde_json.specs.Data.{Data, null, boolean, number, string, unsigned}
 use Rattle.serde_json.specs.Find.{as_integer}
 use Rattle.static_cost.specs.declared.first.FirstKind.{FirstKind}
 use Rattle.static_cost.specs.declared.first.FirstKind.TheVariants.{Int, Str, Bool as Boolean, Id, Object}

@@ -2,7 +2,10 @@
 #![tactic(auto)]
 
 mod bound;
+pub mod examples;
 mod first;
+#[cfg(test)]
+mod tests;
 
-pub use bound::{TooCostly, first_sound};
+pub use bound::{TooCostly, first_bound, first_sound};
 pub use first::{FirstKind, FirstList, FirstNode};

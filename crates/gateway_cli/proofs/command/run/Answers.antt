@@ -32,3 +32,9 @@ returns-then-eq-clause-file_failed g c done =
         failed.1,
       ),
     )
+
+pub returns-then-eq-clause-other_words : goal.returns-then-eq-clause-other_words
+returns-then-eq-clause-other_words g c none =
+    absurd (none c.as_str-then-eq.result.now c.as_str-then-eq-2.result.now
+    (are_price c.args.words.now c.command-item.result c.schema-item.result c.document-item.result _ _ _ c.in-len3.len_at_least c.in-len3.len_below
+    c.command-item.is c.schema-item.is c.document-item.is c.as_str.ensures c.as_str-then-eq.ensures c.as_str-then-eq-2.ensures c.if-eq.ensures))

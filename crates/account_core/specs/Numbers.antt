@@ -1,0 +1,92 @@
+-- The five numbers of an account, and the calls on them.
+use Rattle.std.specs.Prelude.{◌≡◌, ℕ, ◌≤◌, max, if◌then◌else◌, List}
+use Rattle.std.specs.List.{AllByRecursion}
+use Rattle.cost_num.specs.Within.{Within}
+use Rattle.cost_num.specs.declared.Cost.{Cost}
+use Rattle.account_core.specs.declared.Account.{Account}
+use Rattle.account_core.specs.declared.Ticket.{Ticket}
+use Rattle.account_core.specs.declared.Reply.{Reply}
+use Rattle.account_core.specs.declared.Reply.TheVariants.{Granted, Short}
+use Rattle.account_core.specs.Costs.{nothing, together, remaining, is_within, counted_in}
+use Rattle.account_core.specs.Machine.{Limit, Grant, State, Entry, CallReply, granted, short, account_of, room, IsStep, state_past}
+
+-- no grant stands in a window past this one
+abbrev pub NoneLater : ℕ → List Grant → Type 0
+NoneLater window gs = AllByRecursion (λ g. g.window ≤ window) gs
+
+-- an account stands for a state: it has the state's numbers, and no open grant is of a window to come
+abbrev pub StandsFor : Account → State → Type 0
+StandsFor account s = (account ≡ account_of s) × NoneLater s.window s.grants
+
+-- an entry is a step from a state, and an account stands for what it leaves
+abbrev pub StepsTo : Limit → State → Entry → Account → Type 0
+StepsTo limit s e account = IsStep limit s e × StandsFor account (state_past s e)
+
+-- a reply as a history keeps it
+abbrev pub reply_of : Reply → CallReply
+reply_of (Granted ticket) = granted ticket.window
+reply_of (Short left) = short left
+
+abbrev pub ticket_for : ℕ → ℕ → ℕ → Cost → Ticket
+ticket_for client seq window bound = record { client = client; seq = seq; window = window; bound = bound }
+
+-- a granted reply has this ticket
+abbrev pub HasTicket : Reply → Ticket → Type 0
+HasTicket (Granted ticket) wanted = ticket ≡ wanted
+HasTicket (Short left) wanted = Unit {0}
+
+-- a short reply has left the account as it was
+abbrev pub UnchangedIfShort : Reply → Account → Account → Type 0
+UnchangedIfShort (Granted ticket) old new = Unit {0}
+UnchangedIfShort (Short left) old new = new ≡ old
+
+-- an account in a window in which nothing is settled or held
+abbrev pub empty_account : ℕ → Account
+empty_account window = record { window = window; settled = nothing; held = nothing }
+
+-- the account once it has come to a window: what was settled and held counts in its own window alone
+abbrev pub moved_to : Account → ℕ → Account
+moved_to account window =
+    record {
+      window = window;
+      settled = counted_in window account.window account.settled;
+      held = counted_in window account.window account.held;
+    }
+
+abbrev pub used_of : Account → Cost
+used_of account = together account.settled account.held
+
+-- an account keeps to its limit: what is settled and held is at most what its window may take
+abbrev pub KeepsLimit : Limit → Account → Type 0
+KeepsLimit limit account = Within (room limit account account.window) (used_of account)
+
+-- what an account has left in a window that it has come to, or comes to
+abbrev pub left_at : Limit → Account → ℕ → Cost
+left_at limit account window = remaining (room limit account window) (used_of (moved_to account window))
+
+abbrev pub account_holding : Account → Cost → Account
+account_holding account bound = record { window = account.window; settled = account.settled; held = together account.held bound }
+
+-- the reply to a reservation that stands in a window, and the account after it
+abbrev pub reply_at : Limit → Account → ℕ → Cost → CallReply
+reply_at limit account at bound = if is_within (left_at limit account at) bound then granted at else short (left_at limit account at)
+
+abbrev pub account_at : Limit → Account → ℕ → Cost → Account
+account_at limit account at bound =
+    if is_within (left_at limit account at) bound then account_holding (moved_to account at) bound else account
+
+-- the same for a reservation that asks for a window
+abbrev pub reservation_reply : Limit → Account → ℕ → Cost → CallReply
+reservation_reply limit account window bound = reply_at limit account (max account.window window) bound
+
+abbrev pub reserved_account : Limit → Account → ℕ → Cost → Account
+reserved_account limit account window bound = account_at limit account (max account.window window) bound
+
+-- the account after a settlement: in its own window the bound is no longer held and the measured cost is settled
+abbrev pub settled_account : Account → ℕ → Cost → Cost → Account
+settled_account account window bound measured =
+    record {
+      window = account.window;
+      settled = together account.settled (counted_in account.window window measured);
+      held = remaining account.held (counted_in account.window window bound);
+    }

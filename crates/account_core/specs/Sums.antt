@@ -1,0 +1,52 @@
+-- What a history has spent and left open in each window, and that both together keep to the window's allowance.
+use Rattle.std.specs.Prelude.{◌≡◌, ℕ, not, Bool, false, List, [], ◌∷◌, ◌++◌}
+use Rattle.std.specs.List.{filter, flat_map, list_any}
+use Rattle.cost_num.specs.Within.{Within}
+use Rattle.cost_num.specs.declared.Cost.{Cost}
+use Rattle.account_core.specs.Costs.{nothing, together, counted_in}
+use Rattle.account_core.specs.Machine.{Limit, Grant, Call, reservation, settlement, CallReply, granted, done, Entry, grant, is_grant, held_in}
+
+-- the grant that a call made, or none
+abbrev pub grants_of_call : ℕ → ℕ → Call → CallReply → List Grant
+grants_of_call caller number (reservation window bound) (granted at) = grant caller number at bound ∷ []
+grants_of_call caller number _ _ = []
+
+-- all grants that a history made, in their order
+abbrev pub grants_made : List Entry → List Grant
+grants_made history = flat_map (λ e. grants_of_call e.caller e.number e.call e.reply) history
+
+-- whether a caller's call settles a grant
+abbrev pub settles_grant : ℕ → Call → CallReply → Grant → Bool
+settles_grant caller (settlement of window bound measured) done g = is_grant caller of g
+settles_grant caller _ _ g = false
+
+abbrev pub is_settled : List Entry → Grant → Bool
+is_settled history g = list_any (λ e. settles_grant e.caller e.call e.reply g) history
+
+-- the grants that a history made and that none of its entries settles
+abbrev pub open_grants : List Entry → List Grant
+open_grants history = filter (λ g. not (is_settled history g)) (grants_made history)
+
+-- the measured cost of a settlement, in the window of its grant, which a legal settlement names
+abbrev pub spent_by : ℕ → Call → CallReply → Cost
+spent_by window (settlement of own bound measured) done = counted_in window own measured
+spent_by window _ _ = nothing
+
+-- the measured costs of all settlements of a window's grants, added up
+abbrev pub spent_in : ℕ → List Entry → Cost
+spent_in window [] = nothing
+spent_in window (e ∷ es) = together (spent_by window e.call e.reply) (spent_in window es)
+
+-- the bounds of a window's grants that aren't settled, added up
+abbrev pub open_in : ℕ → List Entry → Cost
+open_in window history = held_in window (open_grants history)
+
+-- What a window may take in all, by the history so far: the client's allowance, whatever the history is. A limit that
+-- carries something over from window to window would change this word.
+abbrev pub allowance_in : Limit → List Entry → ℕ → Cost
+allowance_in allowance history window = allowance
+
+-- at every moment of a history and in every window, what is spent and what is open are together at most the allowance
+abbrev pub KeepsAllowance : Limit → List Entry → Type 0
+KeepsAllowance limit history = (front rest : List Entry) → history ≡ front ++ rest → (window : ℕ)
+    → Within (allowance_in limit front window) (together (spent_in window front) (open_in window front))

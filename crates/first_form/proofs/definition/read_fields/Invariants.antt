@@ -1,0 +1,18 @@
+use Rattle.std.proofs.Common.{◌≡◌, ◌≤◌, ◌-◌, length}
+use Rattle.gql_base.specs.declared.token.TokenKind.TheVariants.{CloseBrace}
+use Rattle.first_form.specs.Reading.{many, until}
+use Rattle.first_form.specs.SchemaReading.{field_at}
+use Rattle.first_form.specs.Sources.{words}
+use Rattle.first_form.specs.Views.{fields_of}
+use Rattle.first_form.proofs.Loops.{with_front}
+use Rattle.first_form.proofs.definition.read_fields.Given as goal
+
+-- The fields so far, and those that are read from here on, are all.
+abbrev pub invariant-fields : goal.invariant-fields
+invariant-fields l = record {
+  same : with_front (fields_of l.fields.items) (many (until CloseBrace) field_at (words l.source l.at)) ≡ many (until CloseBrace) field_at (words l.source l.start);
+  after : l.start ≤ l.at;
+}
+
+abbrev pub decreases-fields : goal.decreases-fields
+decreases-fields l = length l.source.tokens.now - l.at

@@ -1,0 +1,35 @@
+use Rattle.std.proofs.Common.{◌≡◌, ◌≤◌, ◌+◌, ◌*◌, ◌-◌, length, map}
+use Rattle.gql_base.specs.declared.token.TokenKind.TheVariants.{CloseBrace}
+use Rattle.static_cost.specs.Nodes.{first_of}
+use Rattle.first_form.specs.Reading.{many, until}
+use Rattle.first_form.specs.DocumentReading.{selection_at, set_at}
+use Rattle.first_form.specs.Sources.{words}
+use Rattle.first_form.specs.Views.{fields_of, types_of}
+use Rattle.first_form.proofs.Loops.{with_front}
+use Rattle.first_form.proofs.selection.+sets.Given as goal
+
+-- Each call has fewer levels left, or is of a smaller part at the same level.
+abbrev pub decreases-read_set : goal.decreases-read_set
+decreases-read_set l = 5 * l.levels
+
+abbrev pub decreases-read_below : goal.decreases-read_below
+decreases-read_below l = 5 * l.levels + 1
+
+abbrev pub decreases-read_selection : goal.decreases-read_selection
+decreases-read_selection l = 5 * l.levels + 2
+
+abbrev pub decreases-read_selections : goal.decreases-read_selections
+decreases-read_selections l = 5 * l.levels + 3
+
+abbrev pub decreases-read_opened : goal.decreases-read_opened
+decreases-read_opened l = 5 * l.levels + 4
+
+-- The nodes so far, and those that are read from here on, are all.
+abbrev pub invariant-read_selections-nodes : goal.invariant-read_selections-nodes
+invariant-read_selections-nodes l = record {
+  same : with_front (map first_of l.nodes.items) (many (until CloseBrace) (selection_at (types_of l.types) (set_at (types_of l.types) l.levels) (fields_of l.fields)) (words l.source l.at)) ≡ many (until CloseBrace) (selection_at (types_of l.types) (set_at (types_of l.types) l.levels) (fields_of l.fields)) (words l.source l.start);
+  after : l.start ≤ l.at;
+}
+
+abbrev pub decreases-read_selections-nodes : goal.decreases-read_selections-nodes
+decreases-read_selections-nodes l = length l.source.tokens.now - l.at

@@ -1,0 +1,8 @@
+pub mod Schemas
+pub mod Documents
+pub mod Reading
+pub mod SchemaReading
+pub mod DocumentReading
+pub mod Sources
+pub mod Views
+pub mod Faults

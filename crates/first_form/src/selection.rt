@@ -1,0 +1,178 @@
+//! Reading the selection sets of a document, over the types of its schema.
+
+ghost use Rattle.std.specs.Prelude.{◌≡◌, ◌+◌, ◌<◌, ◌≤◌, length, map, IfOk};
+ghost use Rattle.gql_base.specs.declared.token.TokenKind.TheVariants.{CloseBrace};
+ghost use Rattle.static_cost.specs.Nodes.{first_of, firsts_of};
+ghost use Rattle.first_form.specs.Schemas.{kind_of, type_named};
+ghost use Rattle.first_form.specs.Documents.{list_of, size_of};
+ghost use Rattle.first_form.specs.Reading.{many, until};
+ghost use Rattle.first_form.specs.DocumentReading.{node_with, set_of, below_at, selection_at, is_set, opened_at, set_at};
+ghost use Rattle.first_form.specs.Sources.{words, Reads};
+ghost use Rattle.first_form.specs.Views.{field_of, fields_of, types_of};
+
+use crate::checks::{field_named, kind_of, type_named};
+use crate::definition::{FieldDefinition, TypeDefinition};
+use crate::named::are_distinct;
+use crate::source::{Source, Stopped};
+use gql_base::{Text, TokenKind};
+use static_cost::{FirstKind, FirstList, FirstNode};
+use std::alloc::Global;
+
+/// The size of a list of objects for which none is assumed.
+const USUAL_SIZE: u64 = 10;
+
+// The size of a list of a kind: a list of objects without a size has the usual one.
+fn size_of(kind: FirstKind, size: Option<u64>) -> Option<u64>
+    ensures { result ≡ size_of kind size }
+{
+    match kind {
+        FirstKind::Object => match size {
+            Some(size) => Some(size),
+            None => Some(USUAL_SIZE),
+        },
+        _ => size,
+    }
+}
+
+// A list of a kind, with its size.
+fn list_of(kind: FirstKind, list: Option<FirstList>) -> Option<FirstList>
+    ensures { result ≡ list_of kind list }
+{
+    let list = list?;
+    Some(FirstList {
+        size: size_of(kind, list.size),
+        nullable: list.nullable,
+    })
+}
+
+// The node of a field, with what stands below it.
+fn node_of(field: &FieldDefinition, key: Text, below: Vec<FirstNode>) -> FirstNode
+    ensures { first_of result ≡ node_with (field_of field.now) key (firsts_of below.items) }
+{
+    let kind = kind_of(field.named.as_str());
+    FirstNode {
+        key,
+        kind,
+        nullable: field.nullable,
+        list: list_of(kind, field.list),
+        below,
+    }
+}
+
+// Whether a set holds a field, and none twice.
+fn is_set(nodes: &[FirstNode]) -> bool
+    ensures { result ≡ is_set (firsts_of nodes.now) }
+{
+    !nodes.is_empty() && are_distinct(nodes)
+}
+
+/// A selection set of these fields, and the place after it, where `levels` sets may still be opened.
+#[cycle(sets)]
+pub fn read_set(
+    alloc: Global,
+    source: &Source,
+    at: usize,
+    types: &[TypeDefinition],
+    fields: &[FieldDefinition],
+    levels: usize,
+) -> Result<(Vec<FirstNode>, usize), Stopped>
+    ensures read { Reads source.now (λ x. (firsts_of x.0.items, x.1)) result (set_at (types_of types.now) levels (fields_of fields.now) (words source.now at)) }
+    ensures within { IfOk result (λ x. (at < x.1) × (x.1 ≤ length source.now.tokens.now)) }
+{
+    if levels == 0 {
+        return Err(Stopped::NotBuilt);
+    }
+    read_opened(alloc, source, at, types, fields, levels - 1)
+}
+
+// A selection set, where `levels` sets may be opened below it.
+#[cycle(sets)]
+#[tactic(auto, unfolding(crate::specs::DocumentReading::opened_at))]
+fn read_opened(
+    alloc: Global,
+    source: &Source,
+    at: usize,
+    types: &[TypeDefinition],
+    fields: &[FieldDefinition],
+    levels: usize,
+) -> Result<(Vec<FirstNode>, usize), Stopped>
+    ensures read { Reads source.now (λ x. (firsts_of x.0.items, x.1)) result (opened_at (types_of types.now) (set_at (types_of types.now) levels) (fields_of fields.now) (words source.now at)) }
+    ensures within { IfOk result (λ x. (at < x.1) × (x.1 ≤ length source.now.tokens.now)) }
+{
+    let start = source.wants(at, TokenKind::OpenBrace)?;
+    let (nodes, close) = read_selections(alloc, source, start, types, fields, levels)?;
+    let end = source.wants(close, TokenKind::CloseBrace)?;
+    if is_set(&nodes) {
+        Ok((nodes, end))
+    } else {
+        Err(Stopped::NotBuilt)
+    }
+}
+
+// The selections up to the closing brace.
+#[cycle(sets)]
+fn read_selections(
+    alloc: Global,
+    source: &Source,
+    start: usize,
+    types: &[TypeDefinition],
+    fields: &[FieldDefinition],
+    levels: usize,
+) -> Result<(Vec<FirstNode>, usize), Stopped>
+    ensures read { Reads source.now (λ x. (map first_of x.0.items, x.1)) result (many (until CloseBrace) (selection_at (types_of types.now) (set_at (types_of types.now) levels) (fields_of fields.now)) (words source.now start)) }
+    ensures within { IfOk result (λ x. start ≤ x.1) }
+{
+    let mut nodes = Vec::new(alloc);
+    let mut at = start;
+    'nodes: while source.is_before(at, TokenKind::CloseBrace) {
+        let (node, end) = read_selection(alloc, source, at, types, fields, levels)?;
+        nodes.push(node)?;
+        at = end;
+    }
+    Ok((nodes, at))
+}
+
+// A field with what stands below it.
+#[cycle(sets)]
+#[tactic(auto, unfolding(crate::specs::DocumentReading::selection_at))]
+fn read_selection(
+    alloc: Global,
+    source: &Source,
+    at: usize,
+    types: &[TypeDefinition],
+    fields: &[FieldDefinition],
+    levels: usize,
+) -> Result<(FirstNode, usize), Stopped>
+    ensures read { Reads source.now (λ x. (first_of x.0, x.1)) result (selection_at (types_of types.now) (set_at (types_of types.now) levels) (fields_of fields.now) (words source.now at)) }
+    ensures within { IfOk result (λ x. (at < x.1) × (x.1 ≤ length source.now.tokens.now)) }
+{
+    let (key, end) = source.name(alloc, at)?;
+    let Some(field) = field_named(fields, key.as_str()) else {
+        return Err(Stopped::NotBuilt);
+    };
+    let (below, end) = read_below(alloc, source, end, types, field.named.as_str(), levels)?;
+    Ok((node_of(field, key, below), end))
+}
+
+// What stands below a field of this type: a selection set where it is an object type.
+#[cycle(sets)]
+fn read_below(
+    alloc: Global,
+    source: &Source,
+    at: usize,
+    types: &[TypeDefinition],
+    named: &str,
+    levels: usize,
+) -> Result<(Vec<FirstNode>, usize), Stopped>
+    ensures read { Reads source.now (λ x. (firsts_of x.0.items, x.1)) result (below_at (kind_of named.now) (set_of (set_at (types_of types.now) levels) (type_named (types_of types.now) named.now)) (words source.now at)) }
+    ensures within { IfOk result (λ x. at ≤ x.1) }
+    ensures inside { IfOk result (λ x. at ≤ length source.now.tokens.now → x.1 ≤ length source.now.tokens.now) }
+{
+    match kind_of(named) {
+        FirstKind::Object => match type_named(types, named) {
+            Some(of) => read_set(alloc, source, at, types, &of.fields, levels),
+            None => Err(Stopped::NotBuilt),
+        },
+        _ => Ok((Vec::new(alloc), at)),
+    }
+}

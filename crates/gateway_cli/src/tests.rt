@@ -1,0 +1,238 @@
+//! The rows of the program: words, files and streams in, statuses and texts out.
+use crate::command::run;
+use gql_base::Text;
+use outside::{Failures, MemFile, MemFiles, MemSink};
+use std::alloc::Global;
+use std::test::Fail;
+
+/// A user with three friends.
+const USERS: &str =
+    "type Query { user: User } type User { id: ID! friends: [User!]! @listSize(assumedSize: 3) }";
+
+/// Lists of two billion items.
+const HUGE: &str =
+    "type Query { a: [N] @listSize(assumedSize: 2000000000) } type N { id: ID a: [N] @listSize(assumedSize: 2000000000) }";
+
+/// The words of a price command.
+const PRICE: [&str; 3] = ["price", "schema", "document"];
+
+/// What a run ended with.
+#[derive(Drop)]
+struct Ended {
+    status: u8,
+    out: Vec<u8>,
+    err: Vec<u8>,
+}
+
+fn words(alloc: Global, words: &[&str]) -> Result<Vec<Text>, Fail> {
+    let mut texts = Vec::new(alloc);
+    for word in words {
+        texts.push(Text::copy_of(alloc, word)?)?;
+    }
+    Ok(texts)
+}
+
+fn failures(alloc: Global, failing: &[u64]) -> Result<Failures, Fail> {
+    Ok(Failures::of(Vec::from_slice(alloc, failing)?))
+}
+
+fn files(alloc: Global, schema: &[u8], document: &[u8], failing: &[u64]) -> Result<MemFiles, Fail> {
+    let mut files = Vec::new(alloc);
+    for (name, content) in [("schema", schema), ("document", document)] {
+        files.push(MemFile {
+            name: String::from_str(alloc, name)?,
+            content: Vec::from_slice(alloc, content)?,
+        })?;
+    }
+    Ok(MemFiles::new(files, failures(alloc, failing)?))
+}
+
+/// Runs the program on these words and files, where these calls of the files and of both streams fail.
+fn run_on(
+    rt: &HostRuntime,
+    given: &[&str],
+    schema: &[u8],
+    document: &[u8],
+    failing: (&[u64], &[u64]),
+) -> Result<Ended, Fail> {
+    let alloc = rt.alloc();
+    let words = words(alloc, given)?;
+    let mut files = files(alloc, schema, document, failing.0)?;
+    let mut out = MemSink::new(alloc, failures(alloc, failing.1)?);
+    let mut err = MemSink::new(alloc, failures(alloc, failing.1)?);
+    let status = run(rt, alloc, &words, &mut files, &mut out, &mut err);
+    Ok(Ended {
+        status,
+        out: out.written,
+        err: err.written,
+    })
+}
+
+/// Prices with nothing that fails.
+fn priced(rt: &HostRuntime, schema: &[u8], document: &[u8]) -> Result<Ended, Fail> {
+    run_on(rt, &PRICE, schema, document, (&[], &[]))
+}
+
+/// A text that spaces fill up to a number of bytes.
+fn filled(alloc: Global, text: &str, length: usize) -> Result<Vec<u8>, Fail> {
+    let mut bytes = vec![in alloc; b' '; length]?;
+    for (at, byte) in text.bytes().enumerate() {
+        bytes[at] = byte;
+    }
+    Ok(bytes)
+}
+
+#[test]
+fn operations_are_priced(rt: HostRuntime) -> Result<(), Fail> {
+    for (schema, document, line) in [
+        (USERS, "{ user { id } }", "2.000 1.000\n"),
+        (USERS, "{ user { friends { id } } }", "5.000 2.000\n"),
+        (
+            USERS,
+            "{ user { friends { id friends { id } } } }",
+            "14.000 5.000\n",
+        ),
+        (HUGE, "{ a { id } }", "2000000001.000 1.000\n"),
+        (
+            "type Query { a: [Int] b: Boolean! }",
+            "{ a b }",
+            "1.000 0.000\n",
+        ),
+        (
+            "type Query { a: [N!]! } type N { b: ID }",
+            "{ a { b } }",
+            "11.000 1.000\n",
+        ),
+        (
+            "type Query { a: [N] @listSize(assumedSize: 0) } type N { b: ID }",
+            "{ a { b } }",
+            "1.000 1.000\n",
+        ),
+    ] {
+        let ended = priced(&rt, schema.as_bytes(), document.as_bytes())?;
+        assert_eq!(rt; ended.status, 0, "{document}");
+        assert_eq!(rt; ended.out.as_slice(), line.as_bytes(), "{document}");
+        assert!(rt; ended.err.is_empty(), "{document}");
+    }
+    Ok(())
+}
+
+#[test]
+fn operations_without_a_price_are_refused(rt: HostRuntime) -> Result<(), Fail> {
+    for (schema, document, line) in [
+        (USERS, "{ b: user { id } }", "first 1 NotBuilt document\n"),
+        (USERS, "{ nobody }", "first 1 NotBuilt document\n"),
+        (USERS, "", "first 1 NotBuilt document\n"),
+        (
+            "type User { id: ID }",
+            "{ user { id } }",
+            "first 1 NotBuilt schema\n",
+        ),
+        ("", "", "first 1 NotBuilt schema\n"),
+        (HUGE, "{ a { a { id } } }", "bound 1 TooCostly types\n"),
+        (HUGE, "{ a { a { a { id } } } }", "bound 1 TooCostly both\n"),
+    ] {
+        let ended = priced(&rt, schema.as_bytes(), document.as_bytes())?;
+        assert_eq!(rt; ended.status, 1, "{document}");
+        assert!(rt; ended.out.is_empty(), "{document}");
+        assert_eq!(rt; ended.err.as_slice(), line.as_bytes(), "{document}");
+    }
+    Ok(())
+}
+
+#[test]
+fn files_that_are_no_texts_are_refused(rt: HostRuntime) -> Result<(), Fail> {
+    let document = b"{ user { id } }".as_slice();
+    let bad = b"\xff".as_slice();
+    for (schema, document, line) in [
+        (bad, document, "first 1 NotBuilt schema\n"),
+        (USERS.as_bytes(), bad, "first 1 NotBuilt document\n"),
+        (bad, bad, "first 1 NotBuilt schema\n"),
+        (b"type".as_slice(), bad, "first 1 NotBuilt schema\n"),
+    ] {
+        let ended = priced(&rt, schema, document)?;
+        assert_eq!(rt; ended.status, 1, "{line}");
+        assert_eq!(rt; ended.err.as_slice(), line.as_bytes(), "{line}");
+    }
+    Ok(())
+}
+
+#[test]
+fn files_have_limits(rt: HostRuntime) -> Result<(), Fail> {
+    let alloc = rt.alloc();
+    let document = "{ user { id } }";
+    for (schema_length, document_length, status) in [
+        (USERS.len(), 262_144, 0),
+        (USERS.len(), 262_145, 1),
+        (4_194_305, 262_144, 1),
+    ] {
+        let schema = filled(alloc, USERS, schema_length)?;
+        let document = filled(alloc, document, document_length)?;
+        let ended = priced(&rt, &schema, &document)?;
+        assert_eq!(rt; ended.status, status, "{schema_length} {document_length}");
+    }
+    Ok(())
+}
+
+#[test]
+fn streams_that_fail_are_told(rt: HostRuntime) -> Result<(), Fail> {
+    let price = "{ user { id } }";
+    for (words, document, files, streams, status) in [
+        (PRICE, price, 9, 0, 4),
+        (PRICE, price, 9, 1, 4),
+        (PRICE, "{ b: user { id } }", 9, 0, 4),
+        (PRICE, "{ b: user { id } }", 9, 1, 4),
+        (PRICE, price, 0, 0, 3),
+        (["prices", "schema", "document"], price, 9, 0, 2),
+    ] {
+        let ended = run_on(
+            &rt,
+            &words,
+            USERS.as_bytes(),
+            document.as_bytes(),
+            (&[files], &[streams]),
+        )?;
+        assert_eq!(rt; ended.status, status, "{document} {files} {streams}");
+    }
+    Ok(())
+}
+
+#[test]
+fn other_words_are_refused(rt: HostRuntime) -> Result<(), Fail> {
+    let rows: [&[&str]; 5] = [
+        &[],
+        &["price"],
+        &["price", "schema"],
+        &["price", "schema", "document", "more"],
+        &["prices", "schema", "document"],
+    ];
+    for row in rows {
+        let ended = run_on(&rt, row, USERS.as_bytes(), b"{ user { id } }", (&[], &[]))?;
+        assert_eq!(rt; ended.status, 2);
+        assert!(rt; ended.out.is_empty());
+        assert!(rt; ended.err.as_slice().starts_with(b"usage: "));
+    }
+    Ok(())
+}
+
+#[test]
+fn files_that_fail_are_named(rt: HostRuntime) -> Result<(), Fail> {
+    for (words, failing, text) in [
+        (PRICE, 0, "file schema\n"),
+        (PRICE, 1, "file document\n"),
+        (["price", "other", "document"], 7, "file other\n"),
+        (["price", "schema", "missing"], 7, "file missing\n"),
+    ] {
+        let ended = run_on(
+            &rt,
+            &words,
+            USERS.as_bytes(),
+            b"{ user { id } }",
+            (&[failing], &[]),
+        )?;
+        assert_eq!(rt; ended.status, 3, "{text}");
+        assert!(rt; ended.out.is_empty(), "{text}");
+        assert_eq!(rt; ended.err.as_slice(), text.as_bytes(), "{text}");
+    }
+    Ok(())
+}
