@@ -90,10 +90,10 @@ fn read_json(alloc: Global, bytes: &[u8]) -> Result<Value, MeterFault>
 }
 
 /// The data of a reply, where it has any, after its errors.
-fn meter_content(alloc: Global, nodes: &[FirstNode], some_error: bool, data: Option<&Value>, into: &mut String) -> Result<Cost, MeterFault>
-    ensures { (errors : List ReplyError) → some_error.entry ≡ has_some errors → MeasuresContent (string_bytes into.old) (string_bytes into.new) result (plan_of nodes.now) errors (option_map (λ v. view v.now) data.entry) }
+fn meter_content(alloc: Global, nodes: &[FirstNode], some_error: bool, content: Option<&Value>, into: &mut String) -> Result<Cost, MeterFault>
+    ensures { (errors : List ReplyError) → some_error ≡ has_some errors → MeasuresContent (string_bytes into.old) (string_bytes into.new) result (plan_of nodes.now) errors (option_map (λ v. view v.now) content.entry) }
 {
-    match data {
+    match content {
         None => {
             if some_error {
                 Ok(Cost { types: 0, fields: 0 })
@@ -101,19 +101,19 @@ fn meter_content(alloc: Global, nodes: &[FirstNode], some_error: bool, data: Opt
                 Err(not_response(alloc, Why::NoData))
             }
         }
-        Some(data) => {
+        Some(value) => {
             into.push_str(if some_error { ",\"data\":" } else { "\"data\":" })?;
-            meter_data(alloc, nodes, data, into)
+            meter_data(alloc, nodes, value, into)
         }
     }
 }
 
 /// The data of a reply: null, or an object.
-fn meter_data(alloc: Global, nodes: &[FirstNode], data: &Value, into: &mut String) -> Result<Cost, MeterFault>
-    ensures { MeasuresTree (string_bytes into.old) (string_bytes into.new) result (data_fault holds no_name [] (plan_of nodes.now) (view data.now)) (plan_of nodes.now) (data_tree no_name [] (plan_of nodes.now) (view data.now)) }
+fn meter_data(alloc: Global, nodes: &[FirstNode], value: &Value, into: &mut String) -> Result<Cost, MeterFault>
+    ensures { MeasuresTree (string_bytes into.old) (string_bytes into.new) result (data_fault holds no_name [] (plan_of nodes.now) (view value.now)) (plan_of nodes.now) (data_tree no_name [] (plan_of nodes.now) (view value.now)) }
 {
-    if data.is_null() {
+    if value.is_null() {
         return meter_null(alloc, true, into);
     }
-    meter_object(alloc, nodes, data, into)
+    meter_object(alloc, nodes, value, into)
 }
