@@ -5,3 +5,6 @@ pub mod Places
 pub mod ErrorTexts
 pub mod Passing
 pub mod Replies
+pub mod Reading
+pub mod Exact
+pub mod FirstNames

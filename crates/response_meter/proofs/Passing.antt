@@ -1,5 +1,5 @@
 -- A value that passes every test reads as its tree, which fits and keeps the declared sizes.
-use Rattle.std.proofs.Common.{◌≡◌, ◌⊎◌, ⊎_elim, ◌≤◌, ◌+◌, ℕ, suc, List, [], Bool, true, false, true≢false, cond, ◌||◌, ◌&&◌, eqb, leb, bytes_eq, Option, Some, None, refl, sym, ap, ◌∙◌, subst, arith, leb-true, eq-eqb}
+use Rattle.std.proofs.Common.{◌≡◌, ◌⊎◌, ⊎_elim, ◌≤◌, ◌+◌, ℕ, suc, List, [], ◌∷◌, ◌<◌, length, option_map, Bool, true, false, true≢false, cond, ◌||◌, ◌&&◌, eqb, leb, bytes_eq, Option, Some, None, refl, sym, ap, ◌∙◌, subst, arith, leb-true, eq-eqb}
 use Rattle.std.proofs.lemmas.Slice.Eq.{bytes_eq-Decides}
 use Rattle.std.specs.Option.{option_or}
 use Rattle.serde_json.specs.Data.{Data, null as json_null, boolean, number, string, array, object as json_object, Items, no_items, item, Members, no_members, member}
@@ -12,7 +12,9 @@ use Rattle.response_meter.specs.declared.fault.Why.{Why}
 use Rattle.response_meter.specs.declared.fault.Why.TheVariants.{MissingKey, ExtraKey, NullHere, BadLeaf, BadType}
 use Rattle.response_meter.specs.Faults.{Fault, size_broken, key_step, item_step, at_step, tested, given}
 use Rattle.response_meter.specs.FirstFault.{null_fault, size_fault, items_fault, list_fault, place_fault, only_type, is_text, keys_known, is_leaf, type_named, type_told, value_fault, object_fault, entries_fault}
-use Rattle.response_meter.specs.Trees.{tree_of, null_tree, items_tree, list_tree, place_tree, value_tree, object_entries, member_entries}
+use Rattle.response_meter.specs.Errors.{ReplyError}
+use Rattle.response_meter.specs.Reply.{content_fault, DataReads, IsResponseOrNone}
+use Rattle.response_meter.specs.Trees.{data_tree, tree_of, null_tree, items_tree, list_tree, place_tree, value_tree, object_entries, member_entries}
 
 -- tests that hold
 pub some_none : {A B : Type 0} {x : A} → Some x ≡ None → B
@@ -236,3 +238,14 @@ module _ (holds : ℕ → Data → Bool) (name : ℕ → List ℕ) (alias : List
         let first = member_reads s.form s.asked below s.size (get_member s.key ms) ms s.key refl (value_reads s.asked below) (step_none (key_step s.key) own both.0) in
         let rest = entries_read others ms both.1 in
         record { read = (refl, (first.0, first.1, first.2.read), rest.read); fit = (refl, first.2.fit, rest.fit); kept = (first.2.kept, rest.kept); }
+
+  -- so does the data of a reply
+  pub content_reads : (plan : Plan) (errors : List ReplyError) (o : Option Data) → content_fault holds name alias plan errors o ≡ None
+      → DataReads name alias plan errors o (option_map (data_tree name alias plan) o) × IsResponseOrNone holds plan (option_map (data_tree name alias plan) o)
+  content_reads plan [] None h = some_none h
+  content_reads plan (e ∷ es) None h = (some_length e es, tt)
+    where
+      some_length : (e : ReplyError) (es : List ReplyError) → 0 < length (e ∷ es)
+      some_length e es = omega arith
+  content_reads plan [] (Some d) h = let v = place_reads (single true) false plan (value_reads false plan) None d h in (v.read, (v.fit, v.kept))
+  content_reads plan (e ∷ es) (Some d) h = let v = place_reads (single true) false plan (value_reads false plan) None d h in (v.read, (v.fit, v.kept))

@@ -17,9 +17,9 @@ use Rattle.response_meter.specs.declared.metered.FirstMetered.{FirstMetered}
 use Rattle.response_meter.specs.Errors.{ReplyError, errors_of}
 use Rattle.response_meter.specs.Reply.{json_of, errors_entry, data_entry, DataReads, ReplyReads, IsResponseOrNone, reply_cost}
 use Rattle.response_meter.specs.Answer.{errors_part, data_part}
-use Rattle.response_meter.specs.Walks.{no_name, has_some, content_tree, content_fault, MeasuresContent, Found}
+use Rattle.response_meter.specs.Walks.{own_name, has_some, content_tree, content_fault, MeasuresContent, Found}
 use Rattle.response_meter.specs.Metered.{IsMetered}
-use Rattle.response_meter.proofs.Passing.{some_none, place_reads, value_reads}
+use Rattle.response_meter.proofs.Passing.{content_reads}
 
 pub json_read : (bytes : List ℕ) (d : Data) → IsUtf8 bytes → read bytes ≡ Some d → json_of bytes ≡ Some d
 json_read bytes d u r = ap (λ b. cond b (read bytes) None) (is_utf8-from_IsUtf8 bytes u) ∙ r
@@ -59,20 +59,6 @@ reply_found bytes start first second whole plan m some (string x) o p j h s eo w
 reply_found bytes start first second whole plan m some (array ds) o p j h s eo w ep measured t text = absurd (true≢false h)
 reply_found bytes start first second whole plan m some (json_object ms) o p j h s eo w ep measured t text = object_found bytes start first second whole plan m some ms o p j s eo w ep measured t text
 
--- data that passes every test reads as a response
-content_reads : (plan : Plan) (errors : List ReplyError) (o : Option Data) → content_fault plan errors o ≡ None → DataReads no_name [] plan errors o (content_tree plan o) × IsResponseOrNone holds plan (content_tree plan o)
-content_reads plan [] None h = some_none h
-content_reads plan (e ∷ es) None h = (some_length e es, tt)
-  where
-    some_length : (e : ReplyError) (es : List ReplyError) → 0 < length (e ∷ es)
-    some_length e es = omega arith
-content_reads plan [] (Some d) h =
-    let v = place_reads holds no_name [] (single true) false plan (value_reads holds no_name [] false plan) None d h in
-    (v.read, (v.fit, v.kept))
-content_reads plan (e ∷ es) (Some d) h =
-    let v = place_reads holds no_name [] (single true) false plan (value_reads holds no_name [] false plan) None d h in
-    (v.read, (v.fit, v.kept))
-
 bounded : (part : Part) (plan : Plan) (t : Option Tree) (b : ℕ) → IsBound holds part plan b → IsResponseOrNone holds plan t → reply_cost part plan t ≤ b
 bounded part plan None b is h = zero-le
 bounded part plan (Some t) b is h = is.upper t h
@@ -86,7 +72,7 @@ capped_within c x b e l = omega arith
 pub found_metered : (plan : Plan) (bytes : List ℕ) (m : FirstMetered) (a b : ℕ) → Found plan bytes m → IsBound holds types plan a → a ≤ CAP → IsBound holds fields plan b → b ≤ CAP → IsMetered plan bytes m
 found_metered plan bytes m a b f ta la tb lb =
     let tree = content_tree plan (data_entry f.members) in
-    let r = content_reads plan f.errors (data_entry f.members) f.no_fault in
+    let r = content_reads holds own_name [] plan f.errors (data_entry f.members) f.no_fault in
     record {
       tree = tree;
       errors = f.errors;
@@ -100,6 +86,6 @@ found_metered plan bytes m a b f ta la tb lb =
 pub found_within : (plan : Plan) (bytes : List ℕ) (m : FirstMetered) (a b : ℕ) → Found plan bytes m → IsBound holds types plan a → IsBound holds fields plan b → (m.cost.types ≤ a) × (m.cost.fields ≤ b)
 found_within plan bytes m a b f ta tb =
     let tree = content_tree plan (data_entry f.members) in
-    let r = content_reads plan f.errors (data_entry f.members) f.no_fault in
+    let r = content_reads holds own_name [] plan f.errors (data_entry f.members) f.no_fault in
     (capped_within m.cost.types (reply_cost types plan tree) a f.types_cost (bounded types plan tree a ta r.1),
       capped_within m.cost.fields (reply_cost fields plan tree) b f.fields_cost (bounded fields plan tree b tb r.1))

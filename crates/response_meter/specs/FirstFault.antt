@@ -102,3 +102,27 @@ module _ (holds : ℕ → Data → Bool) (name : ℕ → List ℕ) (alias : List
   -- The data of a reply: one value that may be null, whose type name is not asked.
   abbrev pub data_fault : Plan → Data → Option Fault
   data_fault plan json = place_fault (λ v. value_fault false plan v) (single true) None json
+
+-- What fills a type name is a string.
+abbrev pub IsFilled : LeafType → Data → Type 0
+IsFilled type_name json_null = ⊥
+IsFilled type_name (boolean b) = ⊥
+IsFilled type_name (number n) = ⊥
+IsFilled type_name (string s) = Unit {0}
+IsFilled type_name (array ds) = ⊥
+IsFilled type_name (json_object ms) = ⊥
+IsFilled (numbered type) fill = Unit {0}
+
+-- So is each type name that is a leaf of the plan.
+abbrev mutual
+  pub NamesFilled : Plan → Type 0
+  NamesFilled (leaf_plan type weight fill) = IsFilled type fill
+  NamesFilled (position possible) = TypesFilled possible
+
+  pub TypesFilled : ObjectTypes → Type 0
+  TypesFilled no_type = Unit {0}
+  TypesFilled (object_type T weight nodes others) = NodesFilled nodes × TypesFilled others
+
+  pub NodesFilled : Nodes → Type 0
+  NodesFilled no_node = Unit {0}
+  NodesFilled (node s below others) = NamesFilled below × NodesFilled others

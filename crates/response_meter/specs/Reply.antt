@@ -45,6 +45,10 @@ abbrev pub IsResponseOrNone : (ℕ → Data → Bool) → Plan → Option Tree �
 IsResponseOrNone holds plan None = Unit {0}
 IsResponseOrNone holds plan (Some tree) = IsResponse holds plan tree
 
+-- A reply reads, and its data, if any, is a response of the plan.
+abbrev pub IsReadable : (ℕ → Data → Bool) → (ℕ → List ℕ) → List ℕ → Plan → List ℕ → Type 0
+IsReadable holds name alias plan bytes = (tree : Option Tree) × (errors : List ReplyError) × ReplyReads name alias plan bytes tree errors × IsResponseOrNone holds plan tree
+
 module _ (holds : ℕ → Data → Bool) (name : ℕ → List ℕ) (alias : List ℕ) where
   -- The tests of what stands in a reply: there is data, or at least one error without data.
   abbrev pub content_fault : Plan → List ReplyError → Option Data → Option Fault

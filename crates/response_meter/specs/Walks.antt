@@ -22,22 +22,22 @@ use Rattle.response_meter.specs.Reply.{json_of, errors_entry, data_entry, reply_
 use Rattle.response_meter.specs.declared.metered.FirstMetered.{FirstMetered}
 use Rattle.response_meter.specs.Answer.{key_text, tree_text, elements_text, entries_text, errors_part, data_part, answer_text}
 
--- No type name is asked in an operation of the first form: no object type has a name, and there is no alias.
-abbrev pub no_name : ℕ → List ℕ
-no_name T = []
+-- No type name is asked in an operation of the first form, so names and alias are free: each object type has a name of its own, and the alias is empty.
+abbrev pub own_name : ℕ → List ℕ
+own_name T = T ∷ []
 
 -- The tests and the trees of the first form.
 abbrev pub value_fault : Plan → Data → Option Fault
-value_fault plan json = tests.value_fault holds no_name [] false plan json
+value_fault plan json = tests.value_fault holds own_name [] false plan json
 
 abbrev pub value_tree : Plan → Data → Tree
-value_tree plan json = trees.value_tree no_name [] false plan json
+value_tree plan json = trees.value_tree own_name [] false plan json
 
 abbrev pub entries_fault : Nodes → Members → Option Fault
-entries_fault nodes ms = tests.entries_fault holds no_name [] nodes ms
+entries_fault nodes ms = tests.entries_fault holds own_name [] nodes ms
 
 abbrev pub member_entries : Nodes → Members → Entries
-member_entries nodes ms = trees.member_entries no_name [] nodes ms
+member_entries nodes ms = trees.member_entries own_name [] nodes ms
 
 -- The nodes and the plan of a selection set.
 abbrev pub nodes_of : List FirstNode → Nodes
@@ -102,10 +102,10 @@ Writes before after (Err f) read text = Tells f (given read BadErrors (λ x. Non
 
 -- The data of a reply, where it has any.
 abbrev pub content_tree : Plan → Option Data → Option Tree
-content_tree plan json = option_map (trees.data_tree no_name [] plan) json
+content_tree plan json = option_map (trees.data_tree own_name [] plan) json
 
 abbrev pub content_fault : Plan → List ReplyError → Option Data → Option Fault
-content_fault plan errors json = reply.content_fault holds no_name [] plan errors json
+content_fault plan errors json = reply.content_fault holds own_name [] plan errors json
 
 abbrev pub MeasuresContent : List ℕ → List ℕ → Result Cost MeterFault → Plan → List ReplyError → Option Data → Type 0
 MeasuresContent before after result plan errors json =
@@ -124,4 +124,4 @@ pub record Found (plan : Plan) (bytes : List ℕ) (metered : FirstMetered) : Typ
 
 abbrev pub MeasuresReply : Result FirstMetered MeterFault → Plan → List ℕ → Type 0
 MeasuresReply (Ok metered) plan bytes = Found plan bytes metered
-MeasuresReply (Err f) plan bytes = Tells f (reply.reply_fault holds no_name [] plan bytes)
+MeasuresReply (Err f) plan bytes = Tells f (reply.reply_fault holds own_name [] plan bytes)

@@ -3,6 +3,7 @@
 
 mod errors;
 mod fault;
+pub mod laws;
 mod meter;
 mod metered;
 #[cfg(test)]

@@ -15,7 +15,7 @@ ghost use Rattle.response_meter.specs.Trees.{data_tree};
 ghost use Rattle.response_meter.specs.Errors.{ReplyError};
 ghost use Rattle.response_meter.specs.Reply.{json_of};
 ghost use Rattle.response_meter.specs.Metered.{first_fault, IsMetered};
-ghost use Rattle.response_meter.specs.Walks.{no_name, has_some, MeasuresTree, MeasuresContent, MeasuresReply};
+ghost use Rattle.response_meter.specs.Walks.{own_name, has_some, MeasuresTree, MeasuresContent, MeasuresReply};
 ghost use Rattle.static_cost.specs.Leaves.{holds};
 
 use crate::errors::write_errors;
@@ -110,7 +110,7 @@ fn meter_content(alloc: Global, nodes: &[FirstNode], some_error: bool, content: 
 
 /// The data of a reply: null, or an object.
 fn meter_data(alloc: Global, nodes: &[FirstNode], value: &Value, into: &mut String) -> Result<Cost, MeterFault>
-    ensures { MeasuresTree (string_bytes into.old) (string_bytes into.new) result (data_fault holds no_name [] (plan_of nodes.now) (view value.now)) (plan_of nodes.now) (data_tree no_name [] (plan_of nodes.now) (view value.now)) }
+    ensures { MeasuresTree (string_bytes into.old) (string_bytes into.new) result (data_fault holds own_name [] (plan_of nodes.now) (view value.now)) (plan_of nodes.now) (data_tree own_name [] (plan_of nodes.now) (view value.now)) }
 {
     if value.is_null() {
         return meter_null(alloc, true, into);
