@@ -27,8 +27,8 @@ items_from items i v less is =
 abbrev pub ElementsLeft : List ℕ → List ℕ → Cost → List ℕ → Bool → ℕ → Plan → Items → Items → Type 0
 ElementsLeft before now c front nullable n plan rest all =
     Left before now c (items_fault (λ v. value_fault plan v) nullable n rest) (items_fault (λ v. value_fault plan v) nullable 0 all)
-        (λ part. elements_cost part plan (items_tree (λ v. value_tree plan v) rest)) (λ part. elements_cost part plan (items_tree (λ v. value_tree plan v) all))
-        (elements_text front (items_tree (λ v. value_tree plan v) rest)) (elements_text [] (items_tree (λ v. value_tree plan v) all))
+    (λ part. elements_cost part plan (items_tree (λ v. value_tree plan v) rest)) (λ part. elements_cost part plan (items_tree (λ v. value_tree plan v) all))
+    (elements_text front (items_tree (λ v. value_tree plan v) rest)) (elements_text [] (items_tree (λ v. value_tree plan v) all))
 
 step : (before now mid after : List ℕ) (c d s : Cost) (front : List ℕ) (nullable : Bool) (n : ℕ) (plan : Plan) (json : Data) (rest all : Items)
     → ElementsLeft before now c front nullable n plan (item json rest) all → mid ≡ now ++ front
@@ -44,8 +44,8 @@ pub elements_step : (before now mid after : List ℕ) (c d s : Cost) (front : Li
 elements_step before now mid after c d s front nullable n plan items i v less is l e m p q =
     let one_more : suc n ≡ n + 1 = omega arith in
     subst (λ (k : ℕ). ElementsLeft before after s comma nullable k plan (items_view (drop (i + 1) items)) (items_view items)) one_more
-      (step before now mid after c d s front nullable n plan (view v) (items_view (drop (i + 1) items)) (items_view items)
-        (subst (λ (rest : Items). ElementsLeft before now c front nullable n plan rest (items_view items)) (items_from items i v less is) l) e m p q)
+    (step before now mid after c d s front nullable n plan (view v) (items_view (drop (i + 1) items)) (items_view items)
+    (subst (λ (rest : Items). ElementsLeft before now c front nullable n plan rest (items_view items)) (items_from items i v less is) l) e m p q)
 
 -- the fault of an item is that of the list
 pub elements_refused : (before now : List ℕ) (c : Cost) (front : List ℕ) (nullable : Bool) (n : ℕ) (plan : Plan) (items : List Value) (i : ℕ) (v : Value) (x : MeterFault)
@@ -54,7 +54,7 @@ pub elements_refused : (before now : List ℕ) (c : Cost) (front : List ℕ) (nu
 elements_refused before now c front nullable n plan items i v x less is l told =
     let later = items_fault (λ w. value_fault plan w) nullable (suc n) (items_view (drop (i + 1) items)) in
     tells_same x (option_or (at_step (item_step n) (null_fault nullable (value_fault plan (view v)) (view v))) later) _
-      (ap (items_fault (λ w. value_fault plan w) nullable n) (sym (items_from items i v less is)) ∙ l.same) (tells_first x (at_step (item_step n) (null_fault nullable (value_fault plan (view v)) (view v))) later told)
+    (ap (items_fault (λ w. value_fault plan w) nullable n) (sym (items_from items i v less is)) ∙ l.same) (tells_first x (at_step (item_step n) (null_fault nullable (value_fault plan (view v)) (view v))) later told)
 
 -- all items were measured
 pub elements_end : (before now after : List ℕ) (c : Cost) (front : List ℕ) (nullable : Bool) (n : ℕ) (plan : Plan) (items : List Value) (i : ℕ)
@@ -62,4 +62,4 @@ pub elements_end : (before now after : List ℕ) (c : Cost) (front : List ℕ) (
     → MeasuresElements before after (Ok c) (items_fault (λ w. value_fault plan w) nullable 0 (items_view items)) plan (items_tree (λ w. value_tree plan w) (items_view items))
 elements_end before now after c front nullable n plan items i most l e =
     left_ends before now after c _ _ (codes "]") _
-      (subst (λ (rest : List Value). ElementsLeft before now c front nullable n plan (items_view rest) (items_view items)) (drop_all i items most) l) e
+    (subst (λ (rest : List Value). ElementsLeft before now c front nullable n plan (items_view rest) (items_view items)) (drop_all i items most) l) e

@@ -56,9 +56,11 @@ path_written before mid after (boolean b) h e w = false_true h
 path_written before mid after (number n) h e w = false_true h
 path_written before mid after (string s) h e w = false_true h
 path_written before mid after (array ds) h e w =
-    let s = stepped ds h in
-    (Some s.steps, ap (option_map Some) s.read,
-      w s.no_float ∙ ap (λ x. x ++ compact_text (array ds)) e ∙ append_assoc before (codes ",\"path\":") (compact_text (array ds)) ∙ ap (λ x. before ++ (codes ",\"path\":" ++ compact_text (array x))) (sym s.same))
+    let s = stepped ds h in (
+      Some s.steps,
+      ap (option_map Some) s.read,
+      w s.no_float ∙ ap (λ x. x ++ compact_text (array ds)) e ∙ append_assoc before (codes ",\"path\":") (compact_text (array ds)) ∙ ap (λ x. before ++ (codes ",\"path\":" ++ compact_text (array x))) (sym s.same),
+    )
 path_written before mid after (json_object ms) h e w = false_true h
 
 text_of_error : (a b c d e m p q r s : List ℕ) → b ≡ a ++ m → c ≡ b ++ p → d ≡ c ++ q → e ≡ d ++ r → s ≡ m ++ p ++ q ++ r → e ≡ a ++ s
@@ -71,10 +73,11 @@ pub error_written : (a b c d e : List ℕ) (json m : Data) (o : Option Data) →
 error_written a b c d e json json_null o f h w x q p z = false_true h
 error_written a b c d e json (boolean v) o f h w x q p z = false_true h
 error_written a b c d e json (number n) o f h w x q p z = false_true h
-error_written a b c d e json (string s) o f h w x q p z =
-    (record { message = s; path = p.0 },
-      ap (λ m. error_from (option_and_then as_str m) (path_of (get (codes "path") json))) (sym f) ∙ ap (error_from (Some s)) (ap path_of (sym q) ∙ p.1),
-      text_of_error a b c d e (codes "{\"message\":") (compact_text (string s)) (path_text p.0) (codes "}") _ w (x refl) p.2 z refl)
+error_written a b c d e json (string s) o f h w x q p z = (
+  record { message = s; path = p.0 },
+  ap (λ m. error_from (option_and_then as_str m) (path_of (get (codes "path") json))) (sym f) ∙ ap (error_from (Some s)) (ap path_of (sym q) ∙ p.1),
+  text_of_error a b c d e (codes "{\"message\":") (compact_text (string s)) (path_text p.0) (codes "}") _ w (x refl) p.2 z refl,
+)
 error_written a b c d e json (array ds) o f h w x q p z = false_true h
 error_written a b c d e json (json_object ms) o f h w x q p z = false_true h
 
@@ -91,8 +94,8 @@ one_more : (before now mid after front : List ℕ) (d : Data) (x : ReplyError) (
 one_more before now mid after front d x ds all l e r w = record {
   fails = λ h. l.fails (ap (λ o. read_then o (errors_in ds)) r ∙ ap (read_then (Some x)) h);
   reads = λ es h.
-    let found = l.reads (x ∷ es) (ap (λ o. read_then o (errors_in ds)) r ∙ ap (read_then (Some x)) h) in
-    (found.0, found.1, text_left before now mid after front (error_text x) (errors_text comma es) (errors_text [] found.0) found.2 e w);
+      let found = l.reads (x ∷ es) (ap (λ o. read_then o (errors_in ds)) r ∙ ap (read_then (Some x)) h) in
+      (found.0, found.1, text_left before now mid after front (error_text x) (errors_text comma es) (errors_text [] found.0) found.2 e w);
 }
 
 pub errors_step : (before now mid after front : List ℕ) (items : List Value) (i : ℕ) (v : Value) → i < length items → v ≡ get_or items i v
@@ -100,7 +103,7 @@ pub errors_step : (before now mid after front : List ℕ) (items : List Value) (
     → ErrorsLeft before after comma (items_view (drop (i + 1) items)) (items_view items)
 errors_step before now mid after front items i v less is l e w =
     one_more before now mid after front (view v) w.0 (items_view (drop (i + 1) items)) (items_view items)
-      (subst (λ (rest : Items). ErrorsLeft before now front rest (items_view items)) (items_from items i v less is) l) e w.1 w.2
+    (subst (λ (rest : Items). ErrorsLeft before now front rest (items_view items)) (items_from items i v less is) l) e w.1 w.2
 
 pub errors_end : (before now after front : List ℕ) (items : List Value) (i : ℕ) → length items ≤ i → ErrorsLeft before now front (items_view (drop i items)) (items_view items) → after ≡ now ++ codes "]"
     → (es : List ReplyError) × (errors_in (items_view items) ≡ Some es) × (after ≡ before ++ errors_text [] es)
@@ -127,7 +130,7 @@ pub errors_refused : (before now front : List ℕ) (items : List Value) (i : ℕ
     → ErrorsLeft before now front (items_view (drop i items)) (items_view items) → Tells f (given (error_of (view v)) BadErrors (λ x. None)) → Tells f (given (errors_in (items_view items)) BadErrors (λ x. None))
 errors_refused before now front items i v f less is l t =
     given_same f (error_of (view v)) (errors_in (items_view items))
-      (λ none. l.fails (ap errors_in (items_from items i v less is) ∙ ap (λ o. read_then o (errors_in (items_view (drop (i + 1) items)))) none)) t
+    (λ none. l.fails (ap errors_in (items_from items i v less is) ∙ ap (λ o. read_then o (errors_in (items_view (drop (i + 1) items)))) none)) t
 
 -- some items have some errors
 some_then : (o : Option ReplyError) (p : Option (List ReplyError)) (es : List ReplyError) → read_then o p ≡ Some es → true ≡ has_some es

@@ -34,11 +34,11 @@ module _ (holds : ℕ → Data → Bool) (name : ℕ → List ℕ) (alias : List
   passes_reads : (plan : Plan) (bytes : List ℕ) → first_fault holds name alias plan bytes ≡ None → IsReadable holds name alias plan bytes
   passes_reads plan bytes h =
       let a = given_some (json_of bytes) NotJson (λ json. given (as_object json) NotObject (λ ms. given (errors_of (errors_entry ms)) BadErrors (λ errors. content_fault holds name alias plan errors (data_entry ms))))
-            (step_none (codes "data") (reply_fault holds name alias plan bytes) h) in
+      (step_none (codes "data") (reply_fault holds name alias plan bytes) h) in
       let b = given_some (as_object a.0) NotObject (λ ms. given (errors_of (errors_entry ms)) BadErrors (λ errors. content_fault holds name alias plan errors (data_entry ms))) a.2 in
       let c = given_some (errors_of (errors_entry b.0)) BadErrors (λ errors. content_fault holds name alias plan errors (data_entry b.0)) b.2 in
       let d = content_reads holds name alias plan c.0 (data_entry b.0) c.2 in
-      (_, c.0, record { members = b.0; is_json = a.1 ∙ ap Some (object_same a.0 b.0 b.1); errors_read = c.1; data_read = d.0; }, d.1)
+      (_, c.0, record { members = b.0; is_json = a.1 ∙ ap Some (object_same a.0 b.0 b.1); errors_read = c.1; data_read = d.0 }, d.1)
 
   module _ (names_differ : (T U : ℕ) → name T ≡ name U → T ≡ U) where
     content_passes : (plan : Plan) → NamesFilled plan → (errors : List ReplyError) (o : Option Data) (t : Option Tree) → DataReads name alias plan errors o t → IsResponseOrNone holds plan t → content_fault holds name alias plan errors o ≡ None
@@ -56,9 +56,9 @@ module _ (holds : ℕ → Data → Bool) (name : ℕ → List ℕ) (alias : List
     reads_passes plan bytes filled read =
         let r = read.2 in
         ap (at_step (codes "data"))
-          (ap (λ o. given o NotJson (λ json. given (as_object json) NotObject (λ ms. given (errors_of (errors_entry ms)) BadErrors (λ errors. content_fault holds name alias plan errors (data_entry ms))))) r.is_json
-          ∙ ap (λ o. given o BadErrors (λ errors. content_fault holds name alias plan errors (data_entry r.members))) r.errors_read
-          ∙ content_passes plan filled read.1 (data_entry r.members) read.0 r.data_read read.3)
+        (ap (λ o. given o NotJson (λ json. given (as_object json) NotObject (λ ms. given (errors_of (errors_entry ms)) BadErrors (λ errors. content_fault holds name alias plan errors (data_entry ms))))) r.is_json
+        ∙ ap (λ o. given o BadErrors (λ errors. content_fault holds name alias plan errors (data_entry r.members))) r.errors_read
+        ∙ content_passes plan filled read.1 (data_entry r.members) read.0 r.data_read read.3)
 
     pub fault_or_reads : (plan : Plan) (bytes : List ℕ) → NamesFilled plan → (first_fault holds name alias plan bytes ≡ None) ↔ IsReadable holds name alias plan bytes
     fault_or_reads plan bytes filled = (passes_reads plan bytes, reads_passes plan bytes filled)
@@ -98,6 +98,7 @@ module _ (name : ℕ → List ℕ) (alias : List ℕ) (names_differ : (T U : ℕ
 
   pub one_reply_read : (plan : Plan) (bytes : List ℕ) (t s : Option Tree) (es fs : List ReplyError) → ReplyReads name alias plan bytes t es → ReplyReads name alias plan bytes s fs → (t ≡ s) × (es ≡ fs)
   one_reply_read plan bytes t s es fs p q =
-      let same : p.members ≡ q.members = ap (λ (o : Option Data). members_of (data_in o)) (sym p.is_json ∙ q.is_json) in
-      (one_data plan es fs (data_entry q.members) t s (subst (λ (ms : Members). DataReads name alias plan es (data_entry ms) t) same p.data_read) q.data_read,
-        ap errors_from (sym p.errors_read ∙ ap (λ (ms : Members). errors_of (errors_entry ms)) same ∙ q.errors_read))
+      let same : p.members ≡ q.members = ap (λ (o : Option Data). members_of (data_in o)) (sym p.is_json ∙ q.is_json) in (
+        one_data plan es fs (data_entry q.members) t s (subst (λ (ms : Members). DataReads name alias plan es (data_entry ms) t) same p.data_read) q.data_read,
+        ap errors_from (sym p.errors_read ∙ ap (λ (ms : Members). errors_of (errors_entry ms)) same ∙ q.errors_read),
+      )

@@ -35,7 +35,7 @@ nodes_from nodes i n less is =
 abbrev pub EntriesLeft : List ℕ → List ℕ → Cost → List ℕ → Nodes → Nodes → Members → Type 0
 EntriesLeft before now c front rest all ms =
     Left before now c (entries_fault rest ms) (entries_fault all ms) (λ part. entries_cost part rest (member_entries rest ms)) (λ part. entries_cost part all (member_entries all ms))
-        (entries_text front (member_entries rest ms)) (entries_text [] (member_entries all ms))
+    (entries_text front (member_entries rest ms)) (entries_text [] (member_entries all ms))
 
 step : (before now mid after : List ℕ) (c d s : Cost) (front : List ℕ) (f : First) (others all : Nodes) (ms : Members)
     → EntriesLeft before now c front (node_then f others) all ms → mid ≡ now ++ front → MeasuresEntry mid after (Ok d) (entry_fault f ms) f (entry_tree f ms)
@@ -49,7 +49,7 @@ pub entries_step : (before now mid after : List ℕ) (c d s : Cost) (front : Lis
     → s.types ≡ capped (c.types + d.types) → s.fields ≡ capped (c.fields + d.fields) → EntriesLeft before after s comma (nodes_of (drop (i + 1) nodes)) (nodes_of nodes) ms
 entries_step before now mid after c d s front nodes i n ms less is l e m p q =
     step before now mid after c d s front (first_of n) (nodes_of (drop (i + 1) nodes)) (nodes_of nodes) ms
-        (subst (λ (rest : Nodes). EntriesLeft before now c front rest (nodes_of nodes) ms) (nodes_from nodes i n less is) l) e m p q
+    (subst (λ (rest : Nodes). EntriesLeft before now c front rest (nodes_of nodes) ms) (nodes_from nodes i n less is) l) e m p q
 
 -- a key among the fields
 key_first : (f : First) (key : List ℕ) (others : Nodes) → has_key key (node_then f others) ≡ (bytes_eq key (key_of f) || has_key key others)
@@ -78,4 +78,4 @@ pub entries_refused : (before now : List ℕ) (c : Cost) (front : List ℕ) (nod
 entries_refused before now c front nodes i n ms x less is l told =
     let others = nodes_of (drop (i + 1) nodes) in
     tells_same x (option_or (entry_fault (first_of n) ms) (entries_fault others ms)) (entries_fault (nodes_of nodes) ms)
-      (first_entry (first_of n) others ms ∙ ap (λ ns. entries_fault ns ms) (sym (nodes_from nodes i n less is)) ∙ l.same) (tells_first x (entry_fault (first_of n) ms) (entries_fault others ms) told)
+    (first_entry (first_of n) others ms ∙ ap (λ ns. entries_fault ns ms) (sym (nodes_from nodes i n less is)) ∙ l.same) (tells_first x (entry_fault (first_of n) ms) (entries_fault others ms) told)

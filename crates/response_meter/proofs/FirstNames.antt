@@ -7,7 +7,7 @@ use Rattle.static_cost.specs.declared.first.FirstNode.{FirstNode}
 use Rattle.static_cost.specs.Nodes.{First, first, Firsts, no_first, first_then, firsts_of}
 use Rattle.static_cost.specs.FirstPlan.{value_plan, node_then, nodes_of_firsts, plan_of}
 use Rattle.response_meter.specs.FirstFault.{NamesFilled, NodesFilled}
-use Rattle.response_meter.specs.Walks.{own_name}
+use Rattle.response_meter.specs.FirstForm.{own_name}
 
 value_filled : (kind : FirstKind) (nodes : Nodes) → NodesFilled nodes → NamesFilled (value_plan kind nodes)
 value_filled Int nodes h = tt

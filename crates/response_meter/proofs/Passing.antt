@@ -145,18 +145,18 @@ module _ (holds : ℕ → Data → Bool) (name : ℕ → List ℕ) (alias : List
 
   null_reads : (b : Bool) (form : Form) (asked : Bool) (plan : Plan) (size : Option ℕ) (nullable : Bool) (d : Data) (later : Option Fault) (t : Tree)
       → is_null d ≡ b → may_be_null form ≡ nullable → cond b (tested nullable NullHere None) later ≡ None → (is_null d ≡ false → later ≡ None → ValueReads form asked plan size d t) → ValueReads form asked plan size d (cond b null t)
-  null_reads true form asked plan size nullable d later t e m h inner = record { read = is_json_null d e; fit = m ∙ (held nullable NullHere None h).0; kept = tt; }
+  null_reads true form asked plan size nullable d later t e m h inner = record { read = is_json_null d e; fit = m ∙ (held nullable NullHere None h).0; kept = tt }
   null_reads false form asked plan size nullable d later t e m h inner = inner e h
 
   items_read : (asked : Bool) (plan : Plan) → SingleReads asked plan → (nullable : Bool) (n : ℕ) (ds : Items) → items_fault (λ v. value_fault holds name alias asked plan v) nullable n ds ≡ None
       → ItemsRead nullable asked plan ds (items_tree (λ v. value_tree name alias asked plan v) ds)
-  items_read asked plan single_reads nullable n no_items h = record { read = tt; fit = tt; kept = tt; }
+  items_read asked plan single_reads nullable n no_items h = record { read = tt; fit = tt; kept = tt }
   items_read asked plan single_reads nullable n (item d ds) h =
       let both = both_none (at_step (item_step n) (null_fault nullable (value_fault holds name alias asked plan d) d)) (items_fault (λ v. value_fault holds name alias asked plan v) nullable (suc n) ds) h in
       let first = null_reads (is_null d) (single nullable) asked plan None nullable d (value_fault holds name alias asked plan d) (value_tree name alias asked plan d) refl refl
-            (step_none (item_step n) (null_fault nullable (value_fault holds name alias asked plan d) d) both.0) (single_reads nullable None d) in
+      (step_none (item_step n) (null_fault nullable (value_fault holds name alias asked plan d) d) both.0) (single_reads nullable None d) in
       let rest = items_read asked plan single_reads nullable (suc n) ds both.1 in
-      record { read = (first.read, rest.read); fit = (first.fit, rest.fit); kept = (first.kept, rest.kept); }
+      record { read = (first.read, rest.read); fit = (first.fit, rest.fit); kept = (first.kept, rest.kept) }
 
   list_reads : (asked : Bool) (plan : Plan) → SingleReads asked plan → (nullable item_nullable : Bool) (size : Option ℕ) (d : Data) → list_fault (λ v. value_fault holds name alias asked plan v) item_nullable size d ≡ None
       → ValueReads (listed nullable item_nullable) asked plan size d (list_tree (λ v. value_tree name alias asked plan v) d)
@@ -180,7 +180,7 @@ module _ (holds : ℕ → Data → Bool) (name : ℕ → List ℕ) (alias : List
       null_reads (is_null d) (single nullable) asked plan size nullable d (value_fault holds name alias asked plan d) (value_tree name alias asked plan d) refl refl h (single_reads nullable size d)
   place_reads (listed nullable i) asked plan single_reads size d h =
       null_reads (is_null d) (listed nullable i) asked plan size nullable d (list_fault (λ v. value_fault holds name alias asked plan v) i size d) (list_tree (λ v. value_tree name alias asked plan v) d) refl refl h
-        (λ some passed. list_reads asked plan single_reads nullable i size d passed)
+      (λ some passed. list_reads asked plan single_reads nullable i size d passed)
 
   chosen : (asked : Bool) (b q : Bool) (f g : Option Fault) (ns os : Nodes) (ms : Members) (es fs : Entries) → (b || q) ≡ true → cond b f g ≡ None
       → (f ≡ None → ObjectReads asked ns ms es) → (q ≡ true → g ≡ None → ObjectReads asked os ms fs) → ObjectReads asked (cond b ns os) ms (cond b es fs)
@@ -195,7 +195,7 @@ module _ (holds : ℕ → Data → Bool) (name : ℕ → List ℕ) (alias : List
   object_reads asked possible ms (Some T) size n e h inner =
       let told = told_type name alias asked possible ms T e in
       let found = inner T told.1 h in
-      record { read = (ms, refl, told.0, found.known, found.read); fit = (told.1, found.fit); kept = found.kept; }
+      record { read = (ms, refl, told.0, found.known, found.read); fit = (told.1, found.fit); kept = found.kept }
 
   member_reads : (form : Form) (asked : Bool) (plan : Plan) (size : Option ℕ) (o : Option Data) (ms : Members) (k : List ℕ) → get_member k ms ≡ o → SingleReads asked plan
       → given o MissingKey (λ d. place_fault (λ v. value_fault holds name alias asked plan v) form size d) ≡ None
@@ -210,7 +210,7 @@ module _ (holds : ℕ → Data → Bool) (name : ℕ → List ℕ) (alias : List
 
   mutual
     pub value_reads : (asked : Bool) (plan : Plan) → SingleReads asked plan
-    value_reads asked (leaf_plan type weight fill) n size d some h = record { read = (some, refl); fit = (some, leaf_told holds type fill d (held (is_leaf holds type fill d) BadLeaf None h).0); kept = tt; }
+    value_reads asked (leaf_plan type weight fill) n size d some h = record { read = (some, refl); fit = (some, leaf_told holds type fill d (held (is_leaf holds type fill d) BadLeaf None h).0); kept = tt }
     value_reads asked (position possible) n size json_null some h = some_none h
     value_reads asked (position possible) n size (boolean b) some h = some_none h
     value_reads asked (position possible) n size (number x) some h = some_none h
@@ -224,20 +224,20 @@ module _ (holds : ℕ → Data → Bool) (name : ℕ → List ℕ) (alias : List
     types_read asked no_type T ms p h = absurd (true≢false (sym p))
     types_read asked (object_type U weight nodes others) T ms p h =
         chosen asked (eqb U T) (is_possible T others) (tested (keys_known alias asked nodes ms) ExtraKey (entries_fault holds name alias nodes ms)) (object_fault holds name alias asked T others ms)
-          nodes (nodes_of T others) ms (member_entries name alias nodes ms) (object_entries name alias T others ms) p h
-          (λ k. let both = held (keys_known alias asked nodes ms) ExtraKey (entries_fault holds name alias nodes ms) k in
-            let inner = entries_read nodes ms both.1 in
-            record { known = known_keys name alias asked nodes ms both.0; read = inner.read; fit = inner.fit; kept = inner.kept; })
-          (λ q k. types_read asked others T ms q k)
+        nodes (nodes_of T others) ms (member_entries name alias nodes ms) (object_entries name alias T others ms) p h
+        (λ k. let both = held (keys_known alias asked nodes ms) ExtraKey (entries_fault holds name alias nodes ms) k in
+        let inner = entries_read nodes ms both.1 in
+        record { known = known_keys name alias asked nodes ms both.0; read = inner.read; fit = inner.fit; kept = inner.kept })
+        (λ q k. types_read asked others T ms q k)
 
     entries_read : (nodes : Nodes) (ms : Members) → entries_fault holds name alias nodes ms ≡ None → EntriesPass nodes ms (member_entries name alias nodes ms)
-    entries_read no_node ms h = record { read = tt; fit = tt; kept = tt; }
+    entries_read no_node ms h = record { read = tt; fit = tt; kept = tt }
     entries_read (node s below others) ms h =
         let own = given (get_member s.key ms) MissingKey (λ d. place_fault (λ v. value_fault holds name alias s.asked below v) s.form s.size d) in
         let both = both_none (at_step (key_step s.key) own) (entries_fault holds name alias others ms) h in
         let first = member_reads s.form s.asked below s.size (get_member s.key ms) ms s.key refl (value_reads s.asked below) (step_none (key_step s.key) own both.0) in
         let rest = entries_read others ms both.1 in
-        record { read = (refl, (first.0, first.1, first.2.read), rest.read); fit = (refl, first.2.fit, rest.fit); kept = (first.2.kept, rest.kept); }
+        record { read = (refl, (first.0, first.1, first.2.read), rest.read); fit = (refl, first.2.fit, rest.fit); kept = (first.2.kept, rest.kept) }
 
   -- so does the data of a reply
   pub content_reads : (plan : Plan) (errors : List ReplyError) (o : Option Data) → content_fault holds name alias plan errors o ≡ None

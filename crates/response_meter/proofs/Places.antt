@@ -122,9 +122,9 @@ pub field_null : (before after : List ℕ) (r : Result Cost MeterFault) (f : Fir
 field_null before after r (first key kind own list below) nullable d n e m =
     let plan = value_plan kind (nodes_of_firsts below) in
     tree_as before after r (tested nullable NullHere None) _ plan null _
-      (ap (λ b. tested b NullHere None) (sym n) ∙ null_place (λ v. value_fault plan v) (λ v. value_tree plan v) own list d e)
-      (null_tree_place (λ v. value_fault plan v) (λ v. value_tree plan v) own list d e)
-      (measures_as before after r _ _ _ _ _ _ refl refl refl refl m)
+    (ap (λ b. tested b NullHere None) (sym n) ∙ null_place (λ v. value_fault plan v) (λ v. value_tree plan v) own list d e)
+    (null_tree_place (λ v. value_fault plan v) (λ v. value_tree plan v) own list d e)
+    (measures_as before after r _ _ _ _ _ _ refl refl refl refl m)
 
 pub field_single : (before after : List ℕ) (r : Result Cost MeterFault) (f : First) (d : Data)
     → list_in f ≡ None → is_null d ≡ false → MeasuresValue before after r (plan_in f) d → MeasuresField before after r f d
@@ -159,9 +159,9 @@ list_measured before mid after r plan nullable size d ds a e w m =
     let inner : Data → Option Fault = λ v. value_fault plan v in
     let below : Data → Tree = λ v. value_tree plan v in
     tree_as before after r (items_fault inner nullable 0 ds) _ plan (list_of (items_tree below ds)) _
-      (sym (ap (λ x. option_or x (items_fault inner nullable 0 ds)) e) ∙ ap (λ o. given o NotList (λ xs. option_or (size_fault size (items_len xs)) (items_fault inner nullable 0 xs))) a)
-      (ap (λ o. tree_of o (λ xs. list_of (items_tree below xs))) a)
-      (opened before mid after r (items_fault inner nullable 0 ds) plan (items_tree below ds) w m)
+    (sym (ap (λ x. option_or x (items_fault inner nullable 0 ds)) e) ∙ ap (λ o. given o NotList (λ xs. option_or (size_fault size (items_len xs)) (items_fault inner nullable 0 xs))) a)
+    (ap (λ o. tree_of o (λ xs. list_of (items_tree below xs))) a)
+    (opened before mid after r (items_fault inner nullable 0 ds) plan (items_tree below ds) w m)
   where
     opened : (before mid after : List ℕ) (r : Result Cost MeterFault) (f : Option Fault) (plan : Plan) (ts : Elements) → mid ≡ before ++ codes "["
         → MeasuresElements mid after r f plan ts → MeasuresTree before after r f plan (list_of ts)
@@ -193,12 +193,14 @@ pub entry_measured : (before mid after : List ℕ) (c s : Cost) (f : First) (key
 entry_measured before mid after c s f key w d ms k e write m weighs p q =
     let tree : field_tree f d ≡ entry_tree f ms = ap (λ o. tree_of o (field_tree f)) (e ∙ ap (λ x. get_member x ms) (sym k)) in
     measures_as before after (Ok s) None (entry_fault f ms)
-      (λ part. own_cost f part + cost part (plan_in f) (field_tree f d)) (λ part. own_cost f part + cost part (plan_in f) (entry_tree f ms))
-      (key_text (key_of f) ++ tree_text (field_tree f d)) _
-      (sym (ap (at_step (key_step key)) m.0) ∙ entry_found f key ms (Some d) k e)
-      (ap (λ t. own_cost f types + cost types (plan_in f) t) tree)
-      (ap (λ t. own_cost f fields + cost fields (plan_in f) t) tree)
-      (ap (λ t. key_text (key_of f) ++ tree_text t) tree)
-      (refl, sum_types (own_cost f types) c.types s.types (cost types (plan_in f) (field_tree f d)) (own_types f) m.1 p,
-        sum_fields (own_cost f fields) w c.fields s.fields (cost fields (plan_in f) (field_tree f d)) (own_fields f ∙ sym weighs) m.2 q,
-        m.3 ∙ ap (λ x. x ++ tree_text (field_tree f d)) (write ∙ ap (λ x. before ++ key_text x) (sym k)) ∙ append_assoc before (key_text (key_of f)) (tree_text (field_tree f d)))
+    (λ part. own_cost f part + cost part (plan_in f) (field_tree f d)) (λ part. own_cost f part + cost part (plan_in f) (entry_tree f ms))
+    (key_text (key_of f) ++ tree_text (field_tree f d)) _
+    (sym (ap (at_step (key_step key)) m.0) ∙ entry_found f key ms (Some d) k e)
+    (ap (λ t. own_cost f types + cost types (plan_in f) t) tree)
+    (ap (λ t. own_cost f fields + cost fields (plan_in f) t) tree)
+    (ap (λ t. key_text (key_of f) ++ tree_text t) tree) (
+      refl,
+      sum_types (own_cost f types) c.types s.types (cost types (plan_in f) (field_tree f d)) (own_types f) m.1 p,
+      sum_fields (own_cost f fields) w c.fields s.fields (cost fields (plan_in f) (field_tree f d)) (own_fields f ∙ sym weighs) m.2 q,
+      m.3 ∙ ap (λ x. x ++ tree_text (field_tree f d)) (write ∙ ap (λ x. before ++ key_text x) (sym k)) ∙ append_assoc before (key_text (key_of f)) (tree_text (field_tree f d)),
+    )

@@ -96,9 +96,10 @@ module _ (holds : ℕ → Data → Bool) (name : ℕ → List ℕ) (alias : List
   elements_pass asked plan each nullable n (item d ds) no_element r f k = absurd r
   elements_pass asked plan each nullable n (item d ds) (element t ts) r f k =
       let first = single_passes asked plan each (is_null d) nullable None d t refl r.0 f.0 k.0 in
-      let rest = elements_pass asked plan each nullable (suc n) ds ts r.1 f.1 k.1 in
-      (neither (at_step (item_step n) (null_fault nullable (value_fault holds name alias asked plan d) d)) (items_fault (λ v. value_fault holds name alias asked plan v) nullable (suc n) ds) (ap (at_step (item_step n)) first) rest.0,
-        ap suc rest.1)
+      let rest = elements_pass asked plan each nullable (suc n) ds ts r.1 f.1 k.1 in (
+        neither (at_step (item_step n) (null_fault nullable (value_fault holds name alias asked plan d) d)) (items_fault (λ v. value_fault holds name alias asked plan v) nullable (suc n) ds) (ap (at_step (item_step n)) first) rest.0,
+        ap suc rest.1,
+      )
 
   list_passes : (asked : Bool) (plan : Plan) → SinglePasses asked plan → (nullable i : Bool) (size : Option ℕ) (d : Data) (ds : Items) (ts : Elements) → d ≡ array ds → ElementsRead name alias i asked plan ds ts → ElementsFit holds i plan ts
       → IsWithin size (count ts) → ElementsKept plan ts → null_fault nullable (list_fault (λ v. value_fault holds name alias asked plan v) i size d) d ≡ None
@@ -138,14 +139,14 @@ module _ (holds : ℕ → Data → Bool) (name : ℕ → List ℕ) (alias : List
     value_passes asked (position possible) filled n size d (object T es) some r f k =
         ap (λ (x : Data). value_fault holds name alias asked (position possible) x) r.1
         ∙ ap (λ (o : Option ℕ). given o BadType (λ U. object_fault holds name alias asked U possible r.0)) (type_read name alias names_differ asked possible r.0 T r.2)
-        ∙ types_pass asked possible filled T r.0 es (record { known = r.3; read = r.4; fit = f.1; kept = k; })
+        ∙ types_pass asked possible filled T r.0 es (record { known = r.3; read = r.4; fit = f.1; kept = k })
 
     types_pass : (asked : Bool) (possible : ObjectTypes) → TypesFilled possible → (T : ℕ) (ms : Members) (es : Entries) → EntriesAre asked ms es (nodes_of T possible) → object_fault holds name alias asked T possible ms ≡ None
     types_pass asked no_type filled T ms es p = refl
     types_pass asked (object_type U weight nodes others) filled T ms es p =
         either_filled (eqb U T) (tested (keys_known alias asked nodes ms) ExtraKey (entries_fault holds name alias nodes ms)) (object_fault holds name alias asked T others ms) asked ms es nodes (nodes_of T others) p
-          (λ q. passes (keys_known alias asked nodes ms) ExtraKey (entries_fault holds name alias nodes ms) (keys_pass name alias names_differ asked nodes ms q.known) (entries_pass nodes filled.0 ms es q.read q.fit q.kept))
-          (λ q. types_pass asked others filled.1 T ms es q)
+        (λ q. passes (keys_known alias asked nodes ms) ExtraKey (entries_fault holds name alias nodes ms) (keys_pass name alias names_differ asked nodes ms q.known) (entries_pass nodes filled.0 ms es q.read q.fit q.kept))
+        (λ q. types_pass asked others filled.1 T ms es q)
 
     entries_pass : (nodes : Nodes) → NodesFilled nodes → (ms : Members) (es : Entries) → EntriesRead name alias nodes ms es → EntriesFit holds nodes es → EntriesKept nodes es → entries_fault holds name alias nodes ms ≡ None
     entries_pass no_node filled ms es r f k = refl

@@ -17,7 +17,8 @@ use Rattle.response_meter.specs.declared.metered.FirstMetered.{FirstMetered}
 use Rattle.response_meter.specs.Errors.{ReplyError, errors_of}
 use Rattle.response_meter.specs.Reply.{json_of, errors_entry, data_entry, DataReads, ReplyReads, IsResponseOrNone, reply_cost}
 use Rattle.response_meter.specs.Answer.{errors_part, data_part}
-use Rattle.response_meter.specs.Walks.{own_name, has_some, content_tree, content_fault, MeasuresContent, Found}
+use Rattle.response_meter.specs.FirstForm.{own_name}
+use Rattle.response_meter.specs.Walks.{has_some, content_tree, content_fault, MeasuresContent, Found}
 use Rattle.response_meter.specs.Metered.{IsMetered}
 use Rattle.response_meter.proofs.Passing.{content_reads}
 
@@ -76,7 +77,7 @@ found_metered plan bytes m a b f ta la tb lb =
     record {
       tree = tree;
       errors = f.errors;
-      reads = record { members = f.members; is_json = f.is_json; errors_read = f.errors_read; data_read = r.0; };
+      reads = record { members = f.members; is_json = f.is_json; errors_read = f.errors_read; data_read = r.0 };
       is_response = r.1;
       types_cost = exact m.cost.types (reply_cost types plan tree) a f.types_cost (bounded types plan tree a ta r.1) la;
       fields_cost = exact m.cost.fields (reply_cost fields plan tree) b f.fields_cost (bounded fields plan tree b tb r.1) lb;
@@ -86,6 +87,7 @@ found_metered plan bytes m a b f ta la tb lb =
 pub found_within : (plan : Plan) (bytes : List ℕ) (m : FirstMetered) (a b : ℕ) → Found plan bytes m → IsBound holds types plan a → IsBound holds fields plan b → (m.cost.types ≤ a) × (m.cost.fields ≤ b)
 found_within plan bytes m a b f ta tb =
     let tree = content_tree plan (data_entry f.members) in
-    let r = content_reads holds own_name [] plan f.errors (data_entry f.members) f.no_fault in
-    (capped_within m.cost.types (reply_cost types plan tree) a f.types_cost (bounded types plan tree a ta r.1),
-      capped_within m.cost.fields (reply_cost fields plan tree) b f.fields_cost (bounded fields plan tree b tb r.1))
+    let r = content_reads holds own_name [] plan f.errors (data_entry f.members) f.no_fault in (
+      capped_within m.cost.types (reply_cost types plan tree) a f.types_cost (bounded types plan tree a ta r.1),
+      capped_within m.cost.fields (reply_cost fields plan tree) b f.fields_cost (bounded fields plan tree b tb r.1),
+    )

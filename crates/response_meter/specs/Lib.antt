@@ -4,5 +4,6 @@ pub mod Errors
 pub mod Reply
 pub mod Answer
 pub mod Trees
+pub mod FirstForm
 pub mod Walks
 pub mod Metered

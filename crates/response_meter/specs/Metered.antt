@@ -5,7 +5,7 @@ use Rattle.response_model.specs.Response.{Tree}
 use Rattle.response_model.specs.Cost.{Part, types, fields}
 use Rattle.response_model.specs.Plan.{Plan}
 use Rattle.static_cost.specs.Leaves.{holds}
-use Rattle.response_meter.specs.Walks.{own_name}
+use Rattle.response_meter.specs.FirstForm.{own_name}
 use Rattle.response_meter.specs.Faults.{Fault}
 use Rattle.response_meter.specs.Errors.{ReplyError}
 use Rattle.response_meter.specs.Reply as reply

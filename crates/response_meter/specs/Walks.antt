@@ -14,6 +14,7 @@ use Rattle.static_cost.specs.Leaves.{holds}
 use Rattle.response_meter.specs.declared.fault.MeterFault.{MeterFault}
 use Rattle.response_meter.specs.declared.fault.Why.TheVariants.{BadErrors, MissingKey}
 use Rattle.response_meter.specs.Faults.{Fault, Tells, given, at_step, key_step}
+use Rattle.response_meter.specs.FirstForm.{own_name}
 use Rattle.response_meter.specs.FirstFault as tests
 use Rattle.response_meter.specs.Trees as trees
 use Rattle.response_meter.specs.Errors.{ReplyError, errors_of}
@@ -21,10 +22,6 @@ use Rattle.response_meter.specs.Reply as reply
 use Rattle.response_meter.specs.Reply.{json_of, errors_entry, data_entry, reply_cost}
 use Rattle.response_meter.specs.declared.metered.FirstMetered.{FirstMetered}
 use Rattle.response_meter.specs.Answer.{key_text, tree_text, elements_text, entries_text, errors_part, data_part, answer_text}
-
--- No type name is asked in an operation of the first form, so names and alias are free: each object type has a name of its own, and the alias is empty.
-abbrev pub own_name : ℕ → List ℕ
-own_name T = T ∷ []
 
 -- The tests and the trees of the first form.
 abbrev pub value_fault : Plan → Data → Option Fault

@@ -14,7 +14,11 @@ use std::alloc::Global;
 
 /// Tests the errors of a reply, given by its entry `errors`, and appends their part of the answer. The
 /// result says whether there are any.
-pub(crate) fn write_errors(alloc: Global, errors: Option<&Value>, into: &mut String) -> Result<bool, MeterFault>
+pub(crate) fn write_errors(
+    alloc: Global,
+    errors: Option<&Value>,
+    into: &mut String,
+) -> Result<bool, MeterFault>
     ensures { WritesErrors (string_bytes into.old) (string_bytes into.new) result (errors_of (option_map (λ v. view v.now) errors.entry)) }
 {
     let Some(errors) = errors else {

@@ -15,7 +15,8 @@ ghost use Rattle.response_meter.specs.Trees.{data_tree};
 ghost use Rattle.response_meter.specs.Errors.{ReplyError};
 ghost use Rattle.response_meter.specs.Reply.{json_of};
 ghost use Rattle.response_meter.specs.Metered.{first_fault, IsMetered};
-ghost use Rattle.response_meter.specs.Walks.{own_name, has_some, MeasuresTree, MeasuresContent, MeasuresReply};
+ghost use Rattle.response_meter.specs.FirstForm.{own_name};
+ghost use Rattle.response_meter.specs.Walks.{has_some, MeasuresTree, MeasuresContent, MeasuresReply};
 ghost use Rattle.static_cost.specs.Leaves.{holds};
 
 use crate::errors::write_errors;
@@ -40,7 +41,11 @@ use std::alloc::Global;
 /// The first test that the reply does not pass, in reading order, with the path of the value it stood at:
 /// `NotResponse`, or `SizeBroken` where a list is longer than its declared size. `Memory` for want of
 /// memory alone.
-pub fn first_meter(alloc: Global, nodes: &[FirstNode], body: &[u8]) -> Result<FirstMetered, MeterFault>
+pub fn first_meter(
+    alloc: Global,
+    nodes: &[FirstNode],
+    body: &[u8],
+) -> Result<FirstMetered, MeterFault>
     requires sized { AllSized nodes.now }
     requires bounded { (bound : CostType) × IsBoundOf nodes.now bound × IsWithinCap bound }
     ensures metered { IfOk result (IsMetered (plan_of nodes.now) body.now) }
@@ -90,26 +95,44 @@ fn read_json(alloc: Global, bytes: &[u8]) -> Result<Value, MeterFault>
 }
 
 /// The data of a reply, where it has any, after its errors.
-fn meter_content(alloc: Global, nodes: &[FirstNode], some_error: bool, content: Option<&Value>, into: &mut String) -> Result<Cost, MeterFault>
+fn meter_content(
+    alloc: Global,
+    nodes: &[FirstNode],
+    some_error: bool,
+    content: Option<&Value>,
+    into: &mut String,
+) -> Result<Cost, MeterFault>
     ensures { (errors : List ReplyError) → some_error ≡ has_some errors → MeasuresContent (string_bytes into.old) (string_bytes into.new) result (plan_of nodes.now) errors (option_map (λ v. view v.now) content.entry) }
 {
     match content {
         None => {
             if some_error {
-                Ok(Cost { types: 0, fields: 0 })
+                Ok(Cost {
+                    types: 0,
+                    fields: 0,
+                })
             } else {
                 Err(not_response(alloc, Why::NoData))
             }
         }
         Some(value) => {
-            into.push_str(if some_error { ",\"data\":" } else { "\"data\":" })?;
+            into.push_str(if some_error {
+                ",\"data\":"
+            } else {
+                "\"data\":"
+            })?;
             meter_data(alloc, nodes, value, into)
         }
     }
 }
 
 /// The data of a reply: null, or an object.
-fn meter_data(alloc: Global, nodes: &[FirstNode], value: &Value, into: &mut String) -> Result<Cost, MeterFault>
+fn meter_data(
+    alloc: Global,
+    nodes: &[FirstNode],
+    value: &Value,
+    into: &mut String,
+) -> Result<Cost, MeterFault>
     ensures { MeasuresTree (string_bytes into.old) (string_bytes into.new) result (data_fault holds own_name [] (plan_of nodes.now) (view value.now)) (plan_of nodes.now) (data_tree own_name [] (plan_of nodes.now) (view value.now)) }
 {
     if value.is_null() {

@@ -17,7 +17,12 @@ fn leaf(alloc: Global, key: &str, kind: FirstKind) -> Result<FirstNode, AllocErr
 }
 
 /// A field of an object type that may be null, with one field below it.
-fn parent(alloc: Global, key: &str, list: Option<FirstList>, child: FirstNode) -> Result<FirstNode, AllocError> {
+fn parent(
+    alloc: Global,
+    key: &str,
+    list: Option<FirstList>,
+    child: FirstNode,
+) -> Result<FirstNode, AllocError> {
     let mut below = Vec::new(alloc);
     below.push(child)?;
     Ok(FirstNode {
@@ -35,7 +40,12 @@ fn friends(alloc: Global) -> Result<Vec<FirstNode>, AllocError> {
         size: Some(3),
         nullable: false,
     };
-    let ids = parent(alloc, "friends", Some(list), leaf(alloc, "id", FirstKind::Id)?)?;
+    let ids = parent(
+        alloc,
+        "friends",
+        Some(list),
+        leaf(alloc, "id", FirstKind::Id)?,
+    )?;
     let mut nodes = Vec::new(alloc);
     nodes.push(parent(alloc, "user", None, ids)?)?;
     Ok(nodes)
@@ -80,7 +90,11 @@ fn name_of(why: Why) -> &'static str {
 fn line_of(alloc: Global, found: &Result<FirstMetered, MeterFault>) -> Result<String, AllocError> {
     match found {
         Ok(metered) => {
-            let (types, fields, text) = (metered.cost.types, metered.cost.fields, metered.text.as_str());
+            let (types, fields, text) = (
+                metered.cost.types,
+                metered.cost.fields,
+                metered.text.as_str(),
+            );
             format!(in alloc; "{types} {fields} {text}")
         }
         Err(MeterFault::NotResponse { path, why }) => {
@@ -108,8 +122,14 @@ fn replies_to_friends(rt: HostRuntime) -> Result<(), Fail> {
             r#"{"data":{"user":{"friends":[{"id":"1"},{"id":"1"},{"id":"1"},{"id":"1"}]}}}"#,
             "data.user.friends 3 4",
         ),
-        (r#"{"data":{"user":null}}"#, r#"1000 1000 {"data":{"user":null}}"#),
-        (r#"{"data":{"user":{"friends":[null]}}}"#, "data.user.friends.0 NullHere"),
+        (
+            r#"{"data":{"user":null}}"#,
+            r#"1000 1000 {"data":{"user":null}}"#,
+        ),
+        (
+            r#"{"data":{"user":{"friends":[null]}}}"#,
+            "data.user.friends.0 NullHere",
+        ),
         (
             r#"{"errors":[{"message":"x","code":1}]}"#,
             r#"0 0 {"errors":[{"message":"x"}]}"#,
@@ -120,13 +140,31 @@ fn replies_to_friends(rt: HostRuntime) -> Result<(), Fail> {
             r#"{ "errors" : [ {"path":["user","friends",2,"id"],"message":"a","locations":[]}, {"message":"b","path":null} ], "data" : null }"#,
             r#"0 0 {"errors":[{"message":"a","path":["user","friends",2,"id"]},{"message":"b"}],"data":null}"#,
         ),
-        (r#"{"errors":[{"message":"x","path":[]}]}"#, r#"0 0 {"errors":[{"message":"x","path":[]}]}"#),
-        (r#"{"errors":{"message":"x"},"data":null}"#, "data BadErrors"),
+        (
+            r#"{"errors":[{"message":"x","path":[]}]}"#,
+            r#"0 0 {"errors":[{"message":"x","path":[]}]}"#,
+        ),
+        (
+            r#"{"errors":{"message":"x"},"data":null}"#,
+            "data BadErrors",
+        ),
         (r#"{"errors":["x"],"data":null}"#, "data BadErrors"),
-        (r#"{"errors":[{"message":1}],"data":null}"#, "data BadErrors"),
-        (r#"{"errors":[{"message":"x","path":"user"}]}"#, "data BadErrors"),
-        (r#"{"errors":[{"message":"x","path":["user",-1]}]}"#, "data BadErrors"),
-        (r#"{"errors":[{"message":"x","path":[1.0]}]}"#, "data BadErrors"),
+        (
+            r#"{"errors":[{"message":1}],"data":null}"#,
+            "data BadErrors",
+        ),
+        (
+            r#"{"errors":[{"message":"x","path":"user"}]}"#,
+            "data BadErrors",
+        ),
+        (
+            r#"{"errors":[{"message":"x","path":["user",-1]}]}"#,
+            "data BadErrors",
+        ),
+        (
+            r#"{"errors":[{"message":"x","path":[1.0]}]}"#,
+            "data BadErrors",
+        ),
         // no errors
         (r#"{"errors":null,"data":null}"#, r#"0 0 {"data":null}"#),
         (r#"{"errors":[],"data":null}"#, r#"0 0 {"data":null}"#),
@@ -141,13 +179,28 @@ fn replies_to_friends(rt: HostRuntime) -> Result<(), Fail> {
         // keys, lists and objects
         (r#"{"data":{}}"#, "data.user MissingKey"),
         (r#"{"data":{"user":null,"more":1}}"#, "data ExtraKey"),
-        (r#"{"data":{"user":{"friends":null,"name":"x"}}}"#, "data.user ExtraKey"),
-        (r#"{"data":{"user":{"friends":null}}}"#, r#"2000 2000 {"data":{"user":{"friends":null}}}"#),
-        (r#"{"data":{"user":{"friends":[]}}}"#, r#"2000 2000 {"data":{"user":{"friends":[]}}}"#),
-        (r#"{"data":{"user":{"friends":{}}}}"#, "data.user.friends NotList"),
+        (
+            r#"{"data":{"user":{"friends":null,"name":"x"}}}"#,
+            "data.user ExtraKey",
+        ),
+        (
+            r#"{"data":{"user":{"friends":null}}}"#,
+            r#"2000 2000 {"data":{"user":{"friends":null}}}"#,
+        ),
+        (
+            r#"{"data":{"user":{"friends":[]}}}"#,
+            r#"2000 2000 {"data":{"user":{"friends":[]}}}"#,
+        ),
+        (
+            r#"{"data":{"user":{"friends":{}}}}"#,
+            "data.user.friends NotList",
+        ),
         (r#"{"data":{"user":[]}}"#, "data.user BadObject"),
         (r#"{"data":"x"}"#, "data BadObject"),
-        (r#"{"data":{"user":{"friends":[{"id":1},{}]}}}"#, "data.user.friends.1.id MissingKey"),
+        (
+            r#"{"data":{"user":{"friends":[{"id":1},{}]}}}"#,
+            "data.user.friends.1.id MissingKey",
+        ),
         // no JSON
         ("", "data NotJson"),
         (r#"{"data":null} x"#, "data NotJson"),
@@ -182,19 +235,58 @@ fn replies_of_scalars(rt: HostRuntime) -> Result<(), Fail> {
             "1000 1000 {\"data\":{\"n\":0,\"s\":\"\\\"\\\\/\\b\\f\\n\\r\\t\\u0001é😀\",\"b\":false,\"i\":\"\",\"l\":[],\"o\":null}}",
         ),
         // a wrong leaf of each kind, and numbers that are not whole
-        (r#"{"n":2147483648,"s":"","b":true,"i":"","l":[],"o":null}"#, "data.n BadLeaf"),
-        (r#"{"n":-2147483649,"s":"","b":true,"i":"","l":[],"o":null}"#, "data.n BadLeaf"),
-        (r#"{"n":1.0,"s":"","b":true,"i":"","l":[],"o":null}"#, "data.n BadLeaf"),
-        (r#"{"n":-0,"s":"","b":true,"i":"","l":[],"o":null}"#, "data.n BadLeaf"),
-        (r#"{"n":"1","s":"","b":true,"i":"","l":[],"o":null}"#, "data.n BadLeaf"),
-        (r#"{"n":1,"s":1,"b":true,"i":"","l":[],"o":null}"#, "data.s BadLeaf"),
-        (r#"{"n":1,"s":[],"b":true,"i":"","l":[],"o":null}"#, "data.s BadLeaf"),
-        (r#"{"n":1,"s":"","b":"true","i":"","l":[],"o":null}"#, "data.b BadLeaf"),
-        (r#"{"n":1,"s":"","b":true,"i":true,"l":[],"o":null}"#, "data.i BadLeaf"),
-        (r#"{"n":1,"s":"","b":true,"i":18446744073709551616,"l":[],"o":null}"#, "data.i BadLeaf"),
-        (r#"{"n":1,"s":"","b":true,"i":"","l":[0,{}],"o":null}"#, "data.l.1 BadLeaf"),
-        (r#"{"n":null,"s":"","b":true,"i":"","l":[],"o":null}"#, "data.n NullHere"),
-        (r#"{"n":1,"s":"","b":true,"i":"","l":[],"o":[{"s":""}]}"#, "data.o BadObject"),
+        (
+            r#"{"n":2147483648,"s":"","b":true,"i":"","l":[],"o":null}"#,
+            "data.n BadLeaf",
+        ),
+        (
+            r#"{"n":-2147483649,"s":"","b":true,"i":"","l":[],"o":null}"#,
+            "data.n BadLeaf",
+        ),
+        (
+            r#"{"n":1.0,"s":"","b":true,"i":"","l":[],"o":null}"#,
+            "data.n BadLeaf",
+        ),
+        (
+            r#"{"n":-0,"s":"","b":true,"i":"","l":[],"o":null}"#,
+            "data.n BadLeaf",
+        ),
+        (
+            r#"{"n":"1","s":"","b":true,"i":"","l":[],"o":null}"#,
+            "data.n BadLeaf",
+        ),
+        (
+            r#"{"n":1,"s":1,"b":true,"i":"","l":[],"o":null}"#,
+            "data.s BadLeaf",
+        ),
+        (
+            r#"{"n":1,"s":[],"b":true,"i":"","l":[],"o":null}"#,
+            "data.s BadLeaf",
+        ),
+        (
+            r#"{"n":1,"s":"","b":"true","i":"","l":[],"o":null}"#,
+            "data.b BadLeaf",
+        ),
+        (
+            r#"{"n":1,"s":"","b":true,"i":true,"l":[],"o":null}"#,
+            "data.i BadLeaf",
+        ),
+        (
+            r#"{"n":1,"s":"","b":true,"i":18446744073709551616,"l":[],"o":null}"#,
+            "data.i BadLeaf",
+        ),
+        (
+            r#"{"n":1,"s":"","b":true,"i":"","l":[0,{}],"o":null}"#,
+            "data.l.1 BadLeaf",
+        ),
+        (
+            r#"{"n":null,"s":"","b":true,"i":"","l":[],"o":null}"#,
+            "data.n NullHere",
+        ),
+        (
+            r#"{"n":1,"s":"","b":true,"i":"","l":[],"o":[{"s":""}]}"#,
+            "data.o BadObject",
+        ),
     ] {
         let body = format!(in alloc; "{{\"data\":{reply}}}")?;
         let found = first_meter(alloc, &nodes, body.as_bytes());

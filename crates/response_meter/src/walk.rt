@@ -25,7 +25,10 @@ use static_cost::{FirstKind, FirstList, FirstNode};
 use std::alloc::Global;
 
 /// Nothing.
-const NOTHING: Cost = Cost { types: 0, fields: 0 };
+const NOTHING: Cost = Cost {
+    types: 0,
+    fields: 0,
+};
 
 /// The sum of two costs, each component capped.
 fn sum(a: Cost, b: Cost) -> Cost
@@ -56,7 +59,7 @@ fn kind_holds(kind: FirstKind, value: &Value) -> bool
 {
     match (kind, value) {
         (FirstKind::Int, Value::Number(number)) => {
-            number.as_i128().is_some_and(|n| (-(1 << 31)..1 << 31).contains(&n))
+            number.as_i128().is_some_and(|n| i32::try_from(n).is_ok())
         }
         (FirstKind::Str | FirstKind::Id, Value::String(_)) => true,
         (FirstKind::Bool, Value::Bool(_)) => true,
@@ -66,7 +69,12 @@ fn kind_holds(kind: FirstKind, value: &Value) -> bool
 }
 
 /// A leaf of this kind.
-fn meter_leaf(alloc: Global, kind: FirstKind, value: &Value, into: &mut String) -> Result<Cost, MeterFault>
+fn meter_leaf(
+    alloc: Global,
+    kind: FirstKind,
+    value: &Value,
+    into: &mut String,
+) -> Result<Cost, MeterFault>
     ensures { Measures (string_bytes into.old) (string_bytes into.new) result (tested (kind_holds kind (view value.now)) BadLeaf None) (λ part. 0) (compact_text (view value.now)) }
 {
     if !kind_holds(kind, value) {
@@ -77,7 +85,11 @@ fn meter_leaf(alloc: Global, kind: FirstKind, value: &Value, into: &mut String) 
 }
 
 /// A null, where it may stand.
-pub(crate) fn meter_null(alloc: Global, nullable: bool, into: &mut String) -> Result<Cost, MeterFault>
+pub(crate) fn meter_null(
+    alloc: Global,
+    nullable: bool,
+    into: &mut String,
+) -> Result<Cost, MeterFault>
     ensures { Measures (string_bytes into.old) (string_bytes into.new) result (tested nullable NullHere None) (λ part. 0) (compact_text null) }
 {
     if !nullable {
@@ -89,7 +101,12 @@ pub(crate) fn meter_null(alloc: Global, nullable: bool, into: &mut String) -> Re
 
 /// A value of a field, or an item of its list, that is not null.
 #[cycle(walk)]
-fn meter_value(alloc: Global, node: &FirstNode, value: &Value, into: &mut String) -> Result<Cost, MeterFault>
+fn meter_value(
+    alloc: Global,
+    node: &FirstNode,
+    value: &Value,
+    into: &mut String,
+) -> Result<Cost, MeterFault>
     ensures { MeasuresTree (string_bytes into.old) (string_bytes into.new) result (value_fault (plan_in (first_of node.now)) (view value.now)) (plan_in (first_of node.now)) (value_tree (plan_in (first_of node.now)) (view value.now)) }
 {
     match node.kind {
@@ -100,7 +117,12 @@ fn meter_value(alloc: Global, node: &FirstNode, value: &Value, into: &mut String
 
 /// An object with an entry for each of these fields, and no other.
 #[cycle(walk)]
-pub(crate) fn meter_object(alloc: Global, nodes: &[FirstNode], value: &Value, into: &mut String) -> Result<Cost, MeterFault>
+pub(crate) fn meter_object(
+    alloc: Global,
+    nodes: &[FirstNode],
+    value: &Value,
+    into: &mut String,
+) -> Result<Cost, MeterFault>
     ensures { MeasuresTree (string_bytes into.old) (string_bytes into.new) result (value_fault (value_plan Object (nodes_of nodes.now)) (view value.now)) (value_plan Object (nodes_of nodes.now)) (value_tree (value_plan Object (nodes_of nodes.now)) (view value.now)) }
 {
     let Some(members) = value.as_object() else {
@@ -111,12 +133,23 @@ pub(crate) fn meter_object(alloc: Global, nodes: &[FirstNode], value: &Value, in
     }
     into.push_str("{")?;
     let entries = meter_entries(alloc, nodes, members, into)?;
-    Ok(sum(Cost { types: UNIT, fields: 0 }, entries))
+    Ok(sum(
+        Cost {
+            types: UNIT,
+            fields: 0,
+        },
+        entries,
+    ))
 }
 
 /// The entries of these fields, in their order, and a closing brace.
 #[cycle(walk)]
-fn meter_entries(alloc: Global, nodes: &[FirstNode], members: &Map<String, Value>, into: &mut String) -> Result<Cost, MeterFault>
+fn meter_entries(
+    alloc: Global,
+    nodes: &[FirstNode],
+    members: &Map<String, Value>,
+    into: &mut String,
+) -> Result<Cost, MeterFault>
     ensures { MeasuresEntries (string_bytes into.old) (string_bytes into.new) result (entries_fault (nodes_of nodes.now) (members_view members.now.entries)) (nodes_of nodes.now) (member_entries (nodes_of nodes.now) (members_view members.now.entries)) }
 {
     let mut cost = NOTHING;
@@ -132,7 +165,12 @@ fn meter_entries(alloc: Global, nodes: &[FirstNode], members: &Map<String, Value
 
 /// The entry of a field: its key and its value.
 #[cycle(walk)]
-fn meter_entry(alloc: Global, node: &FirstNode, members: &Map<String, Value>, into: &mut String) -> Result<Cost, MeterFault>
+fn meter_entry(
+    alloc: Global,
+    node: &FirstNode,
+    members: &Map<String, Value>,
+    into: &mut String,
+) -> Result<Cost, MeterFault>
     ensures { MeasuresEntry (string_bytes into.old) (string_bytes into.new) result (entry_fault (first_of node.now) (members_view members.now.entries)) (first_of node.now) (entry_tree (first_of node.now) (members_view members.now.entries)) }
 {
     let key = node.key.as_str();
@@ -141,14 +179,25 @@ fn meter_entry(alloc: Global, node: &FirstNode, members: &Map<String, Value>, in
     };
     write_key(alloc, key, into)?;
     match meter_place(alloc, node, value, into) {
-        Ok(cost) => Ok(sum(Cost { types: 0, fields: weight(node.kind) }, cost)),
+        Ok(cost) => Ok(sum(
+            Cost {
+                types: 0,
+                fields: weight(node.kind),
+            },
+            cost,
+        )),
         Err(fault) => Err(fault.at_key(alloc, key)),
     }
 }
 
 /// The value of a field: null, a list, or one value.
 #[cycle(walk)]
-fn meter_place(alloc: Global, node: &FirstNode, value: &Value, into: &mut String) -> Result<Cost, MeterFault>
+fn meter_place(
+    alloc: Global,
+    node: &FirstNode,
+    value: &Value,
+    into: &mut String,
+) -> Result<Cost, MeterFault>
     ensures { MeasuresTree (string_bytes into.old) (string_bytes into.new) result (field_fault (first_of node.now) (view value.now)) (plan_in (first_of node.now)) (field_tree (first_of node.now) (view value.now)) }
 {
     if value.is_null() {
@@ -162,7 +211,13 @@ fn meter_place(alloc: Global, node: &FirstNode, value: &Value, into: &mut String
 
 /// A list of at most its declared size.
 #[cycle(walk)]
-fn meter_list(alloc: Global, node: &FirstNode, list: FirstList, value: &Value, into: &mut String) -> Result<Cost, MeterFault>
+fn meter_list(
+    alloc: Global,
+    node: &FirstNode,
+    list: FirstList,
+    value: &Value,
+    into: &mut String,
+) -> Result<Cost, MeterFault>
     ensures { MeasuresTree (string_bytes into.old) (string_bytes into.new) result (list_fault (λ v. value_fault (plan_in (first_of node.now)) v) list.nullable list.size (view value.now)) (plan_in (first_of node.now)) (list_tree (λ v. value_tree (plan_in (first_of node.now)) v) (view value.now)) }
 {
     let Some(items) = value.as_array() else {
@@ -184,20 +239,20 @@ fn exceeded(size: Option<u64>, length: u64) -> Option<u64>
     ensures { size_fault size length ≡ option_map (λ declared. broken [] declared length) result }
 {
     match size {
-        Some(size) => {
-            if size < length {
-                Some(size)
-            } else {
-                None
-            }
-        }
+        Some(size) => { if size < length { Some(size) } else { None } }
         None => None,
     }
 }
 
 /// The items of a list, in their order, and a closing bracket.
 #[cycle(walk)]
-fn meter_items(alloc: Global, node: &FirstNode, nullable: bool, items: &[Value], into: &mut String) -> Result<Cost, MeterFault>
+fn meter_items(
+    alloc: Global,
+    node: &FirstNode,
+    nullable: bool,
+    items: &[Value],
+    into: &mut String,
+) -> Result<Cost, MeterFault>
     ensures { MeasuresElements (string_bytes into.old) (string_bytes into.new) result (items_fault (λ v. value_fault (plan_in (first_of node.now)) v) nullable 0 (items_view items.now)) (plan_in (first_of node.now)) (items_tree (λ v. value_tree (plan_in (first_of node.now)) v) (items_view items.now)) }
 {
     let mut cost = NOTHING;
@@ -218,7 +273,13 @@ fn meter_items(alloc: Global, node: &FirstNode, nullable: bool, items: &[Value],
 
 /// An item of a list: null, or one value.
 #[cycle(walk)]
-fn meter_item(alloc: Global, node: &FirstNode, nullable: bool, item: &Value, into: &mut String) -> Result<Cost, MeterFault>
+fn meter_item(
+    alloc: Global,
+    node: &FirstNode,
+    nullable: bool,
+    item: &Value,
+    into: &mut String,
+) -> Result<Cost, MeterFault>
     ensures { MeasuresTree (string_bytes into.old) (string_bytes into.new) result (null_fault nullable (value_fault (plan_in (first_of node.now)) (view item.now)) (view item.now)) (plan_in (first_of node.now)) (null_tree (value_tree (plan_in (first_of node.now)) (view item.now)) (view item.now)) }
 {
     if item.is_null() {
