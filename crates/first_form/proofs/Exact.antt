@@ -1,15 +1,13 @@
 -- What each way to read reads exactly.
-use Rattle.std.proofs.Common.{ℕ, zero, suc, ◌≡◌, ◌≤◌, ◌<◌, ◌⊎◌, inl, inr, Bool, true, false, List, [], ◌∷◌, ◌++◌, length, Option, None, Some, refl, sym, ap, ◌∙◌, subst, arith, append_assoc, append-nil, length-append}
-use Rattle.std.specs.Prelude.{if◌then◌else◌}
-use Rattle.std.specs.List.{flat_map}
+use Rattle.std.proofs.Common.{◌≡◌, ◌⊎◌, inl, inr, Bool, true, false, [], ◌∷◌, ◌++◌, Option, None, Some, refl, sym, ap, ◌∙◌, subst, append_assoc}
 use Rattle.std.proofs.lemmas.Bool.{cases_Bool}
 use Rattle.gql_base.specs.Pieces.{Lexeme}
-use Rattle.first_form.specs.Reading.{Words, Read, next, bind, taken, one, both, mapped, either, passed, checked, absent}
+use Rattle.first_form.specs.Reading.{Lexemes, Parsed, peek, chain, consumed, satisfy, sequence, converted, choice, verified, verify, success}
 
 -- A tree is read just where the tokens begin with its spelling, as long as none follows that could go on with it.
-pub record Exact {A : Type 0} (spell : A → Words) (good : A → Type 0) (goes : Option Lexeme → Bool) (r : Words → Read A) : Type 0 where
-  pub found : (ws : Words) (x : A × Words) → r ws ≡ Some x → (ws ≡ spell x.0 ++ x.1) × good x.0
-  pub only : (a : A) (rest : Words) → good a → goes (next rest) ≡ false → r (spell a ++ rest) ≡ Some (a, rest)
+pub record Exact {A : Type 0} (spell : A → Lexemes) (good : A → Type 0) (goes : Option Lexeme → Bool) (r : Lexemes → Parsed A) : Type 0 where
+  pub found : (ws : Lexemes) (x : A × Lexemes) → r ws ≡ Some x → (ws ≡ spell x.0 ++ x.1) × good x.0
+  pub only : (a : A) (rest : Lexemes) → good a → goes (peek rest) ≡ false → r (spell a ++ rest) ≡ Some (a, rest)
 
 abbrev pub never : Option Lexeme → Bool
 never w = false
@@ -20,121 +18,121 @@ some_same x y e = cc
 pub none_some : {A P : Type 0} (x : A) → None ≡ Some x → P
 none_some x e = cc
 
-pub bind_some : {A B : Type 0} (o : Option A) (f : A → Option B) (y : B) → bind o f ≡ Some y → (x : A) × (o ≡ Some x) × (f x ≡ Some y)
-bind_some None f y e = cc
-bind_some (Some x) f y e = (x, refl, e)
+pub chain_some : {A B : Type 0} (o : Option A) (f : A → Option B) (y : B) → chain o f ≡ Some y → (x : A) × (o ≡ Some x) × (f x ≡ Some y)
+chain_some None f y e = cc
+chain_some (Some x) f y e = (x, refl, e)
 
 -- ---- one token
 
-taken_some : {A : Type 0} (o : Option A) (ws : Words) (x : A × Words) → taken o ws ≡ Some x → (o ≡ Some x.0) × (ws ≡ x.1)
-taken_some None ws x e = cc
-taken_some (Some a) ws x e = let h : (a, ws) ≡ x = some_same (a, ws) x e in (ap (λ p. Some p.0) h, ap (λ p. p.1) h)
+consumed_some : {A : Type 0} (o : Option A) (ws : Lexemes) (x : A × Lexemes) → consumed o ws ≡ Some x → (o ≡ Some x.0) × (ws ≡ x.1)
+consumed_some None ws x e = cc
+consumed_some (Some a) ws x e = let h : (a, ws) ≡ x = some_same (a, ws) x e in (ap (λ p. Some p.0) h, ap (λ p. p.1) h)
 
-pub one_exact : {A : Type 0} (accept : Lexeme → Option A) (shown : A → Lexeme) (good : A → Type 0)
+pub satisfy_exact : {A : Type 0} (accept : Lexeme → Option A) (shown : A → Lexeme) (good : A → Type 0)
     → ((w : Lexeme) (a : A) → accept w ≡ Some a → (w ≡ shown a) × good a) → ((a : A) → good a → accept (shown a) ≡ Some a)
-    → Exact (λ a. shown a ∷ []) good never (one accept)
-one_exact {A = A} accept shown good to from = record { found = found; only = λ a rest is end. ap (λ o. taken o rest) (from a is) }
+    → Exact (λ a. shown a ∷ []) good never (satisfy accept)
+satisfy_exact {A = A} accept shown good to from = record { found = found; only = λ a rest is end. ap (λ o. consumed o rest) (from a is) }
   where
-    found : (ws : Words) (x : A × Words) → one accept ws ≡ Some x → (ws ≡ (shown x.0 ∷ []) ++ x.1) × good x.0
+    found : (ws : Lexemes) (x : A × Lexemes) → satisfy accept ws ≡ Some x → (ws ≡ (shown x.0 ∷ []) ++ x.1) × good x.0
     found [] x e = none_some x e
     found (w ∷ ws) x e =
-        let t = taken_some (accept w) ws x e in
+        let t = consumed_some (accept w) ws x e in
         let k = to w x.0 t.0 in
-        (ap (λ v. v ∷ ws) k.0 ∙ ap (λ (l : Words). shown x.0 ∷ l) t.1, k.1)
+        (ap (λ v. v ∷ ws) k.0 ∙ ap (λ (l : Lexemes). shown x.0 ∷ l) t.1, k.1)
 
 -- ---- one after the other
 
-pub both_ok : {A B : Type 0} (r : Words → Read A) (s : Words → Read B) (ws mid rest : Words) (a : A) (b : B) → r ws ≡ Some (a, mid) → s mid ≡ Some (b, rest) → both r s ws ≡ Some ((a, b), rest)
-both_ok r s ws mid rest a b e f = simp (e, f)
+pub sequence_some : {A B : Type 0} (r : Lexemes → Parsed A) (s : Lexemes → Parsed B) (ws mid rest : Lexemes) (a : A) (b : B) → r ws ≡ Some (a, mid) → s mid ≡ Some (b, rest) → sequence r s ws ≡ Some ((a, b), rest)
+sequence_some r s ws mid rest a b e f = simp (e, f)
 
-pub both_exact : {A B : Type 0} {spell : A → Words} {show : B → Words} {good : A → Type 0} {also : B → Type 0} {first goes : Option Lexeme → Bool} {r : Words → Read A} {s : Words → Read B}
-    → Exact spell good first r → Exact show also goes s → ((b : B) (rest : Words) → also b → goes (next rest) ≡ false → first (next (show b ++ rest)) ≡ false)
-    → Exact (λ p. spell p.0 ++ show p.1) (λ p. good p.0 × also p.1) goes (both r s)
-both_exact {A = A} {B = B} {spell = spell} {show = show} {good = good} {also = also} {r = r} {s = s} l m follows = record {
+pub sequence_exact : {A B : Type 0} {spell : A → Lexemes} {show : B → Lexemes} {good : A → Type 0} {also : B → Type 0} {first goes : Option Lexeme → Bool} {r : Lexemes → Parsed A} {s : Lexemes → Parsed B}
+    → Exact spell good first r → Exact show also goes s → ((b : B) (rest : Lexemes) → also b → goes (peek rest) ≡ false → first (peek (show b ++ rest)) ≡ false)
+    → Exact (λ p. spell p.0 ++ show p.1) (λ p. good p.0 × also p.1) goes (sequence r s)
+sequence_exact {A = A} {B = B} {spell = spell} {show = show} {good = good} {also = also} {r = r} {s = s} l m follows = record {
   found = λ ws x e.
-      let a = bind_some (r ws) _ x e in
-      let b = bind_some (s a.0.1) _ x a.2 in
+      let a = chain_some (r ws) _ x e in
+      let b = chain_some (s a.0.1) _ x a.2 in
       let f = l.found ws a.0 a.1 in
       let g = m.found a.0.1 b.0 b.1 in
       let same : ((a.0.0, b.0.0), b.0.1) ≡ x = some_same ((a.0.0, b.0.0), b.0.1) x b.2 in
-      let cut : ws ≡ (spell a.0.0 ++ show b.0.0) ++ b.0.1 = f.0 ∙ (ap (λ (t : Words). spell a.0.0 ++ t) g.0 ∙ sym (append_assoc (spell a.0.0) (show b.0.0) b.0.1)) in
-      subst (λ (z : (A × B) × Words). (ws ≡ (spell z.0.0 ++ show z.0.1) ++ z.1) × (good z.0.0 × also z.0.1)) same (cut, (f.1, g.1));
+      let cut : ws ≡ (spell a.0.0 ++ show b.0.0) ++ b.0.1 = f.0 ∙ (ap (λ (t : Lexemes). spell a.0.0 ++ t) g.0 ∙ sym (append_assoc (spell a.0.0) (show b.0.0) b.0.1)) in
+      subst (λ (z : (A × B) × Lexemes). (ws ≡ (spell z.0.0 ++ show z.0.1) ++ z.1) × (good z.0.0 × also z.0.1)) same (cut, (f.1, g.1));
   only = λ p rest is end.
-      ap (both r s) (append_assoc (spell p.0) (show p.1) rest) ∙ both_ok r s _ (show p.1 ++ rest) rest p.0 p.1 (l.only p.0 (show p.1 ++ rest) is.0 (follows p.1 rest is.1 end)) (m.only p.1 rest is.1 end);
+      ap (sequence r s) (append_assoc (spell p.0) (show p.1) rest) ∙ sequence_some r s _ (show p.1 ++ rest) rest p.0 p.1 (l.only p.0 (show p.1 ++ rest) is.0 (follows p.1 rest is.1 end)) (m.only p.1 rest is.1 end);
 }
 
 -- after something with which nothing goes on
-pub then_exact : {A B : Type 0} {spell : A → Words} {show : B → Words} {good : A → Type 0} {also : B → Type 0} {goes : Option Lexeme → Bool} {r : Words → Read A} {s : Words → Read B}
-    → Exact spell good never r → Exact show also goes s → Exact (λ p. spell p.0 ++ show p.1) (λ p. good p.0 × also p.1) goes (both r s)
-then_exact l m = both_exact l m (λ b rest is end. refl)
+pub then_exact : {A B : Type 0} {spell : A → Lexemes} {show : B → Lexemes} {good : A → Type 0} {also : B → Type 0} {goes : Option Lexeme → Bool} {r : Lexemes → Parsed A} {s : Lexemes → Parsed B}
+    → Exact spell good never r → Exact show also goes s → Exact (λ p. spell p.0 ++ show p.1) (λ p. good p.0 × also p.1) goes (sequence r s)
+then_exact l m = sequence_exact l m (λ b rest is end. refl)
 
 -- ---- seen as other trees
 
-pub mapped_exact : {A B : Type 0} {spell : A → Words} {good : A → Type 0} {goes : Option Lexeme → Bool} {r : Words → Read A} (h : A → B) (back : B → A) (show : B → Words) (also : B → Type 0)
-    → Exact spell good goes r → ((a : A) → spell a ≡ show (h a)) → ((a : A) → good a → also (h a)) → ((b : B) → also b → good (back b) × (h (back b) ≡ b)) → Exact show also goes (mapped h r)
-mapped_exact {A = A} {B = B} {spell = spell} {r = r} h back show also l same to from = record {
+pub converted_exact : {A B : Type 0} {spell : A → Lexemes} {good : A → Type 0} {goes : Option Lexeme → Bool} {r : Lexemes → Parsed A} (h : A → B) (back : B → A) (show : B → Lexemes) (also : B → Type 0)
+    → Exact spell good goes r → ((a : A) → spell a ≡ show (h a)) → ((a : A) → good a → also (h a)) → ((b : B) → also b → good (back b) × (h (back b) ≡ b)) → Exact show also goes (converted h r)
+converted_exact {A = A} {B = B} {spell = spell} {r = r} h back show also l same to from = record {
   found = λ ws x e.
-      let a = bind_some (r ws) _ x e in
+      let a = chain_some (r ws) _ x e in
       let f = l.found ws a.0 a.1 in
-      subst (λ (z : B × Words). (ws ≡ show z.0 ++ z.1) × also z.0) (some_same (h a.0.0, a.0.1) x a.2) (f.0 ∙ ap (λ (t : Words). t ++ a.0.1) (same a.0.0), to a.0.0 f.1);
+      subst (λ (z : B × Lexemes). (ws ≡ show z.0 ++ z.1) × also z.0) (some_same (h a.0.0, a.0.1) x a.2) (f.0 ∙ ap (λ (t : Lexemes). t ++ a.0.1) (same a.0.0), to a.0.0 f.1);
   only = λ b rest is end.
       let k = from b is in
-      let words : show b ≡ spell (back b) = ap show (sym k.1) ∙ sym (same (back b)) in
-      ap (λ (t : Words). mapped h r (t ++ rest)) words ∙ (ap (λ o. bind o (λ x. Some (h x.0, x.1))) (l.only (back b) rest k.0 end) ∙ ap (λ c. Some (c, rest)) k.1);
+      let agree : show b ≡ spell (back b) = ap show (sym k.1) ∙ sym (same (back b)) in
+      ap (λ (t : Lexemes). converted h r (t ++ rest)) agree ∙ (ap (λ o. chain o (λ x. Some (h x.0, x.1))) (l.only (back b) rest k.0 end) ∙ ap (λ c. Some (c, rest)) k.1);
 }
 
 -- ---- one of two
 
-pub either_first : {A : Type 0} (test : Option Lexeme → Bool) (r s : Words → Read A) (ws : Words) → test (next ws) ≡ true → either test r s ws ≡ r ws
-either_first test r s ws t = rw t refl
+pub choice_first : {A : Type 0} (test : Option Lexeme → Bool) (r s : Lexemes → Parsed A) (ws : Lexemes) → test (peek ws) ≡ true → choice test r s ws ≡ r ws
+choice_first test r s ws t = rw t refl
 
-pub either_second : {A : Type 0} (test : Option Lexeme → Bool) (r s : Words → Read A) (ws : Words) → test (next ws) ≡ false → either test r s ws ≡ s ws
-either_second test r s ws t = rw t refl
+pub choice_second : {A : Type 0} (test : Option Lexeme → Bool) (r s : Lexemes → Parsed A) (ws : Lexemes) → test (peek ws) ≡ false → choice test r s ws ≡ s ws
+choice_second test r s ws t = rw t refl
 
-pub either_exact : {A : Type 0} {spell : A → Words} {good also : A → Type 0} {first second : Option Lexeme → Bool} {r s : Words → Read A} (test goes : Option Lexeme → Bool)
+pub choice_exact : {A : Type 0} {spell : A → Lexemes} {good also : A → Type 0} {first second : Option Lexeme → Bool} {r s : Lexemes → Parsed A} (test goes : Option Lexeme → Bool)
     → Exact spell good first r → Exact spell also second s → ((w : Option Lexeme) → goes w ≡ false → (first w ≡ false) × (second w ≡ false))
-    → ((a : A) (rest : Words) → good a → test (next (spell a ++ rest)) ≡ true) → ((a : A) (rest : Words) → also a → goes (next rest) ≡ false → test (next (spell a ++ rest)) ≡ false)
-    → Exact spell (λ a. good a ⊎ also a) goes (either test r s)
-either_exact {A = A} {spell = spell} {good = good} {also = also} {r = r} {s = s} test goes l m ends begins others = record {
-  found = λ ws x e. elim (cases_Bool (test (next ws))) [
-    | inl t ↦ let f = l.found ws x (sym (either_first test r s ws t) ∙ e) in (f.0, inl f.1)
-    | inr t ↦ let f = m.found ws x (sym (either_second test r s ws t) ∙ e) in (f.0, inr f.1)
-    ];
+    → ((a : A) (rest : Lexemes) → good a → test (peek (spell a ++ rest)) ≡ true) → ((a : A) (rest : Lexemes) → also a → goes (peek rest) ≡ false → test (peek (spell a ++ rest)) ≡ false)
+    → Exact spell (λ a. good a ⊎ also a) goes (choice test r s)
+choice_exact {A = A} {spell = spell} {good = good} {also = also} {r = r} {s = s} test goes l m ends begins others = record {
+  found = λ ws x e. elim (cases_Bool (test (peek ws))) [
+    | inl t ↦ let f = l.found ws x (sym (choice_first test r s ws t) ∙ e) in (f.0, inl f.1)
+    | inr t ↦ let f = m.found ws x (sym (choice_second test r s ws t) ∙ e) in (f.0, inr f.1)
+  ];
   only = λ a rest is end. elim is [
-    | inl h ↦ either_first test r s _ (begins a rest h) ∙ l.only a rest h (ends (next rest) end).0
-    | inr h ↦ either_second test r s _ (others a rest h end) ∙ m.only a rest h (ends (next rest) end).1
-    ];
+    | inl h ↦ choice_first test r s _ (begins a rest h) ∙ l.only a rest h (ends (peek rest) end).0
+    | inr h ↦ choice_second test r s _ (others a rest h end) ∙ m.only a rest h (ends (peek rest) end).1
+  ];
 }
 
-pub absent_exact : {A : Type 0} (a : A) (spell : A → Words) → spell a ≡ [] → Exact spell (λ b. b ≡ a) never (absent a)
-absent_exact {A = A} a spell e = record {
-  found = λ ws x h. subst (λ (z : A × Words). (ws ≡ spell z.0 ++ z.1) × (z.0 ≡ a)) (some_same (a, ws) x h) (ap (λ (t : Words). t ++ ws) (sym e), refl);
-  only = λ b rest is end. ap (λ (t : Words). Some (a, t ++ rest)) (ap spell is ∙ e) ∙ ap (λ c. Some (c, rest)) (sym is);
+pub success_exact : {A : Type 0} (a : A) (spell : A → Lexemes) → spell a ≡ [] → Exact spell (λ b. b ≡ a) never (success a)
+success_exact {A = A} a spell e = record {
+  found = λ ws x h. subst (λ (z : A × Lexemes). (ws ≡ spell z.0 ++ z.1) × (z.0 ≡ a)) (some_same (a, ws) x h) (ap (λ (t : Lexemes). t ++ ws) (sym e), refl);
+  only = λ b rest is end. ap (λ (t : Lexemes). Some (a, t ++ rest)) (ap spell is ∙ e) ∙ ap (λ c. Some (c, rest)) (sym is);
 }
 
 -- ---- only what passes a test
 
-pub checked_exact : {A : Type 0} {spell : A → Words} {good : A → Type 0} {goes : Option Lexeme → Bool} {r : Words → Read A} (test : A → Bool)
-    → Exact spell good goes r → Exact spell (λ a. good a × (test a ≡ true)) goes (checked test r)
-checked_exact {A = A} {spell = spell} {good = good} {r = r} test l = record {
+pub verify_exact : {A : Type 0} {spell : A → Lexemes} {good : A → Type 0} {goes : Option Lexeme → Bool} {r : Lexemes → Parsed A} (test : A → Bool)
+    → Exact spell good goes r → Exact spell (λ a. good a × (test a ≡ true)) goes (verify test r)
+verify_exact {A = A} {spell = spell} {good = good} {r = r} test l = record {
   found = λ ws x e.
-      let a = bind_some (r ws) _ x e in
+      let a = chain_some (r ws) _ x e in
       let k = passes a.0 x a.2 in
       let f = l.found ws x (a.1 ∙ ap (λ z. Some z) k.0) in
       (f.0, (f.1, k.1));
-  only = λ a rest is end. ap (λ o. bind o (passed test)) (l.only a rest is.0 end) ∙ rw (is.1) refl;
+  only = λ a rest is end. ap (λ o. chain o (verified test)) (l.only a rest is.0 end) ∙ rw (is.1) refl;
 }
   where
-    passes : (x y : A × Words) → passed test x ≡ Some y → (x ≡ y) × (test y.0 ≡ true)
+    passes : (x y : A × Lexemes) → verified test x ≡ Some y → (x ≡ y) × (test y.0 ≡ true)
     passes x y e = elim (cases_Bool (test x.0)) [
       | inl t ↦ let h : x ≡ y = some_same x y (sym (rw t refl) ∙ e) in (h, ap (λ z. test z.0) (sym h) ∙ t)
       | inr t ↦ none_some y (sym (rw t refl) ∙ e)
-      ]
+    ]
 
 -- the same trees, said otherwise
-pub as_exact : {A : Type 0} {spell : A → Words} {good : A → Type 0} {goes : Option Lexeme → Bool} {r : Words → Read A} (also : A → Type 0) (wider : Option Lexeme → Bool)
+pub as_exact : {A : Type 0} {spell : A → Lexemes} {good : A → Type 0} {goes : Option Lexeme → Bool} {r : Lexemes → Parsed A} (also : A → Type 0) (wider : Option Lexeme → Bool)
     → Exact spell good goes r → ((a : A) → good a → also a) → ((a : A) → also a → good a) → ((w : Option Lexeme) → wider w ≡ false → goes w ≡ false) → Exact spell also wider r
 as_exact also wider l to from ends = record {
   found = λ ws x e. let f = l.found ws x e in (f.0, to x.0 f.1);
-  only = λ a rest is end. l.only a rest (from a is) (ends (next rest) end);
+  only = λ a rest is end. l.only a rest (from a is) (ends (peek rest) end);
 }

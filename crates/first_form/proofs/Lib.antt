@@ -10,3 +10,4 @@ mod Nodes
 mod Whole
 mod Unique
 mod Sizes
+pub mod Fitting

@@ -1,11 +1,11 @@
 -- Things with names, seen as trees.
-use Rattle.std.proofs.Common.{ℕ, ◌≡◌, Bool, true, false, List, [], ◌∷◌, length, map, find, Option, None, Some, inl, inr, refl, sym, ap, ◌∙◌}
-use Rattle.std.specs.Prelude.{cond, option_map, is_some, not, ◌==◌, nat_lt, ◌&&◌}
+use Rattle.std.proofs.Common.{◌≡◌, Bool, true, false, List, [], ◌∷◌, length, map, find, inl, inr, refl, sym, ap, ◌∙◌}
+use Rattle.std.specs.Prelude.{option_map, ◌==◌}
 use Rattle.static_cost.specs.declared.first.FirstNode.{FirstNode}
 use Rattle.first_form.specs.declared.definition.FieldDefinition.{FieldDefinition}
 use Rattle.first_form.specs.Schemas.{are_distinct, is_field_list, name_of_field}
 use Rattle.first_form.specs.Views.{field_of, fields_of, key_of}
-use Rattle.static_cost.specs.Nodes.{First, Firsts, firsts_from, first_of, firsts_of}
+use Rattle.static_cost.specs.Nodes.{First, firsts_from, first_of, firsts_of}
 use Rattle.first_form.specs.Documents.{keys_of}
 use Rattle.first_form.specs.DocumentReading.{is_set}
 use Rattle.first_form.proofs.Nodes.{open_node}
@@ -15,9 +15,9 @@ use Rattle.std.proofs.lemmas.Bool.{cases_Bool}
 pub find_view : {A B : Type 0} (view : B → A) (test : A → Bool) (all : List B) → option_map view (find (λ b. test (view b)) all) ≡ find test (map view all)
 find_view view test [] = refl
 find_view view test (b ∷ all) = elim (cases_Bool (test (view b))) [
-    | inl t ↦ rw t refl
-    | inr t ↦ rw t (find_view view test all)
-    ]
+  | inl t ↦ rw t refl
+  | inr t ↦ rw t (find_view view test all)
+]
 
 pub map_view : {A B C : Type 0} (view : B → A) (name : A → C) (all : List B) → map (λ b. name (view b)) all ≡ map name (map view all)
 map_view view name [] = refl

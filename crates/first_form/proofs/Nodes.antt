@@ -1,7 +1,5 @@
 -- What a node stands for, by its fields.
-use Rattle.std.proofs.Common.{ℕ, ◌≡◌, Bool, List, Option, Vec, Global, refl, sym, ap, ◌∙◌}
-use Rattle.static_cost.specs.declared.first.FirstKind.{FirstKind}
-use Rattle.static_cost.specs.declared.first.FirstList.{FirstList}
+use Rattle.std.proofs.Common.{◌≡◌, ap, ◌∙◌}
 use Rattle.static_cost.specs.declared.first.FirstNode.{FirstNode}
 use Rattle.static_cost.specs.declared.first.FirstNode.TheOpen.{FirstNode-F}
 use Rattle.static_cost.specs.declared.first.FirstNode.TheViews.{out-FirstNode, roll-FirstNode}

@@ -1,23 +1,23 @@
 -- The tokens of a source from a place on.
-use Rattle.std.proofs.Common.{ℕ, suc, ◌+◌, ◌≡◌, ◌≤◌, ◌<◌, Bool, true, false, List, [], ◌∷◌, length, map, drop, get_or, slice_index_or, Option, None, Some, refl, sym, ap, ◌∙◌, arith}
+use Rattle.std.proofs.Common.{ℕ, suc, ◌+◌, ◌≡◌, ◌≤◌, ◌<◌, List, [], ◌∷◌, length, slice_index_or, Some, refl, ap, ◌∙◌, arith}
 use Rattle.std.specs.Prelude.{◌==◌, not}
 use Rattle.std.proofs.lemmas.List.{drop_all}
 use Rattle.std.proofs.Math.Seq.{drop-cons}
 use Rattle.gql_base.specs.declared.token.TokenKind.{TokenKind}
 use Rattle.gql_base.specs.declared.token.TokenKind.TheVariants.{Name, Int, Str, BlockStr, Bang, Dollar, Amp, OpenParen, CloseParen, Spread, Colon, Equals, At, OpenBracket, CloseBracket, OpenBrace, Pipe, CloseBrace}
 use Rattle.gql_base.specs.declared.token.Token.{Token}
-use Rattle.gql_base.specs.Pieces.{Lexeme, kind_of}
+use Rattle.gql_base.specs.Pieces.{kind_of}
 use Rattle.gql_base.specs.Tokens.{lexeme_of, lexeme_with}
-use Rattle.first_form.specs.declared.source.Source.{Source}
-use Rattle.first_form.specs.Reading.{Words, next, taken, one, number_of, when, of_kind, next_is, until}
-use Rattle.first_form.specs.Sources.{words, ahead}
+use Rattle.first_form.specs.declared.lexed.Lexed.{Lexed}
+use Rattle.first_form.specs.Reading.{Lexemes, peek, consumed, satisfy, number_of, when, of_kind, peeks, before}
+use Rattle.first_form.specs.LexedTexts.{lexemes_at, lexemes_by}
 
-pub words_some : (s : Source) (at : ℕ) (t : Token) → at < length s.tokens.now → words s at ≡ lexeme_of s.text.now (slice_index_or s.tokens.now at t) ∷ words s (at + 1)
-unfolding words
+pub words_some : (s : Lexed) (at : ℕ) (t : Token) → at < length s.tokens.now → lexemes_at s at ≡ lexeme_of s.text.now (slice_index_or s.tokens.now at t) ∷ lexemes_at s (at + 1)
+unfolding lexemes_at
 words_some s at t inside = let e : at + 1 ≡ suc at = omega arith in rw (drop-cons s.tokens.now at t inside, e) refl
 
-pub words_none : (s : Source) (at : ℕ) → length s.tokens.now ≤ at → words s at ≡ []
-unfolding words
+pub words_none : (s : Lexed) (at : ℕ) → length s.tokens.now ≤ at → lexemes_at s at ≡ []
+unfolding lexemes_at
 words_none s at outside = rw (drop_all at s.tokens.now outside) refl
 
 kind_with : (k : TokenKind) (bytes : List ℕ) → kind_of (lexeme_with k bytes) ≡ k
@@ -41,11 +41,11 @@ kind_with Pipe b = refl
 kind_with CloseBrace b = refl
 
 -- whether a token ahead is of a kind, by its own kind
-pub next_ahead : (s : Source) (at : ℕ) (k : TokenKind) (t : Token) → words s at ≡ ahead s at (Some t) → next_is k (next (words s at)) ≡ (number_of k == number_of t.kind)
-next_ahead s at k t e = ap (λ (l : Words). next_is k (next l)) e ∙ ap (λ j. number_of k == number_of j) (kind_with t.kind _)
+pub peeks_by : (s : Lexed) (at : ℕ) (k : TokenKind) (t : Token) → lexemes_at s at ≡ lexemes_by s at (Some t) → peeks k (peek (lexemes_at s at)) ≡ (number_of k == number_of t.kind)
+peeks_by s at k t e = ap (λ (l : Lexemes). peeks k (peek l)) e ∙ ap (λ j. number_of k == number_of j) (kind_with t.kind _)
 
-pub until_ahead : (s : Source) (at : ℕ) (k : TokenKind) (t : Token) → words s at ≡ ahead s at (Some t) → until k (next (words s at)) ≡ not (number_of k == number_of t.kind)
-until_ahead s at k t e = ap (λ (l : Words). until k (next l)) e ∙ ap (λ j. not (number_of k == number_of j)) (kind_with t.kind _)
+pub before_by : (s : Lexed) (at : ℕ) (k : TokenKind) (t : Token) → lexemes_at s at ≡ lexemes_by s at (Some t) → before k (peek (lexemes_at s at)) ≡ not (number_of k == number_of t.kind)
+before_by s at k t e = ap (λ (l : Lexemes). before k (peek l)) e ∙ ap (λ j. not (number_of k == number_of j)) (kind_with t.kind _)
 
-pub one_ahead : (s : Source) (at : ℕ) (k : TokenKind) (t : Token) → words s at ≡ ahead s at (Some t) → one (of_kind k) (words s at) ≡ taken (when (number_of k == number_of t.kind)) (words s (at + 1))
-one_ahead s at k t e = ap (one (of_kind k)) e ∙ ap (λ j. taken (when (number_of k == number_of j)) (words s (at + 1))) (kind_with t.kind _)
+pub satisfy_by : (s : Lexed) (at : ℕ) (k : TokenKind) (t : Token) → lexemes_at s at ≡ lexemes_by s at (Some t) → satisfy (of_kind k) (lexemes_at s at) ≡ consumed (when (number_of k == number_of t.kind)) (lexemes_at s (at + 1))
+satisfy_by s at k t e = ap (satisfy (of_kind k)) e ∙ ap (λ j. consumed (when (number_of k == number_of j)) (lexemes_at s (at + 1))) (kind_with t.kind _)

@@ -1,6 +1,6 @@
 -- Each list of objects that a document selects has a size.
-use Rattle.std.proofs.Common.{ℕ, ◌≡◌, Bool, true, false, List, [], ◌∷◌, find, Option, None, Some, inl, inr, refl, sym, subst, ap, ◌∙◌}
-use Rattle.std.specs.Prelude.{IsSome, codes, cond}
+use Rattle.std.proofs.Common.{ℕ, ◌≡◌, Bool, true, List, [], ◌∷◌, find, Option, None, Some, inl, inr, refl, sym, subst, ap, ◌∙◌}
+use Rattle.std.specs.Prelude.{IsSome, codes}
 use Rattle.std.specs.List.{list_all}
 use Rattle.std.specs.Str.{bytes_eq}
 use Rattle.std.proofs.lemmas.Bool.{cases_Bool}
@@ -28,6 +28,7 @@ list_sized Id o = tt
 
 mutual
   unfolding IsOfField AreOfFields
+
   field_sized : (types : List TypeTree) (fields : List FieldTree) (f : First) → IsOfField types fields f → FieldSized f
   field_sized types fields (first key Object nullable list below) is = (subst (HasSize Object) (sym is.4) (list_sized Object is.0.list), fields_sized types is.5.0.fields below is.5.2.1)
   field_sized types fields (first key Int nullable list below) is = (tt, subst FieldsSized (sym is.5) tt)
@@ -47,10 +48,10 @@ all_sized types text nodes is = fields_sized types is.fitting.0.fields nodes is.
 -- what holds of all holds of what is found among them
 found_passes : {A : Type 0} (test P : A → Bool) (all : List A) (a : A) → find test all ≡ Some a → list_all P all ≡ true → P a ≡ true
 found_passes test P [] a e is = none_some a e
-found_passes test P (b ∷ all) a e is = let both = and_both (P b) (list_all P all) is in elim (cases_Bool (test b)) [
-    | inl t ↦ ap P (sym (some_same b a (sym (rw t refl) ∙ e))) ∙ both.0
-    | inr t ↦ found_passes test P all a (sym (rw t refl) ∙ e) both.1
-    ]
+found_passes test P (b ∷ all) a e is = let parts = and_both (P b) (list_all P all) is in elim (cases_Bool (test b)) [
+  | inl t ↦ ap P (sym (some_same b a (sym (rw t refl) ∙ e))) ∙ parts.0
+  | inr t ↦ found_passes test P all a (sym (rw t refl) ∙ e) parts.1
+]
 
 list_small : (kind : FirstKind) (o : Option FirstList) → is_sized o ≡ true → is_sized (list_of kind o) ≡ true
 list_small kind None is = refl
@@ -75,6 +76,7 @@ field_within fields name f is e = found_passes (λ f. bytes_eq f.name name) (λ 
 
 mutual
   unfolding IsOfField AreOfFields
+
   field_small : (types : List TypeTree) (fields : List FieldTree) (f : First) → are_sized types ≡ true → FieldsWithin fields → IsOfField types fields f → IsSmall f
   field_small types fields (first key Object nullable list below) all here is =
       (ap is_sized is.4 ∙ list_small Object is.0.list (field_within fields key is.0 here is.1), fields_small types is.5.0.fields below all (type_within types is.0.named is.5.0 all is.5.1) is.5.2.1)

@@ -1,13 +1,13 @@
 -- What reading one token accepts.
-use Rattle.std.proofs.Common.{ℕ, ◌≡◌, ◌<◌, Bool, true, false, List, [], ◌∷◌, ◌++◌, Option, None, Some, Result, Ok, Err, refl, sym, ap, ◌∙◌, subst, arith, eqb-true, eq-eqb}
-use Rattle.std.specs.Prelude.{◌==◌, not, ◌||◌, ◌&&◌, nat_le, slice_index_or}
+use Rattle.std.proofs.Common.{ℕ, ◌≡◌, Bool, true, false, List, [], ◌∷◌, Some, Result, Ok, Err, refl, sym, ap, ◌∙◌, subst, eqb-true, eq-eqb}
+use Rattle.std.specs.Prelude.{◌==◌, slice_index_or}
 use Rattle.std.specs.Str.{bytes_eq}
 use Rattle.std.specs.Cmp.Lexicographic.{bytes_decides}
 use Rattle.gql_base.specs.declared.token.TokenKind.{TokenKind}
 use Rattle.gql_base.specs.declared.token.TokenKind.TheVariants.{Name, Int, Str, BlockStr, Bang, Dollar, Amp, OpenParen, CloseParen, Spread, Colon, Equals, At, OpenBracket, CloseBracket, OpenBrace, Pipe, CloseBrace}
 use Rattle.gql_base.specs.Pieces.{Lexeme, word, number, mark, kind_of}
-use Rattle.first_form.specs.Reading.{Words, next, one, number_of, is_kind, when, of_kind, name_in, keyword, next_is, until}
-use Rattle.first_form.proofs.Exact.{Exact, never, one_exact}
+use Rattle.first_form.specs.Reading.{satisfy, number_of, when, of_kind, name_in, keyword}
+use Rattle.first_form.proofs.Exact.{Exact, never, satisfy_exact}
 
 kinds : List TokenKind
 kinds = Name ∷ Int ∷ Str ∷ BlockStr ∷ Bang ∷ Dollar ∷ Amp ∷ OpenParen ∷ CloseParen ∷ Spread ∷ Colon ∷ Equals ∷ At ∷ OpenBracket ∷ CloseBracket ∷ OpenBrace ∷ Pipe ∷ CloseBrace ∷ []
@@ -51,8 +51,8 @@ mark_is k (mark j) is e = ap mark (sym e)
 mark_is k (word b) is e = absurd (subst IsMark e is)
 mark_is k (number b) is e = absurd (subst IsMark e is)
 
-pub mark_exact : (k : TokenKind) → IsMark k → Exact (λ a. mark k ∷ []) (λ a. Unit {0}) never (one (of_kind k))
-mark_exact k is = one_exact (of_kind k) (λ a. mark k) (λ a. Unit {0})
+pub mark_exact : (k : TokenKind) → IsMark k → Exact (λ a. mark k ∷ []) (λ a. Unit {0}) never (satisfy (of_kind k))
+mark_exact k is = satisfy_exact (of_kind k) (λ a. mark k) (λ a. Unit {0})
     (λ w a e. (mark_is k w is (same_kind k (kind_of w) (when_true _ a e)), tt))
     (λ a u. ap when (eq-eqb (number_of k) (number_of k) refl))
 
@@ -61,8 +61,8 @@ name_is (word b) a e = cc
 name_is (number b) a e = cc
 name_is (mark k) a e = cc
 
-pub name_exact : Exact (λ a. word a ∷ []) (λ a. Unit {0}) never (one name_in)
-name_exact = one_exact name_in (λ a. word a) (λ a. Unit {0}) (λ w a e. (name_is w a e, tt)) (λ a u. refl)
+pub name_exact : Exact (λ a. word a ∷ []) (λ a. Unit {0}) never (satisfy name_in)
+name_exact = satisfy_exact name_in (λ a. word a) (λ a. Unit {0}) (λ w a e. (name_is w a e, tt)) (λ a u. refl)
 
 pub bytes_same : (a b : List ℕ) → bytes_eq a b ≡ true → a ≡ b
 bytes_same a b e = (bytes_decides a b).0 e
@@ -75,8 +75,8 @@ keyword_is text (word b) a e = ap word (bytes_same b text (when_true _ a e))
 keyword_is text (number b) a e = cc
 keyword_is text (mark k) a e = cc
 
-pub keyword_exact : (text : List ℕ) → Exact (λ a. word text ∷ []) (λ a. Unit {0}) never (one (keyword text))
-keyword_exact text = one_exact (keyword text) (λ a. word text) (λ a. Unit {0}) (λ w a e. (keyword_is text w a e, tt)) (λ a u. ap when (bytes_equal text text refl))
+pub keyword_exact : (text : List ℕ) → Exact (λ a. word text ∷ []) (λ a. Unit {0}) never (satisfy (keyword text))
+keyword_exact text = satisfy_exact (keyword text) (λ a. word text) (λ a. Unit {0}) (λ w a e. (keyword_is text w a e, tt)) (λ a u. ap when (bytes_equal text text refl))
 
 pub same_number : {E : Type 0} (r : Result ℕ E) (a b : ℕ) → r ≡ Ok a → r ≡ Ok b → a ≡ b
 same_number r a b e f = cc

@@ -1,6 +1,6 @@
 -- Documents of the first form: their trees, the tokens that spell them, and the nodes that they stand for.
 -- A document is one selection set (GraphQL October 2021, 2.4) of fields without alias, arguments and directives.
-use Rattle.std.specs.Prelude.{◌≡◌, ℕ, suc, ◌<◌, ◌≤◌, max, Bool, true, false, List, [], ◌∷◌, ◌++◌, Option, Some, None, IsTrue, codes}
+use Rattle.std.specs.Prelude.{◌≡◌, ℕ, suc, ◌≤◌, max, Bool, true, false, List, [], ◌∷◌, ◌++◌, Option, Some, None, IsTrue, codes}
 use Rattle.gql_base.specs.Pieces.{Lexeme, word, mark}
 use Rattle.gql_base.specs.Tokens.{HasLexemes}
 use Rattle.gql_base.specs.declared.token.TokenKind.TheVariants.{OpenBrace, CloseBrace}
@@ -10,7 +10,7 @@ use Rattle.static_cost.specs.declared.first.FirstList.{FirstList}
 use Rattle.static_cost.specs.Nodes.{First, first, Firsts, no_first, first_then}
 use Rattle.first_form.specs.declared.first.FirstPart.{FirstPart}
 use Rattle.first_form.specs.declared.first.FirstPart.TheVariants.{Schema as SchemaPart, Document as DocumentPart}
-use Rattle.first_form.specs.Schemas.{FieldTree, TypeTree, kind_of, field_named, type_named, are_distinct, is_sized, HasFirstSchema}
+use Rattle.first_form.specs.Schemas.{FieldTree, TypeTree, kind_of, field_named, type_named, is_leaf, are_distinct, is_sized, HasFirstSchema}
 
 mutual
   -- the fields of a selection set, each with its name
@@ -52,6 +52,43 @@ abbrev mutual
 abbrev pub most_open : ℕ
 most_open = 50
 
+-- ---- what must hold
+
+abbrev pub names_of : Selections → List (List ℕ)
+names_of no_selection = []
+names_of (select name below rest) = name ∷ names_of rest
+
+abbrev pub holds_field : Selections → Bool
+holds_field no_selection = false
+holds_field (select name below rest) = true
+
+-- a selection set holds a field, and no name twice
+pub record IsSelectionSet (s : Selections) : Type 0 where
+  pub some : IsTrue (holds_field s)
+  pub distinct : IsTrue (are_distinct (names_of s))
+
+-- something holds of the fields of the type of this name
+abbrev pub OfType : List TypeTree → List ℕ → (List FieldTree → Type 0) → Type 0
+OfType types named P = (t : TypeTree) × (type_named types named ≡ Some t) × P t.fields
+
+-- Each name is that of one of these fields. Where the field's type is a scalar, nothing stands behind it, and
+-- where it is an object type, a selection set of that type's fields does.
+unfoldable mutual
+  pub Fits : List TypeTree → List FieldTree → Selections → Type 0
+  Fits types fields no_selection = Unit {0}
+  Fits types fields (select name below rest) = (f : FieldTree) × (field_named fields name ≡ Some f) × FitsBelow types f.named below × Fits types fields rest
+
+  pub FitsBelow : List TypeTree → List ℕ → Subset → Type 0
+  FitsBelow types named nothing = IsTrue (is_leaf (kind_of named))
+  FitsBelow types named (set s) = (kind_of named ≡ Object) × OfType types named (λ inner. IsSelectionSet s × Fits types inner s)
+
+-- A document of the first form for a schema with these types: a selection set of fields of the type Query, in
+-- which not too many sets are open at any place.
+pub record IsDocumentFor (types : List TypeTree) (document : Selections) : Type 0 where
+  pub shallow : open_in (set document) ≤ most_open
+  pub some : IsSelectionSet document
+  pub fitting : OfType types (codes "Query") (λ fields. Fits types fields document)
+
 -- ---- the nodes
 
 -- The selection that nodes stand for: their keys as names, and a set below each object.
@@ -87,16 +124,12 @@ abbrev pub list_of : FirstKind → Option FirstList → Option FirstList
 list_of kind None = None
 list_of kind (Some list) = Some (record { size = size_of kind list.size; nullable = list.nullable })
 
--- a selection set holds a field, and none twice
+-- the same of the nodes of a set
 pub record IsSet (nodes : Firsts) : Type 0 where
   pub first : First
   pub others : Firsts
   pub some : nodes ≡ first_then first others
   pub distinct : IsTrue (are_distinct (keys_of nodes))
-
--- something holds of the fields of the type of this name
-abbrev pub OfType : List TypeTree → List ℕ → (List FieldTree → Type 0) → Type 0
-OfType types named P = (t : TypeTree) × (type_named types named ≡ Some t) × P t.fields
 
 -- nothing stands below a scalar, and something holds below an object
 abbrev pub Below : FirstKind → Firsts → Type 0 → Type 0
@@ -144,11 +177,11 @@ pub record HaveFirstForm (schema document : List ℕ) (nodes : Firsts) : Type 0 
   pub of_schema : HasFirstSchema schema types
   pub of_document : HasFirstDocument types document nodes
 
--- The schema has the first form, and no nodes stand for the document over its types.
-pub record IsRefusedDocument (schema document : List ℕ) : Type 0 where
+-- The schema has the first form, and the document is none for its types.
+pub record IsRefusedDocument (schema text : List ℕ) : Type 0 where
   pub types : List TypeTree
   pub of_schema : HasFirstSchema schema types
-  pub refused : (nodes : Firsts) → HasFirstDocument types document nodes → ⊥
+  pub refused : (document : Selections) → HasLexemes text (document_words document) → IsDocumentFor types document → ⊥
 
 -- the name of a text that hasn't the form
 abbrev pub name_of_part : FirstPart → List ℕ

@@ -3,6 +3,6 @@ pub mod Documents
 pub mod Reading
 pub mod SchemaReading
 pub mod DocumentReading
-pub mod Sources
+pub mod LexedTexts
 pub mod Views
 pub mod Faults

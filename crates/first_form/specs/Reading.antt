@@ -6,63 +6,63 @@ use Rattle.gql_base.specs.declared.token.TokenKind.{TokenKind}
 use Rattle.gql_base.specs.declared.token.TokenKind.TheVariants.{Name, Int, Str, BlockStr, Bang, Dollar, Amp, OpenParen, CloseParen, Spread, Colon, Equals, At, OpenBracket, CloseBracket, OpenBrace, Pipe, CloseBrace}
 use Rattle.gql_base.specs.Pieces.{Lexeme, word, number, mark, kind_of}
 
-abbrev pub Words : Type 0
-Words = List Lexeme
+abbrev pub Lexemes : Type 0
+Lexemes = List Lexeme
 
 -- what is read at the front, and the tokens after it
-abbrev pub Read : Type 0 → Type 0
-Read A = Option (A × Words)
+abbrev pub Parsed : Type 0 → Type 0
+Parsed A = Option (A × Lexemes)
 
-abbrev pub next : Words → Option Lexeme
-next [] = None
-next (w ∷ ws) = Some w
+abbrev pub peek : Lexemes → Option Lexeme
+peek [] = None
+peek (w ∷ ws) = Some w
 
-abbrev pub bind : {A B : Type 0} → Option A → (A → Option B) → Option B
-bind None f = None
-bind (Some a) f = f a
+abbrev pub chain : {A B : Type 0} → Option A → (A → Option B) → Option B
+chain None f = None
+chain (Some a) f = f a
 
-abbrev pub taken : {A : Type 0} → Option A → Words → Read A
-taken None ws = None
-taken (Some a) ws = Some (a, ws)
+abbrev pub consumed : {A : Type 0} → Option A → Lexemes → Parsed A
+consumed None ws = None
+consumed (Some a) ws = Some (a, ws)
 
 -- one token that is accepted
-abbrev pub one : {A : Type 0} → (Lexeme → Option A) → Words → Read A
-one accept [] = None
-one accept (w ∷ ws) = taken (accept w) ws
+abbrev pub satisfy : {A : Type 0} → (Lexeme → Option A) → Lexemes → Parsed A
+satisfy accept [] = None
+satisfy accept (w ∷ ws) = consumed (accept w) ws
 
 -- one after the other
-abbrev pub both : {A B : Type 0} → (Words → Read A) → (Words → Read B) → Words → Read (A × B)
-both r s ws = bind (r ws) (λ x. bind (s x.1) (λ y. Some ((x.0, y.0), y.1)))
+abbrev pub sequence : {A B : Type 0} → (Lexemes → Parsed A) → (Lexemes → Parsed B) → Lexemes → Parsed (A × B)
+sequence r s ws = chain (r ws) (λ x. chain (s x.1) (λ y. Some ((x.0, y.0), y.1)))
 
-abbrev pub mapped : {A B : Type 0} → (A → B) → (Words → Read A) → Words → Read B
-mapped f r ws = bind (r ws) (λ x. Some (f x.0, x.1))
+abbrev pub converted : {A B : Type 0} → (A → B) → (Lexemes → Parsed A) → Lexemes → Parsed B
+converted f r ws = chain (r ws) (λ x. Some (f x.0, x.1))
 
 -- which of two is read, by the next token
-abbrev pub either : {A : Type 0} → (Option Lexeme → Bool) → (Words → Read A) → (Words → Read A) → Words → Read A
-either test r s ws = if test (next ws) then r ws else s ws
+abbrev pub choice : {A : Type 0} → (Option Lexeme → Bool) → (Lexemes → Parsed A) → (Lexemes → Parsed A) → Lexemes → Parsed A
+choice test r s ws = if test (peek ws) then r ws else s ws
 
 -- only what passes a test
-abbrev pub passed : {A : Type 0} → (A → Bool) → A × Words → Read A
-passed test x = if test x.0 then Some x else None
+abbrev pub verified : {A : Type 0} → (A → Bool) → A × Lexemes → Parsed A
+verified test x = if test x.0 then Some x else None
 
-abbrev pub checked : {A : Type 0} → (A → Bool) → (Words → Read A) → Words → Read A
-checked test r ws = bind (r ws) (passed test)
+abbrev pub verify : {A : Type 0} → (A → Bool) → (Lexemes → Parsed A) → Lexemes → Parsed A
+verify test r ws = chain (r ws) (verified test)
 
 -- what is read, with a tree before it
-abbrev pub added : {A : Type 0} → A → Read (List A) → Read (List A)
-added a None = None
-added a (Some x) = Some (a ∷ x.0, x.1)
+abbrev pub prepended : {A : Type 0} → A → Parsed (List A) → Parsed (List A)
+prepended a None = None
+prepended a (Some x) = Some (a ∷ x.0, x.1)
 
 -- again and again, as long as the next token passes the test
-abbrev pub many_step : {A : Type 0} → (Option Lexeme → Bool) → (Words → Read A) → (Words → Read (List A)) → Words → Read (List A)
-many_step test r m ws = if test (next ws) then bind (r ws) (λ x. added x.0 (m x.1)) else Some ([], ws)
+abbrev pub repeated_step : {A : Type 0} → (Option Lexeme → Bool) → (Lexemes → Parsed A) → (Lexemes → Parsed (List A)) → Lexemes → Parsed (List A)
+repeated_step test r m ws = if test (peek ws) then chain (r ws) (λ x. prepended x.0 (m x.1)) else Some ([], ws)
 
-unfoldable pub many_for : {A : Type 0} → (Option Lexeme → Bool) → (Words → Read A) → ℕ → Words → Read (List A)
-many_for test r zero ws = Some ([], ws)
-many_for test r (suc k) ws = many_step test r (many_for test r k) ws
+unfoldable pub repeated_for : {A : Type 0} → (Option Lexeme → Bool) → (Lexemes → Parsed A) → ℕ → Lexemes → Parsed (List A)
+repeated_for test r zero ws = Some ([], ws)
+repeated_for test r (suc k) ws = repeated_step test r (repeated_for test r k) ws
 
-unfoldable pub many : {A : Type 0} → (Option Lexeme → Bool) → (Words → Read A) → Words → Read (List A)
-many test r ws = many_for test r (length ws) ws
+unfoldable pub repeated : {A : Type 0} → (Option Lexeme → Bool) → (Lexemes → Parsed A) → Lexemes → Parsed (List A)
+repeated test r ws = repeated_for test r (length ws) ws
 
 -- ---- tokens by their kinds
 
@@ -109,19 +109,19 @@ keyword text (number bytes) = None
 keyword text (mark kind) = None
 
 -- whether a token of this kind is next
-abbrev pub next_is : TokenKind → Option Lexeme → Bool
-next_is kind None = false
-next_is kind (Some w) = is_kind kind w
+abbrev pub peeks : TokenKind → Option Lexeme → Bool
+peeks kind None = false
+peeks kind (Some w) = is_kind kind w
 
 -- whether a token is next, and of another kind
-abbrev pub until : TokenKind → Option Lexeme → Bool
-until kind None = false
-until kind (Some w) = not (is_kind kind w)
+abbrev pub before : TokenKind → Option Lexeme → Bool
+before kind None = false
+before kind (Some w) = not (is_kind kind w)
 
-abbrev pub goes_on : Option Lexeme → Bool
-goes_on None = false
-goes_on (Some w) = true
+abbrev pub has_more : Option Lexeme → Bool
+has_more None = false
+has_more (Some w) = true
 
 -- nothing, where a tree may be left out
-abbrev pub absent : {A : Type 0} → A → Words → Read A
-absent a ws = Some (a, ws)
+abbrev pub success : {A : Type 0} → A → Lexemes → Parsed A
+success a ws = Some (a, ws)

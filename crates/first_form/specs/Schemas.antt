@@ -1,7 +1,7 @@
 -- Schemas of the first form: their trees, the tokens that spell them, and what must hold of them.
 -- The grammar is that of GraphQL (October 2021, 3.6, 3.11) without descriptions, arguments, interfaces and
 -- directives, but for `@listSize` (IBM GraphQL Cost Directives Specification).
-use Rattle.std.specs.Prelude.{◌≡◌, ℕ, ◌<◌, ◌≤◌, ◌==◌, ◌&&◌, ◌||◌, not, Bool, true, false, List, [], ◌∷◌, ◌++◌, length, map, find, nat_eq, nat_le, nat_lt, Option, Some, None, is_some, IsTrue, codes, if◌then◌else◌}
+use Rattle.std.specs.Prelude.{ℕ, ◌&&◌, ◌||◌, not, Bool, true, false, List, [], ◌∷◌, ◌++◌, map, find, nat_eq, nat_le, Option, Some, None, is_some, IsTrue, codes, if◌then◌else◌}
 use Rattle.std.specs.List.{flat_map, list_any, list_all, starts_with}
 use Rattle.std.specs.Fmt.{decimal}
 use Rattle.std.specs.Str.{bytes_eq}
@@ -69,11 +69,11 @@ type_named types name = find (λ t. bytes_eq t.name name) types
 -- what the values of a named type are: the built-in scalars by their names, else objects
 abbrev pub kind_of : List ℕ → FirstKind
 kind_of named =
-  if bytes_eq named (codes "Int") then Int
-  else (if bytes_eq named (codes "String") then Str
-  else (if bytes_eq named (codes "Boolean") then BoolKind
-  else (if bytes_eq named (codes "ID") then Id
-  else Object)))
+    if bytes_eq named (codes "Int") then Int
+    else (if bytes_eq named (codes "String") then Str
+    else (if bytes_eq named (codes "Boolean") then BoolKind
+    else (if bytes_eq named (codes "ID") then Id
+    else Object)))
 
 -- whether a name is that of a built-in scalar
 abbrev pub is_built_in : List ℕ → Bool

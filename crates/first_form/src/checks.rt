@@ -117,9 +117,7 @@ fn is_field_list(fields: &[FieldDefinition]) -> bool
 fn is_type(types: &[TypeDefinition], of: &TypeDefinition) -> bool
     ensures { result ≡ is_type (types_of types.now) (type_of of.now) }
 {
-    is_type_name(of.name.as_str())
-        && is_field_list(&of.fields)
-        && are_fields(types, &of.fields)
+    is_type_name(of.name.as_str()) && is_field_list(&of.fields) && are_fields(types, &of.fields)
 }
 
 fn are_types_distinct(types: &[TypeDefinition]) -> bool

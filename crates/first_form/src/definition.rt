@@ -2,12 +2,12 @@
 
 ghost use Rattle.std.specs.Prelude.{◌≡◌, ◌+◌, ◌<◌, ◌≤◌, length, map, IfOk, Some};
 ghost use Rattle.gql_base.specs.declared.token.TokenKind.TheVariants.{CloseBrace};
-ghost use Rattle.first_form.specs.Reading.{many, until};
+ghost use Rattle.first_form.specs.Reading.{repeated, before};
 ghost use Rattle.first_form.specs.SchemaReading.{bang_at, list_size_at, size_at, single_at, listed_at, type_at, field_at, definition_at, schema_at};
-ghost use Rattle.first_form.specs.Sources.{words, Reads};
+ghost use Rattle.first_form.specs.LexedTexts.{lexemes_at, Parses};
 ghost use Rattle.first_form.specs.Views.{field_of, fields_of, type_of, types_of, parts_of};
 
-use crate::source::{Source, Stopped};
+use crate::lexed::{Lexed, Stop};
 use gql_base::{Text, TokenKind};
 use static_cost::FirstList;
 use std::alloc::Global;
@@ -39,36 +39,36 @@ pub struct TypeDefinition {
 }
 
 // Whether a value may be null, which a `!` rules out, and the place after it.
-fn read_bang(source: &Source, at: usize) -> Result<(bool, usize), Stopped>
-    ensures read { Reads source.now (λ x. x) result (bang_at (words source.now at)) }
+fn read_bang(source: &Lexed, at: usize) -> Result<(bool, usize), Stop>
+    ensures read { Parses source.now (λ x. x) result (bang_at (lexemes_at source.now at)) }
     ensures within { IfOk result (λ x. at ≤ x.1) }
     ensures inside { IfOk result (λ x. at ≤ length source.now.tokens.now → x.1 ≤ length source.now.tokens.now) }
 {
     if source.is(at, TokenKind::Bang) {
-        let end = source.wants(at, TokenKind::Bang)?;
+        let end = source.expects(at, TokenKind::Bang)?;
         return Ok((false, end));
     }
     Ok((true, at))
 }
 
 // The size in `@listSize(assumedSize: N)`.
-fn read_list_size(alloc: Global, source: &Source, at: usize) -> Result<(u64, usize), Stopped>
-    ensures read { Reads source.now (λ x. (Some x.0, x.1)) result (list_size_at (words source.now at)) }
+fn read_list_size(alloc: Global, source: &Lexed, at: usize) -> Result<(u64, usize), Stop>
+    ensures read { Parses source.now (λ x. (Some x.0, x.1)) result (list_size_at (lexemes_at source.now at)) }
     ensures within { IfOk result (λ x. (at < x.1) × (x.1 ≤ length source.now.tokens.now)) }
 {
-    let start = source.wants(at, TokenKind::At)?;
+    let start = source.expects(at, TokenKind::At)?;
     let start = source.keyword(start, "listSize")?;
-    let start = source.wants(start, TokenKind::OpenParen)?;
+    let start = source.expects(start, TokenKind::OpenParen)?;
     let start = source.keyword(start, "assumedSize")?;
-    let start = source.wants(start, TokenKind::Colon)?;
+    let start = source.expects(start, TokenKind::Colon)?;
     let (size, end) = source.size(alloc, start)?;
-    let end = source.wants(end, TokenKind::CloseParen)?;
+    let end = source.expects(end, TokenKind::CloseParen)?;
     Ok((size, end))
 }
 
 // The size that a list is assumed to have, if one is written.
-fn read_size(alloc: Global, source: &Source, at: usize) -> Result<(Option<u64>, usize), Stopped>
-    ensures read { Reads source.now (λ x. x) result (size_at (words source.now at)) }
+fn read_size(alloc: Global, source: &Lexed, at: usize) -> Result<(Option<u64>, usize), Stop>
+    ensures read { Parses source.now (λ x. x) result (size_at (lexemes_at source.now at)) }
     ensures within { IfOk result (λ x. at ≤ x.1) }
     ensures inside { IfOk result (λ x. at ≤ length source.now.tokens.now → x.1 ≤ length source.now.tokens.now) }
 {
@@ -80,8 +80,8 @@ fn read_size(alloc: Global, source: &Source, at: usize) -> Result<(Option<u64>, 
 }
 
 // A type that is no list.
-fn read_single(alloc: Global, source: &Source, at: usize) -> Result<(FieldType, usize), Stopped>
-    ensures read { Reads source.now (λ x. (parts_of x.0, x.1)) result (single_at (words source.now at)) }
+fn read_single(alloc: Global, source: &Lexed, at: usize) -> Result<(FieldType, usize), Stop>
+    ensures read { Parses source.now (λ x. (parts_of x.0, x.1)) result (single_at (lexemes_at source.now at)) }
     ensures within { IfOk result (λ x. (at < x.1) × (x.1 ≤ length source.now.tokens.now)) }
 {
     let (named, end) = source.name(alloc, at)?;
@@ -97,14 +97,14 @@ fn read_single(alloc: Global, source: &Source, at: usize) -> Result<(FieldType, 
 }
 
 // A list type, and the size that is assumed.
-fn read_listed(alloc: Global, source: &Source, at: usize) -> Result<(FieldType, usize), Stopped>
-    ensures read { Reads source.now (λ x. (parts_of x.0, x.1)) result (listed_at (words source.now at)) }
+fn read_listed(alloc: Global, source: &Lexed, at: usize) -> Result<(FieldType, usize), Stop>
+    ensures read { Parses source.now (λ x. (parts_of x.0, x.1)) result (listed_at (lexemes_at source.now at)) }
     ensures within { IfOk result (λ x. (at < x.1) × (x.1 ≤ length source.now.tokens.now)) }
 {
-    let start = source.wants(at, TokenKind::OpenBracket)?;
+    let start = source.expects(at, TokenKind::OpenBracket)?;
     let (named, end) = source.name(alloc, start)?;
     let (items, end) = read_bang(source, end)?;
-    let end = source.wants(end, TokenKind::CloseBracket)?;
+    let end = source.expects(end, TokenKind::CloseBracket)?;
     let (nullable, end) = read_bang(source, end)?;
     let (size, end) = read_size(alloc, source, end)?;
     let list = FirstList {
@@ -122,8 +122,8 @@ fn read_listed(alloc: Global, source: &Source, at: usize) -> Result<(FieldType, 
 }
 
 #[tactic(auto, unfolding(crate::specs::SchemaReading::type_at))]
-fn read_type(alloc: Global, source: &Source, at: usize) -> Result<(FieldType, usize), Stopped>
-    ensures read { Reads source.now (λ x. (parts_of x.0, x.1)) result (type_at (words source.now at)) }
+fn read_type(alloc: Global, source: &Lexed, at: usize) -> Result<(FieldType, usize), Stop>
+    ensures read { Parses source.now (λ x. (parts_of x.0, x.1)) result (type_at (lexemes_at source.now at)) }
     ensures within { IfOk result (λ x. (at < x.1) × (x.1 ≤ length source.now.tokens.now)) }
 {
     if source.is(at, TokenKind::OpenBracket) {
@@ -133,16 +133,12 @@ fn read_type(alloc: Global, source: &Source, at: usize) -> Result<(FieldType, us
 }
 
 #[tactic(auto, unfolding(crate::specs::SchemaReading::field_at))]
-fn read_field(
-    alloc: Global,
-    source: &Source,
-    at: usize,
-) -> Result<(FieldDefinition, usize), Stopped>
-    ensures read { Reads source.now (λ x. (field_of x.0, x.1)) result (field_at (words source.now at)) }
+fn read_field(alloc: Global, source: &Lexed, at: usize) -> Result<(FieldDefinition, usize), Stop>
+    ensures read { Parses source.now (λ x. (field_of x.0, x.1)) result (field_at (lexemes_at source.now at)) }
     ensures within { IfOk result (λ x. (at < x.1) × (x.1 ≤ length source.now.tokens.now)) }
 {
     let (name, end) = source.name(alloc, at)?;
-    let start = source.wants(end, TokenKind::Colon)?;
+    let start = source.expects(end, TokenKind::Colon)?;
     let (of, end) = read_type(alloc, source, start)?;
     Ok((
         FieldDefinition {
@@ -158,10 +154,10 @@ fn read_field(
 // The fields up to the closing brace.
 fn read_fields(
     alloc: Global,
-    source: &Source,
+    source: &Lexed,
     start: usize,
-) -> Result<(Vec<FieldDefinition>, usize), Stopped>
-    ensures read { Reads source.now (λ x. (fields_of x.0.items, x.1)) result (many (until CloseBrace) field_at (words source.now start)) }
+) -> Result<(Vec<FieldDefinition>, usize), Stop>
+    ensures read { Parses source.now (λ x. (fields_of x.0.items, x.1)) result (repeated (before CloseBrace) field_at (lexemes_at source.now start)) }
     ensures within { IfOk result (λ x. start ≤ x.1) }
 {
     let mut fields = Vec::new(alloc);
@@ -177,27 +173,27 @@ fn read_fields(
 #[tactic(auto, unfolding(crate::specs::SchemaReading::definition_at))]
 fn read_definition(
     alloc: Global,
-    source: &Source,
+    source: &Lexed,
     at: usize,
-) -> Result<(TypeDefinition, usize), Stopped>
-    ensures read { Reads source.now (λ x. (type_of x.0, x.1)) result (definition_at (words source.now at)) }
+) -> Result<(TypeDefinition, usize), Stop>
+    ensures read { Parses source.now (λ x. (type_of x.0, x.1)) result (definition_at (lexemes_at source.now at)) }
     ensures within { IfOk result (λ x. (at < x.1) × (x.1 ≤ length source.now.tokens.now)) }
 {
     let start = source.keyword(at, "type")?;
     let (name, end) = source.name(alloc, start)?;
-    let start = source.wants(end, TokenKind::OpenBrace)?;
+    let start = source.expects(end, TokenKind::OpenBrace)?;
     let (fields, close) = read_fields(alloc, source, start)?;
-    let end = source.wants(close, TokenKind::CloseBrace)?;
+    let end = source.expects(close, TokenKind::CloseBrace)?;
     Ok((TypeDefinition { name, fields }, end))
 }
 
 /// The object types that all the tokens of a source define.
-pub fn read_types(alloc: Global, source: &Source) -> Result<Vec<TypeDefinition>, Stopped>
-    ensures read { Reads source.now (λ types. (types_of types.items, length source.now.tokens.now)) result (schema_at (words source.now 0)) }
+pub fn read_types(alloc: Global, source: &Lexed) -> Result<Vec<TypeDefinition>, Stop>
+    ensures read { Parses source.now (λ types. (types_of types.items, length source.now.tokens.now)) result (schema_at (lexemes_at source.now 0)) }
 {
     let mut types = Vec::new(alloc);
     let mut at = 0;
-    'types: while source.goes_on(at) {
+    'types: while source.has_more(at) {
         let (of, end) = read_definition(alloc, source, at)?;
         types.push(of)?;
         at = end;

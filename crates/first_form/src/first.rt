@@ -6,13 +6,13 @@ ghost use Rattle.static_cost.specs.FirstPlan.{AllSized};
 ghost use Rattle.first_form.specs.Schemas.{TypeTree, schema_words, are_sized, is_schema, HasFirstSchema};
 ghost use Rattle.first_form.specs.Documents.{HasFirstDocument, HaveFirstForm, IsRefusedDocument, AreSmall, name_of_part};
 ghost use Rattle.first_form.specs.Faults.{stopped_of, fault_of, SpellsSchema, SpellsDocument};
-ghost use Rattle.first_form.specs.Sources.{words};
+ghost use Rattle.first_form.specs.LexedTexts.{lexemes_at};
 ghost use Rattle.first_form.specs.Views.{types_of};
 
 use crate::checks::{is_schema, type_named};
 use crate::definition::{TypeDefinition, read_types};
+use crate::lexed::{Lexed, Stop};
 use crate::selection::read_set;
-use crate::source::{Source, Stopped};
 use gql_base::{LexFault, lex};
 use static_cost::FirstNode;
 use std::alloc::Global;
@@ -47,38 +47,38 @@ pub enum FirstFault {
     Memory,
 }
 
-impl From<LexFault> for Stopped {
+impl From<LexFault> for Stop {
     ghost use Rattle.first_form.specs.Faults.{stopped_of};
 
     ghost from_gives = { λ fault stopped. stopped ≡ stopped_of fault };
 
-    fn from(fault: LexFault) -> Stopped {
+    fn from(fault: LexFault) -> Stop {
         match fault {
-            LexFault::BadChar { .. } => Stopped::NotBuilt,
-            LexFault::Memory => Stopped::Memory,
+            LexFault::BadChar { .. } => Stop::NotBuilt,
+            LexFault::Memory => Stop::Memory,
         }
     }
 }
 
 // The types of a schema, of which all tokens are.
-fn read_schema_tokens(alloc: Global, source: &Source) -> Result<Vec<TypeDefinition>, Stopped>
-    ensures found { IfOk result (λ types. SpellsSchema (words source.now 0) (types_of types.items)) }
-    ensures only { IsErrOf result Stopped.NotBuilt → (types : List TypeTree) → SpellsSchema (words source.now 0) types → ⊥ }
+fn read_schema_tokens(alloc: Global, source: &Lexed) -> Result<Vec<TypeDefinition>, Stop>
+    ensures found { IfOk result (λ types. SpellsSchema (lexemes_at source.now 0) (types_of types.items)) }
+    ensures only { IsErrOf result Stop.NotBuilt → (types : List TypeTree) → SpellsSchema (lexemes_at source.now 0) types → ⊥ }
 {
     let types = read_types(alloc, source)?;
     if is_schema(&types) {
         Ok(types)
     } else {
-        Err(Stopped::NotBuilt)
+        Err(Stop::NotBuilt)
     }
 }
 
-fn read_schema(alloc: Global, text: &str) -> Result<Vec<TypeDefinition>, Stopped>
+fn read_schema(alloc: Global, text: &str) -> Result<Vec<TypeDefinition>, Stop>
     ensures found { IfOk result (λ types. HasFirstSchema text.now (types_of types.items)) }
-    ensures only { IsErrOf result Stopped.NotBuilt → (types : List TypeTree) → HasFirstSchema text.now types → ⊥ }
+    ensures only { IsErrOf result Stop.NotBuilt → (types : List TypeTree) → HasFirstSchema text.now types → ⊥ }
 {
     let tokens = lex(alloc, text)?;
-    let source = Source {
+    let source = Lexed {
         text,
         tokens: &tokens,
     };
@@ -88,18 +88,18 @@ fn read_schema(alloc: Global, text: &str) -> Result<Vec<TypeDefinition>, Stopped
 // The nodes of a document, of which all tokens are.
 fn read_document_tokens(
     alloc: Global,
-    source: &Source,
+    source: &Lexed,
     types: &[TypeDefinition],
-) -> Result<Vec<FirstNode>, Stopped>
-    ensures found { IfOk result (λ nodes. SpellsDocument (types_of types.now) (words source.now 0) (firsts_of nodes.items)) }
-    ensures only { IsErrOf result Stopped.NotBuilt → (nodes : Firsts) → SpellsDocument (types_of types.now) (words source.now 0) nodes → ⊥ }
+) -> Result<Vec<FirstNode>, Stop>
+    ensures found { IfOk result (λ nodes. SpellsDocument (types_of types.now) (lexemes_at source.now 0) (firsts_of nodes.items)) }
+    ensures only { IsErrOf result Stop.NotBuilt → (nodes : Firsts) → SpellsDocument (types_of types.now) (lexemes_at source.now 0) nodes → ⊥ }
 {
     let Some(query) = type_named(types, "Query") else {
-        return Err(Stopped::NotBuilt);
+        return Err(Stop::NotBuilt);
     };
     let (nodes, end) = read_set(alloc, source, 0, types, &query.fields, MOST_OPEN)?;
-    if source.goes_on(end) {
-        Err(Stopped::NotBuilt)
+    if source.has_more(end) {
+        Err(Stop::NotBuilt)
     } else {
         Ok(nodes)
     }
@@ -109,34 +109,30 @@ fn read_document(
     alloc: Global,
     text: &str,
     types: &[TypeDefinition],
-) -> Result<Vec<FirstNode>, Stopped>
+) -> Result<Vec<FirstNode>, Stop>
     ensures found { IfOk result (λ nodes. HasFirstDocument (types_of types.now) text.now (firsts_of nodes.items)) }
-    ensures only { IsErrOf result Stopped.NotBuilt → (nodes : Firsts) → HasFirstDocument (types_of types.now) text.now nodes → ⊥ }
+    ensures only { IsErrOf result Stop.NotBuilt → (nodes : Firsts) → HasFirstDocument (types_of types.now) text.now nodes → ⊥ }
 {
     let tokens = lex(alloc, text)?;
-    let source = Source {
+    let source = Lexed {
         text,
         tokens: &tokens,
     };
     read_document_tokens(alloc, &source, types)
 }
 
-fn fault_of(stopped: Stopped, which: FirstPart) -> FirstFault
+fn fault_of(stopped: Stop, which: FirstPart) -> FirstFault
     ensures { result ≡ fault_of stopped which }
 {
     match stopped {
-        Stopped::NotBuilt => FirstFault::NotBuilt { which },
-        Stopped::Memory => FirstFault::Memory,
+        Stop::NotBuilt => FirstFault::NotBuilt { which },
+        Stop::Memory => FirstFault::Memory,
     }
 }
 
 /// The nodes of the operation that `document` is, over the types of `schema`, where both have the first form.
 /// The schema is looked at first.
-pub fn read_first(
-    alloc: Global,
-    schema: &str,
-    document: &str,
-) -> Result<Vec<FirstNode>, FirstFault>
+pub fn read_first(alloc: Global, schema: &str, document: &str) -> Result<Vec<FirstNode>, FirstFault>
     ensures nodes { IfOk result (λ nodes. HaveFirstForm schema.now document.now (firsts_of nodes.items)) }
     // What the bound of an operation asks: each list of objects has a size.
     ensures sized { IfOk result (λ nodes. AllSized nodes.items) }

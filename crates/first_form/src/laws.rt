@@ -4,7 +4,7 @@ ghost use Rattle.std.specs.Prelude.{◌≡◌, ℕ, List};
 ghost use Rattle.gql_base.specs.Tokens.{HasLexemes};
 ghost use Rattle.static_cost.specs.Nodes.{Firsts};
 ghost use Rattle.first_form.specs.Schemas.{TypeTree, HasFirstSchema};
-ghost use Rattle.first_form.specs.Documents.{Selections, document_words, HasFirstDocument, HaveFirstForm};
+ghost use Rattle.first_form.specs.Documents.{Selections, document_words, IsDocumentFor, HasFirstDocument, HaveFirstForm};
 
 use gql_base::a_text_lexes_in_one_way;
 
@@ -29,3 +29,9 @@ pub fn a_document_stands_for_one_operation()
 {
     a_text_lexes_in_one_way();
 }
+
+/// A document is one of the first form for a schema with these types exactly where some nodes stand for it.
+pub fn a_document_fits_where_nodes_stand_for_it()
+    ensures stand { (types : List TypeTree) (text : List ℕ) (document : Selections) → HasLexemes text (document_words document) → IsDocumentFor types document → (nodes : Firsts) × HasFirstDocument types text nodes }
+    ensures fits { (types : List TypeTree) (text : List ℕ) (nodes : Firsts) → HasFirstDocument types text nodes → (document : Selections) × HasLexemes text (document_words document) × IsDocumentFor types document }
+{}

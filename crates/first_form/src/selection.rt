@@ -5,15 +5,15 @@ ghost use Rattle.gql_base.specs.declared.token.TokenKind.TheVariants.{CloseBrace
 ghost use Rattle.static_cost.specs.Nodes.{first_of, firsts_of};
 ghost use Rattle.first_form.specs.Schemas.{kind_of, type_named};
 ghost use Rattle.first_form.specs.Documents.{list_of, size_of};
-ghost use Rattle.first_form.specs.Reading.{many, until};
+ghost use Rattle.first_form.specs.Reading.{repeated, before};
 ghost use Rattle.first_form.specs.DocumentReading.{node_with, set_of, below_at, selection_at, is_set, opened_at, set_at};
-ghost use Rattle.first_form.specs.Sources.{words, Reads};
+ghost use Rattle.first_form.specs.LexedTexts.{lexemes_at, Parses};
 ghost use Rattle.first_form.specs.Views.{field_of, fields_of, types_of};
 
 use crate::checks::{field_named, kind_of, type_named};
 use crate::definition::{FieldDefinition, TypeDefinition};
+use crate::lexed::{Lexed, Stop};
 use crate::named::are_distinct;
-use crate::source::{Source, Stopped};
 use gql_base::{Text, TokenKind};
 use static_cost::{FirstKind, FirstList, FirstNode};
 use std::alloc::Global;
@@ -70,17 +70,17 @@ fn is_set(nodes: &[FirstNode]) -> bool
 #[cycle(sets)]
 pub fn read_set(
     alloc: Global,
-    source: &Source,
+    source: &Lexed,
     at: usize,
     types: &[TypeDefinition],
     fields: &[FieldDefinition],
     levels: usize,
-) -> Result<(Vec<FirstNode>, usize), Stopped>
-    ensures read { Reads source.now (λ x. (firsts_of x.0.items, x.1)) result (set_at (types_of types.now) levels (fields_of fields.now) (words source.now at)) }
+) -> Result<(Vec<FirstNode>, usize), Stop>
+    ensures read { Parses source.now (λ x. (firsts_of x.0.items, x.1)) result (set_at (types_of types.now) levels (fields_of fields.now) (lexemes_at source.now at)) }
     ensures within { IfOk result (λ x. (at < x.1) × (x.1 ≤ length source.now.tokens.now)) }
 {
     if levels == 0 {
-        return Err(Stopped::NotBuilt);
+        return Err(Stop::NotBuilt);
     }
     read_opened(alloc, source, at, types, fields, levels - 1)
 }
@@ -90,22 +90,22 @@ pub fn read_set(
 #[tactic(auto, unfolding(crate::specs::DocumentReading::opened_at))]
 fn read_opened(
     alloc: Global,
-    source: &Source,
+    source: &Lexed,
     at: usize,
     types: &[TypeDefinition],
     fields: &[FieldDefinition],
     levels: usize,
-) -> Result<(Vec<FirstNode>, usize), Stopped>
-    ensures read { Reads source.now (λ x. (firsts_of x.0.items, x.1)) result (opened_at (types_of types.now) (set_at (types_of types.now) levels) (fields_of fields.now) (words source.now at)) }
+) -> Result<(Vec<FirstNode>, usize), Stop>
+    ensures read { Parses source.now (λ x. (firsts_of x.0.items, x.1)) result (opened_at (types_of types.now) (set_at (types_of types.now) levels) (fields_of fields.now) (lexemes_at source.now at)) }
     ensures within { IfOk result (λ x. (at < x.1) × (x.1 ≤ length source.now.tokens.now)) }
 {
-    let start = source.wants(at, TokenKind::OpenBrace)?;
+    let start = source.expects(at, TokenKind::OpenBrace)?;
     let (nodes, close) = read_selections(alloc, source, start, types, fields, levels)?;
-    let end = source.wants(close, TokenKind::CloseBrace)?;
+    let end = source.expects(close, TokenKind::CloseBrace)?;
     if is_set(&nodes) {
         Ok((nodes, end))
     } else {
-        Err(Stopped::NotBuilt)
+        Err(Stop::NotBuilt)
     }
 }
 
@@ -113,13 +113,13 @@ fn read_opened(
 #[cycle(sets)]
 fn read_selections(
     alloc: Global,
-    source: &Source,
+    source: &Lexed,
     start: usize,
     types: &[TypeDefinition],
     fields: &[FieldDefinition],
     levels: usize,
-) -> Result<(Vec<FirstNode>, usize), Stopped>
-    ensures read { Reads source.now (λ x. (map first_of x.0.items, x.1)) result (many (until CloseBrace) (selection_at (types_of types.now) (set_at (types_of types.now) levels) (fields_of fields.now)) (words source.now start)) }
+) -> Result<(Vec<FirstNode>, usize), Stop>
+    ensures read { Parses source.now (λ x. (map first_of x.0.items, x.1)) result (repeated (before CloseBrace) (selection_at (types_of types.now) (set_at (types_of types.now) levels) (fields_of fields.now)) (lexemes_at source.now start)) }
     ensures within { IfOk result (λ x. start ≤ x.1) }
 {
     let mut nodes = Vec::new(alloc);
@@ -137,18 +137,18 @@ fn read_selections(
 #[tactic(auto, unfolding(crate::specs::DocumentReading::selection_at))]
 fn read_selection(
     alloc: Global,
-    source: &Source,
+    source: &Lexed,
     at: usize,
     types: &[TypeDefinition],
     fields: &[FieldDefinition],
     levels: usize,
-) -> Result<(FirstNode, usize), Stopped>
-    ensures read { Reads source.now (λ x. (first_of x.0, x.1)) result (selection_at (types_of types.now) (set_at (types_of types.now) levels) (fields_of fields.now) (words source.now at)) }
+) -> Result<(FirstNode, usize), Stop>
+    ensures read { Parses source.now (λ x. (first_of x.0, x.1)) result (selection_at (types_of types.now) (set_at (types_of types.now) levels) (fields_of fields.now) (lexemes_at source.now at)) }
     ensures within { IfOk result (λ x. (at < x.1) × (x.1 ≤ length source.now.tokens.now)) }
 {
     let (key, end) = source.name(alloc, at)?;
     let Some(field) = field_named(fields, key.as_str()) else {
-        return Err(Stopped::NotBuilt);
+        return Err(Stop::NotBuilt);
     };
     let (below, end) = read_below(alloc, source, end, types, field.named.as_str(), levels)?;
     Ok((node_of(field, key, below), end))
@@ -158,20 +158,20 @@ fn read_selection(
 #[cycle(sets)]
 fn read_below(
     alloc: Global,
-    source: &Source,
+    source: &Lexed,
     at: usize,
     types: &[TypeDefinition],
     named: &str,
     levels: usize,
-) -> Result<(Vec<FirstNode>, usize), Stopped>
-    ensures read { Reads source.now (λ x. (firsts_of x.0.items, x.1)) result (below_at (kind_of named.now) (set_of (set_at (types_of types.now) levels) (type_named (types_of types.now) named.now)) (words source.now at)) }
+) -> Result<(Vec<FirstNode>, usize), Stop>
+    ensures read { Parses source.now (λ x. (firsts_of x.0.items, x.1)) result (below_at (kind_of named.now) (set_of (set_at (types_of types.now) levels) (type_named (types_of types.now) named.now)) (lexemes_at source.now at)) }
     ensures within { IfOk result (λ x. at ≤ x.1) }
     ensures inside { IfOk result (λ x. at ≤ length source.now.tokens.now → x.1 ≤ length source.now.tokens.now) }
 {
     match kind_of(named) {
         FirstKind::Object => match type_named(types, named) {
             Some(of) => read_set(alloc, source, at, types, &of.fields, levels),
-            None => Err(Stopped::NotBuilt),
+            None => Err(Stop::NotBuilt),
         },
         _ => Ok((Vec::new(alloc), at)),
     }

@@ -37,14 +37,23 @@ fn told(alloc: Global, schema: &str, document: &str) -> Result<String, Fail> {
     let mut told = String::new(alloc);
     match read_first(alloc, schema, document) {
         Ok(nodes) => tell_nodes(&mut told, &nodes, TOLD)?,
-        Err(FirstFault::NotBuilt { which: FirstPart::Schema }) => write!(told, "schema")?,
-        Err(FirstFault::NotBuilt { which: FirstPart::Document }) => write!(told, "document")?,
+        Err(
+            FirstFault::NotBuilt {
+                which: FirstPart::Schema,
+            },
+        ) => write!(told, "schema")?,
+        Err(
+            FirstFault::NotBuilt {
+                which: FirstPart::Document,
+            },
+        ) => write!(told, "document")?,
         Err(FirstFault::Memory) => write!(told, "memory")?,
     }
     Ok(told)
 }
 
-const USERS: &str = "type Query { user: User } type User { id: ID! friends: [User!]! @listSize(assumedSize: 3) }";
+const USERS: &str =
+    "type Query { user: User } type User { id: ID! friends: [User!]! @listSize(assumedSize: 3) }";
 
 #[test]
 fn two_texts_stand_for_nodes(rt: HostRuntime) -> Result<(), Fail> {
@@ -90,7 +99,11 @@ fn two_texts_stand_for_nodes(rt: HostRuntime) -> Result<(), Fail> {
         ),
         ("type Query { _a: Int }", "{ _a }", "_a:Int{}"),
     ] {
-        assert_eq!(rt; told(rt.alloc(), schema, document)?.as_str(), nodes, "{document}");
+        assert_eq!(rt;
+            told(rt.alloc(), schema, document)?.as_str(),
+            nodes,
+            "{document}"
+        );
     }
     Ok(())
 }
@@ -153,7 +166,11 @@ fn schemas_that_are_none(rt: HostRuntime) -> Result<(), Fail> {
         "type Query { a: [Int] @listSize(assumedSize: 3) @listSize(assumedSize: 3) }",
         "type Query { a: [Int] @listSize(assumedSize: 3)! }",
     ] {
-        assert_eq!(rt; told(rt.alloc(), schema, "{ a }")?.as_str(), "schema", "{schema}");
+        assert_eq!(rt;
+            told(rt.alloc(), schema, "{ a }")?.as_str(),
+            "schema",
+            "{schema}"
+        );
     }
     Ok(())
 }
@@ -193,7 +210,11 @@ fn documents_that_are_none(rt: HostRuntime) -> Result<(), Fail> {
         "{ user { id } } ?",
         "{ us\u{e9}r { id } }",
     ] {
-        assert_eq!(rt; told(rt.alloc(), USERS, document)?.as_str(), "document", "{document}");
+        assert_eq!(rt;
+            told(rt.alloc(), USERS, document)?.as_str(),
+            "document",
+            "{document}"
+        );
     }
     assert_eq!(rt; told(rt.alloc(), "type Query", "{ }")?.as_str(), "schema");
     assert_eq!(rt; told(rt.alloc(), "?", "?")?.as_str(), "schema");
@@ -221,9 +242,15 @@ fn fifty_sets_may_be_open(rt: HostRuntime) -> Result<(), Fail> {
     assert!(rt; nodes.as_str().starts_with("a:Object{a:Object{a:Object{"));
     assert!(rt; nodes.as_str() != "document");
     let deeper = nested(rt.alloc(), 51)?;
-    assert_eq!(rt; told(rt.alloc(), schema, deeper.as_str())?.as_str(), "document");
+    assert_eq!(rt;
+        told(rt.alloc(), schema, deeper.as_str())?.as_str(),
+        "document"
+    );
     // sets beside one another are not open at one place
     let beside = "type Query { a: Query b: Query c: Int }";
-    assert_eq!(rt; told(rt.alloc(), beside, "{ a { c } b { c } }")?.as_str(), "a:Object{c:Int{}}b:Object{c:Int{}}");
+    assert_eq!(rt;
+        told(rt.alloc(), beside, "{ a { c } b { c } }")?.as_str(),
+        "a:Object{c:Int{}}b:Object{c:Int{}}"
+    );
     Ok(())
 }

@@ -5,6 +5,7 @@ use Rattle.first_form.specs.Documents.{HasFirstDocument, IsRefusedDocument}
 use Rattle.first_form.specs.declared.first.FirstPart.TheVariants.{Schema, Document}
 use Rattle.first_form.specs.declared.first.FirstFault.{FirstFault}
 use Rattle.first_form.specs.declared.first.FirstFault.TheVariants.{NotBuilt, Memory}
+use Rattle.first_form.proofs.Fitting.{document_fits}
 use Rattle.static_cost.specs.declared.first.FirstNode.{FirstNode}
 use Rattle.gateway_cli.specs.declared.operation.TheConstants.{SCHEMA_LIMIT}
 use Rattle.gateway_cli.specs.declared.operation.Refusal.{Refusal}
@@ -22,7 +23,9 @@ refused_reading schema document s d (NotBuilt Document) same_schema same_documen
     let r = no_document refl in record {
       types = r.types;
       of_schema = record { text = text; form = subst (λ x. HasFirstSchema x r.types) same_schema r.of_schema };
-      refused = λ nodes held. r.refused nodes (subst (λ x. HasFirstDocument r.types x nodes) (sym same_document) held.form);
+      refused = λ nodes held.
+        let fitting = document_fits r.types d nodes (subst (λ x. HasFirstDocument r.types x nodes) (sym same_document) held.form) in
+        r.refused fitting.0 fitting.1 fitting.2;
     }
 refused_reading schema document s d Memory same_schema same_document text no_schema no_document = tt
 

@@ -9,7 +9,7 @@ use Rattle.static_cost.specs.declared.bound.TooCostly.{TooCostly}
 use Rattle.static_cost.specs.Leaves.{holds}
 use Rattle.static_cost.specs.FirstPlan.{plan_of}
 
--- The cost is the bound: each component is the greatest of all responses of the operation, whose lists keep their declared sizes.
+-- The cost is the bound: each component is the greatest that a response to the operation has whose lists keep their declared sizes.
 pub record IsBoundOf (nodes : List FirstNode) (bound : Cost) : Type 0 where
   pub of_types : IsBound holds types (plan_of nodes) bound.types
   pub of_fields : IsBound holds fields (plan_of nodes) bound.fields

@@ -1,16 +1,16 @@
 use Rattle.std.proofs.Common.{◌≡◌, ◌≤◌, ◌-◌, length}
 use Rattle.gql_base.specs.declared.token.TokenKind.TheVariants.{CloseBrace}
-use Rattle.first_form.specs.Reading.{many, until}
+use Rattle.first_form.specs.Reading.{repeated, before}
 use Rattle.first_form.specs.SchemaReading.{field_at}
-use Rattle.first_form.specs.Sources.{words}
+use Rattle.first_form.specs.LexedTexts.{lexemes_at}
 use Rattle.first_form.specs.Views.{fields_of}
-use Rattle.first_form.proofs.Loops.{with_front}
+use Rattle.first_form.proofs.Loops.{continued}
 use Rattle.first_form.proofs.definition.read_fields.Given as goal
 
 -- The fields so far, and those that are read from here on, are all.
 abbrev pub invariant-fields : goal.invariant-fields
 invariant-fields l = record {
-  same : with_front (fields_of l.fields.items) (many (until CloseBrace) field_at (words l.source l.at)) ≡ many (until CloseBrace) field_at (words l.source l.start);
+  same : continued (fields_of l.fields.items) (repeated (before CloseBrace) field_at (lexemes_at l.source l.at)) ≡ repeated (before CloseBrace) field_at (lexemes_at l.source l.start);
   after : l.start ≤ l.at;
 }
 

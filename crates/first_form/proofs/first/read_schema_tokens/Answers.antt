@@ -1,4 +1,4 @@
-use Rattle.std.proofs.Common.{◌∙◌, ap, sym, length, arith, Err}
+use Rattle.std.proofs.Common.{◌∙◌, ap, sym, length, arith}
 use Rattle.std.proofs.lemmas.Result.{err_from_is_err_and}
 use Rattle.first_form.specs.Schemas.{is_schema}
 use Rattle.first_form.specs.Views.{types_of}
@@ -15,7 +15,7 @@ returns-in_err-types-clause-only c = λ e types is.
 pub returns-then-is_schema-clause-found : goal.returns-then-is_schema-clause-found
 returns-then-is_schema-clause-found c =
     schema_found _ _ _ c.in_ok-types.ensures.read (words_none c.args.source.now (length c.args.source.now.tokens.now) (omega arith))
-        (ap (λ l. is_schema (types_of l)) (sym c.deref.ensures.value) ∙ (sym c.is_schema.ensures ∙ c.if-is_schema.true))
+    (ap (λ l. is_schema (types_of l)) (sym c.deref.ensures.value) ∙ (sym c.is_schema.ensures ∙ c.if-is_schema.true))
 
 pub returns-else-is_schema-clause-only : goal.returns-else-is_schema-clause-only
 returns-else-is_schema-clause-only c = λ e types is.

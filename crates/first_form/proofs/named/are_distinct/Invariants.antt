@@ -1,4 +1,4 @@
-use Rattle.std.proofs.Common.{◌≡◌, ℕ, map, length}
+use Rattle.std.proofs.Common.{◌≡◌, map, length}
 use Rattle.first_form.specs.Schemas.{are_distinct}
 use Rattle.first_form.proofs.named.are_distinct.Given as goal
 

@@ -1,11 +1,11 @@
 use Rattle.std.proofs.Common.{◌≡◌, ◌≤◌, ◌+◌, ◌*◌, ◌-◌, length, map}
 use Rattle.gql_base.specs.declared.token.TokenKind.TheVariants.{CloseBrace}
 use Rattle.static_cost.specs.Nodes.{first_of}
-use Rattle.first_form.specs.Reading.{many, until}
+use Rattle.first_form.specs.Reading.{repeated, before}
 use Rattle.first_form.specs.DocumentReading.{selection_at, set_at}
-use Rattle.first_form.specs.Sources.{words}
+use Rattle.first_form.specs.LexedTexts.{lexemes_at}
 use Rattle.first_form.specs.Views.{fields_of, types_of}
-use Rattle.first_form.proofs.Loops.{with_front}
+use Rattle.first_form.proofs.Loops.{continued}
 use Rattle.first_form.proofs.selection.+sets.Given as goal
 
 -- Each call has fewer levels left, or is of a smaller part at the same level.
@@ -27,7 +27,7 @@ decreases-read_opened l = 5 * l.levels + 4
 -- The nodes so far, and those that are read from here on, are all.
 abbrev pub invariant-read_selections-nodes : goal.invariant-read_selections-nodes
 invariant-read_selections-nodes l = record {
-  same : with_front (map first_of l.nodes.items) (many (until CloseBrace) (selection_at (types_of l.types) (set_at (types_of l.types) l.levels) (fields_of l.fields)) (words l.source l.at)) ≡ many (until CloseBrace) (selection_at (types_of l.types) (set_at (types_of l.types) l.levels) (fields_of l.fields)) (words l.source l.start);
+  same : continued (map first_of l.nodes.items) (repeated (before CloseBrace) (selection_at (types_of l.types) (set_at (types_of l.types) l.levels) (fields_of l.fields)) (lexemes_at l.source l.at)) ≡ repeated (before CloseBrace) (selection_at (types_of l.types) (set_at (types_of l.types) l.levels) (fields_of l.fields)) (lexemes_at l.source l.start);
   after : l.start ≤ l.at;
 }
 
