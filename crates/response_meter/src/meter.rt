@@ -6,7 +6,7 @@ ghost use Rattle.cost_num.specs.declared.TheConstants.{CAP};
 ghost use Rattle.cost_num.specs.declared.Cost.{Cost as CostType};
 ghost use Rattle.response_model.specs.Cost.{types, fields};
 ghost use Rattle.response_model.specs.Bound.{Exceeds};
-ghost use Rattle.static_cost.specs.FirstPlan.{plan_of, AllSized};
+ghost use Rattle.static_cost.specs.FirstPlan.{plan_of};
 ghost use Rattle.static_cost.specs.FirstBound.{IsBoundOf, IsWithinCap};
 ghost use Rattle.response_meter.specs.declared.fault.Why.TheVariants.{NotJson};
 ghost use Rattle.response_meter.specs.Faults.{Tells, given};
@@ -32,9 +32,8 @@ use std::alloc::Global;
 /// What a reply to an operation of the first form cost, value by value, and the text that its client is
 /// answered: its error messages and paths and its data, and nothing else.
 ///
-/// Each list of objects must have a declared size, and the bound of the operation must be at most `CAP`
-/// in both components, as where `first_bound` gives a cost. The cost of the reply is then at most that
-/// bound.
+/// The bound of the operation must be at most `CAP` in both components, as it is where `first_bound`
+/// gives a cost. The cost of the reply is then at most that bound.
 ///
 /// # Errors
 ///
@@ -46,8 +45,7 @@ pub fn first_meter(
     nodes: &[FirstNode],
     body: &[u8],
 ) -> Result<FirstMetered, MeterFault>
-    requires sized { AllSized nodes.now }
-    requires bounded { (bound : CostType) × IsBoundOf nodes.now bound × IsWithinCap bound }
+    requires { (bound : CostType) × IsBoundOf nodes.now bound × IsWithinCap bound }
     ensures metered { IfOk result (IsMetered (plan_of nodes.now) body.now) }
     ensures passed { IfOk result (λ metered. first_fault (plan_of nodes.now) body.now ≡ None) }
     ensures fault { IfErr result (λ fault. Tells fault (first_fault (plan_of nodes.now) body.now)) }

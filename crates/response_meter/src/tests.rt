@@ -1,72 +1,126 @@
 //! Replies and what is measured of them.
+
+ghost use Rattle.std.specs.Prelude.{IfOk};
+ghost use Rattle.static_cost.specs.FirstPlan.{AllSized, HasSize};
+
 use crate::{FirstMetered, MeterFault, Why, first_meter};
 use gql_base::Text;
-use static_cost::{FirstKind, FirstList, FirstNode};
+use static_cost::{FirstKind, FirstList, FirstNode, first_bound};
 use std::alloc::{AllocError, Global};
 use std::test::Fail;
 
-/// A field of a scalar type, not null and no list.
-fn leaf(alloc: Global, key: &str, kind: FirstKind) -> Result<FirstNode, AllocError> {
-    Ok(FirstNode {
-        key: Text::copy_of(alloc, key)?,
-        kind,
-        nullable: false,
-        list: None,
-        below: Vec::new(alloc),
-    })
-}
-
-/// A field of an object type that may be null, with one field below it.
-fn parent(
+/// The selection set with one more field at its front.
+fn with(
     alloc: Global,
     key: &str,
+    kind: FirstKind,
     list: Option<FirstList>,
-    child: FirstNode,
-) -> Result<FirstNode, AllocError> {
-    let mut below = Vec::new(alloc);
-    below.push(child)?;
-    Ok(FirstNode {
-        key: Text::copy_of(alloc, key)?,
-        kind: FirstKind::Object,
-        nullable: true,
-        list,
-        below,
-    })
+    below: Vec<FirstNode>,
+    others: Vec<FirstNode>,
+) -> Result<Vec<FirstNode>, Fail>
+    requires list { HasSize kind list }
+    requires below { AllSized below.items }
+    requires others { AllSized others.items }
+    ensures { IfOk result (λ nodes. AllSized nodes.items) }
+{
+    let mut nodes = others;
+    nodes.insert(
+        0,
+        FirstNode {
+            key: Text::copy_of(alloc, key)?,
+            kind,
+            nullable: is_object(kind),
+            list,
+            below,
+        },
+    )?;
+    Ok(nodes)
+}
+
+/// Whether it is the kind of an object.
+fn is_object(kind: FirstKind) -> bool {
+    match kind {
+        FirstKind::Object => true,
+        _ => false,
+    }
+}
+
+/// With a scalar, which is not null.
+fn scalar(
+    alloc: Global,
+    key: &str,
+    kind: FirstKind,
+    others: Vec<FirstNode>,
+) -> Result<Vec<FirstNode>, Fail>
+    requires { AllSized others.items }
+    ensures { IfOk result (λ nodes. AllSized nodes.items) }
+{
+    with(alloc, key, kind, None, Vec::new(alloc), others)
 }
 
 /// `{ user { friends { id } } }`, where a user has at most three friends, none of them null.
-fn friends(alloc: Global) -> Result<Vec<FirstNode>, AllocError> {
-    let list = FirstList {
+fn friends(alloc: Global) -> Result<Vec<FirstNode>, Fail>
+    ensures { IfOk result (λ nodes. AllSized nodes.items) }
+{
+    let id = scalar(alloc, "id", FirstKind::Id, Vec::new(alloc))?;
+    let three = FirstList {
         size: Some(3),
         nullable: false,
     };
-    let ids = parent(
+    let friends = with(
         alloc,
         "friends",
-        Some(list),
-        leaf(alloc, "id", FirstKind::Id)?,
+        FirstKind::Object,
+        Some(three),
+        id,
+        Vec::new(alloc),
     )?;
-    let mut nodes = Vec::new(alloc);
-    nodes.push(parent(alloc, "user", None, ids)?)?;
-    Ok(nodes)
+    with(
+        alloc,
+        "user",
+        FirstKind::Object,
+        None,
+        friends,
+        Vec::new(alloc),
+    )
 }
 
 /// `{ n s b i l o { s } }`: one field of each scalar type, a list of any length of integers that may be
 /// null, and an object.
-fn scalars(alloc: Global) -> Result<Vec<FirstNode>, AllocError> {
-    let mut nodes = Vec::new(alloc);
-    nodes.push(leaf(alloc, "n", FirstKind::Int)?)?;
-    nodes.push(leaf(alloc, "s", FirstKind::Str)?)?;
-    nodes.push(leaf(alloc, "b", FirstKind::Bool)?)?;
-    nodes.push(leaf(alloc, "i", FirstKind::Id)?)?;
-    let mut list = leaf(alloc, "l", FirstKind::Int)?;
-    list.list = Some(FirstList {
+fn scalars(alloc: Global) -> Result<Vec<FirstNode>, Fail>
+    ensures { IfOk result (λ nodes. AllSized nodes.items) }
+{
+    let text = scalar(alloc, "s", FirstKind::Str, Vec::new(alloc))?;
+    let nodes = with(alloc, "o", FirstKind::Object, None, text, Vec::new(alloc))?;
+    let any = FirstList {
         size: None,
         nullable: true,
-    });
-    nodes.push(list)?;
-    nodes.push(parent(alloc, "o", None, leaf(alloc, "s", FirstKind::Str)?)?)?;
-    Ok(nodes)
+    };
+    let nodes = with(
+        alloc,
+        "l",
+        FirstKind::Int,
+        Some(any),
+        Vec::new(alloc),
+        nodes,
+    )?;
+    let nodes = scalar(alloc, "i", FirstKind::Id, nodes)?;
+    let nodes = scalar(alloc, "b", FirstKind::Bool, nodes)?;
+    let nodes = scalar(alloc, "s", FirstKind::Str, nodes)?;
+    scalar(alloc, "n", FirstKind::Int, nodes)
+}
+
+/// What is measured of a reply to an operation whose bound is at most the cap.
+fn measured(alloc: Global, nodes: &[FirstNode], body: &[u8]) -> Result<String, Fail>
+    requires { AllSized nodes.now }
+{
+    match first_bound(nodes) {
+        Ok(_bound) => {
+            let found = first_meter(alloc, nodes, body);
+            Ok(line_of(alloc, &found)?)
+        }
+        Err(_) => Ok(String::from_str(alloc, "TooCostly")?),
+    }
 }
 
 /// The name of a test that was not passed.
@@ -207,11 +261,11 @@ fn replies_to_friends(rt: HostRuntime) -> Result<(), Fail> {
         (r#"{"data":1e400}"#, "data NotJson"),
         (r#"{"errors":[{"message":"\ud800"}]}"#, "data NotJson"),
     ] {
-        let found = first_meter(alloc, &nodes, reply.as_bytes());
-        assert_eq!(rt; line_of(alloc, &found)?.as_str(), line, "{reply}");
+        let found = measured(alloc, &nodes, reply.as_bytes())?;
+        assert_eq!(rt; found.as_str(), line, "{reply}");
     }
-    let found = first_meter(alloc, &nodes, b"{\"data\":\"\xff\"}");
-    assert_eq!(rt; line_of(alloc, &found)?.as_str(), "data NotJson");
+    let found = measured(alloc, &nodes, b"{\"data\":\"\xff\"}")?;
+    assert_eq!(rt; found.as_str(), "data NotJson");
     Ok(())
 }
 
@@ -289,8 +343,8 @@ fn replies_of_scalars(rt: HostRuntime) -> Result<(), Fail> {
         ),
     ] {
         let body = format!(in alloc; "{{\"data\":{reply}}}")?;
-        let found = first_meter(alloc, &nodes, body.as_bytes());
-        assert_eq!(rt; line_of(alloc, &found)?.as_str(), line, "{reply}");
+        let found = measured(alloc, &nodes, body.as_bytes())?;
+        assert_eq!(rt; found.as_str(), line, "{reply}");
     }
     Ok(())
 }
@@ -313,8 +367,8 @@ fn deep_replies_are_not_read(rt: HostRuntime) -> Result<(), Fail> {
     let alloc = rt.alloc();
     let nodes = friends(alloc)?;
     for (depth, line) in [(126, "data BadObject"), (127, "data NotJson")] {
-        let found = first_meter(alloc, &nodes, nested(alloc, depth)?.as_bytes());
-        assert_eq!(rt; line_of(alloc, &found)?.as_str(), line, "{depth}");
+        let found = measured(alloc, &nodes, nested(alloc, depth)?.as_bytes())?;
+        assert_eq!(rt; found.as_str(), line, "{depth}");
     }
     Ok(())
 }

@@ -5,7 +5,7 @@ use Rattle.response_meter.proofs.meter.first_meter.Goals as goal
 
 pub returns-in-Ok-clause-metered : goal.returns-in-Ok-clause-metered
 returns-in-Ok-clause-metered c =
-    let b = c.requires.bounded in
+    let b = c.requires in
     found_metered (plan_of c.args.nodes.now) c.args.body.now c.in-Ok.metered b.0.types b.0.fields c.in-Ok.ensures b.1.of_types b.2.of_types b.1.of_fields b.2.of_fields
 
 pub returns-in-Ok-clause-at_most : goal.returns-in-Ok-clause-at_most
