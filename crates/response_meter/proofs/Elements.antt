@@ -1,16 +1,16 @@
 -- The items of a list, one after another.
-use Rattle.std.proofs.Common.{◌≡◌, ◌+◌, ◌<◌, ◌≤◌, ℕ, suc, List, [], ◌∷◌, ◌++◌, length, drop, get_or, Bool, Option, Some, None, Result, Ok, Err, refl, sym, ap, ◌∙◌, subst, arith, drop-cons, codes}
+use Rattle.std.proofs.Common.{◌≡◌, ◌+◌, ◌<◌, ◌≤◌, ℕ, suc, List, [], ◌∷◌, ◌++◌, length, drop, get_or, Bool, Ok, sym, ap, ◌∙◌, subst, arith, drop-cons, codes}
 use Rattle.std.proofs.lemmas.List.{drop_all}
 use Rattle.cost_num.specs.Capped.{capped}
 use Rattle.cost_num.specs.declared.Cost.{Cost}
-use Rattle.serde_json.specs.Data.{Data, Items, no_items, item}
+use Rattle.serde_json.specs.Data.{Data, Items, item}
 use Rattle.serde_json.specs.View.{view, items_view}
 use Rattle.serde_json.specs.declared.value.Value.{Value}
 use Rattle.response_model.specs.Plan.{Plan}
-use Rattle.response_model.specs.Cost.{Part, elements_cost}
+use Rattle.response_model.specs.Cost.{elements_cost}
 use Rattle.response_meter.specs.declared.fault.MeterFault.{MeterFault}
 use Rattle.std.specs.Option.{option_or}
-use Rattle.response_meter.specs.Faults.{Fault, Tells, at_step, item_step}
+use Rattle.response_meter.specs.Faults.{Tells, at_step, item_step}
 use Rattle.response_meter.specs.FirstFault.{null_fault, items_fault}
 use Rattle.response_meter.specs.Trees.{null_tree, items_tree}
 use Rattle.response_meter.specs.Answer.{comma, elements_text}

@@ -1,5 +1,5 @@
 -- A reply passes every test exactly where it reads as a response.
-use Rattle.std.proofs.Common.{◌≡◌, ◌↔◌, ◌<◌, ℕ, List, [], ◌∷◌, length, Bool, true, false, codes, Option, Some, None, refl, sym, ap, ◌∙◌, subst, arith}
+use Rattle.std.proofs.Common.{◌≡◌, ◌↔◌, ◌<◌, ℕ, List, [], ◌∷◌, Bool, true, false, codes, Option, Some, None, refl, sym, ap, ◌∙◌, subst, arith}
 use Rattle.serde_json.specs.Data.{Data, null as json_null, boolean, number, string, array, object as json_object, Members, no_members}
 use Rattle.serde_json.specs.Find.{as_object}
 use Rattle.response_model.specs.Plan.{Plan, single}

@@ -1,21 +1,19 @@
 -- The fields of a selection set, one after another.
-use Rattle.std.proofs.Common.{◌≡◌, ◌+◌, ◌<◌, ℕ, suc, List, [], ◌∷◌, ◌++◌, length, drop, get_or, Bool, true, false, ◌||◌, bytes_eq, Option, Some, None, Result, Ok, Err, refl, sym, ap, ◌∙◌, subst, arith, drop-cons}
+use Rattle.std.proofs.Common.{◌≡◌, ◌+◌, ◌<◌, ℕ, suc, List, [], ◌∷◌, ◌++◌, length, drop, get_or, Bool, true, false, ◌||◌, bytes_eq, Ok, refl, sym, ap, ◌∙◌, subst, arith, drop-cons}
 use Rattle.std.specs.Option.{option_or}
 use Rattle.cost_num.specs.Capped.{capped}
 use Rattle.cost_num.specs.declared.Cost.{Cost}
-use Rattle.serde_json.specs.Data.{Data, Members}
-use Rattle.response_model.specs.Plan.{Plan, Nodes, no_node, node}
-use Rattle.response_model.specs.Cost.{Part, entry_cost, cost, entries_cost}
+use Rattle.serde_json.specs.Data.{Members}
+use Rattle.response_model.specs.Plan.{Nodes}
+use Rattle.response_model.specs.Cost.{entries_cost}
 use Rattle.response_model.specs.Reading.{has_key}
-use Rattle.static_cost.specs.declared.first.FirstKind.{FirstKind}
-use Rattle.static_cost.specs.declared.first.FirstList.{FirstList}
 use Rattle.static_cost.specs.declared.first.FirstNode.{FirstNode}
 use Rattle.static_cost.specs.declared.first.FirstNode.TheViews.{out-FirstNode}
 use Rattle.static_cost.specs.declared.first.FirstNode.TheFolds.{fold_out-FirstNode}
-use Rattle.static_cost.specs.Nodes.{First, first, Firsts, first_step, first_of, firsts_of}
+use Rattle.static_cost.specs.Nodes.{First, first, first_step, first_of, firsts_of}
 use Rattle.static_cost.specs.FirstPlan.{node_then}
 use Rattle.response_meter.specs.declared.fault.MeterFault.{MeterFault}
-use Rattle.response_meter.specs.Faults.{Fault, Tells}
+use Rattle.response_meter.specs.Faults.{Tells}
 use Rattle.response_meter.specs.Answer.{comma, entries_text}
 use Rattle.response_meter.specs.Walks.{nodes_of, entries_fault, member_entries, key_of, entry_fault, entry_tree, MeasuresEntry}
 use Rattle.response_meter.proofs.Left.{Left, left_step, tells_same, tells_first}

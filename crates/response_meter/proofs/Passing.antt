@@ -1,12 +1,12 @@
 -- A value that passes every test reads as its tree, which fits and keeps the declared sizes.
-use Rattle.std.proofs.Common.{◌≡◌, ◌⊎◌, ⊎_elim, ◌≤◌, ◌+◌, ℕ, suc, List, [], ◌∷◌, ◌<◌, length, option_map, Bool, true, false, true≢false, cond, ◌||◌, ◌&&◌, eqb, leb, bytes_eq, Option, Some, None, refl, sym, ap, ◌∙◌, subst, arith, leb-true, eq-eqb}
+use Rattle.std.proofs.Common.{◌≡◌, ◌≤◌, ℕ, suc, List, [], ◌∷◌, ◌<◌, length, option_map, Bool, true, false, true≢false, cond, ◌||◌, ◌&&◌, eqb, leb, bytes_eq, Option, Some, None, refl, sym, ap, ◌∙◌, arith, leb-true, eq-eqb}
 use Rattle.std.proofs.lemmas.Slice.Eq.{bytes_eq-Decides}
 use Rattle.std.specs.Option.{option_or}
 use Rattle.serde_json.specs.Data.{Data, null as json_null, boolean, number, string, array, object as json_object, Items, no_items, item, Members, no_members, member}
 use Rattle.serde_json.specs.Find.{get_member}
 use Rattle.serde_json.specs.Events.{items_len}
-use Rattle.response_model.specs.Plan.{Form, single, listed, Selected, LeafType, type_name, numbered, Plan, leaf_plan, position, ObjectTypes, no_type, object_type, Nodes, no_node, node, is_possible, nodes_of}
-use Rattle.response_model.specs.Response.{Tree, null, leaf, list_of, object, Elements, no_element, element, Entries, no_entry, entry, count, may_be_null, is_null, IsLeafOf, Fits, EntriesFit, ElementsFit, IsWithin, SizesKept, EntriesKept, ElementsKept}
+use Rattle.response_model.specs.Plan.{Form, single, listed, LeafType, type_name, numbered, Plan, leaf_plan, position, ObjectTypes, no_type, object_type, Nodes, no_node, node, is_possible, nodes_of}
+use Rattle.response_model.specs.Response.{Tree, null, object, Elements, Entries, count, may_be_null, is_null, IsLeafOf, Fits, EntriesFit, ElementsFit, IsWithin, SizesKept, EntriesKept, ElementsKept}
 use Rattle.response_model.specs.Reading.{has_key, IsOnlyType, IsOfType, KeysKnown, Reads, EntriesRead, ElementsRead}
 use Rattle.response_meter.specs.declared.fault.Why.{Why}
 use Rattle.response_meter.specs.declared.fault.Why.TheVariants.{MissingKey, ExtraKey, NullHere, BadLeaf, BadType}
@@ -14,7 +14,7 @@ use Rattle.response_meter.specs.Faults.{Fault, size_broken, key_step, item_step,
 use Rattle.response_meter.specs.FirstFault.{null_fault, size_fault, items_fault, list_fault, place_fault, only_type, is_text, keys_known, is_leaf, type_named, type_told, value_fault, object_fault, entries_fault}
 use Rattle.response_meter.specs.Errors.{ReplyError}
 use Rattle.response_meter.specs.Reply.{content_fault, DataReads, IsResponseOrNone}
-use Rattle.response_meter.specs.Trees.{data_tree, tree_of, null_tree, items_tree, list_tree, place_tree, value_tree, object_entries, member_entries}
+use Rattle.response_meter.specs.Trees.{data_tree, tree_of, items_tree, list_tree, place_tree, value_tree, object_entries, member_entries}
 
 -- tests that hold
 pub some_none : {A B : Type 0} {x : A} → Some x ≡ None → B

@@ -1,5 +1,5 @@
 -- A value at its place: null, a leaf, an object, a list or an entry.
-use Rattle.std.proofs.Common.{◌≡◌, ◌+◌, ◌<◌, ◌≤◌, ℕ, suc, List, [], ◌∷◌, ◌++◌, length, Bool, true, false, cond, leb, is_some, codes, option_map, Option, Some, None, Result, Ok, Err, refl, sym, ap, ◌∙◌, subst, arith, append_assoc}
+use Rattle.std.proofs.Common.{◌≡◌, ◌+◌, ℕ, List, [], ◌++◌, Bool, true, false, cond, is_some, codes, option_map, Option, Some, None, Result, Ok, Err, refl, sym, ap, ◌∙◌, subst, arith, append_assoc}
 use Rattle.std.specs.Option.{option_or}
 use Rattle.cost_num.specs.Capped.{capped}
 use Rattle.cost_num.specs.declared.Cost.{Cost}
@@ -7,20 +7,20 @@ use Rattle.serde_json.specs.Data.{Data, null as json_null, boolean, number, stri
 use Rattle.serde_json.specs.Find.{get_member, as_null, as_array}
 use Rattle.serde_json.specs.Events.{items_len}
 use Rattle.serde_json.specs.Written.{compact_text}
-use Rattle.response_model.specs.Plan.{Form, Plan, Nodes}
+use Rattle.response_model.specs.Plan.{Plan, Nodes}
 use Rattle.response_model.specs.Response.{Tree, null, list_of, Elements, is_null}
-use Rattle.response_model.specs.Cost.{Part, types, fields, cost, elements_cost}
+use Rattle.response_model.specs.Cost.{Part, types, fields, cost}
 use Rattle.static_cost.specs.declared.first.FirstKind.{FirstKind}
 use Rattle.static_cost.specs.declared.first.FirstKind.TheVariants.{Int, Str, Bool as Boolean, Id, Object}
 use Rattle.static_cost.specs.declared.first.FirstList.{FirstList}
 use Rattle.static_cost.specs.declared.first.FirstNode.{FirstNode}
 use Rattle.static_cost.specs.declared.first.FirstNode.TheViews.{out-FirstNode}
-use Rattle.static_cost.specs.Nodes.{First, first, Firsts, first_of, firsts_of}
+use Rattle.static_cost.specs.Nodes.{First, first, first_of}
 use Rattle.static_cost.specs.FirstPlan.{value_plan, nodes_of_firsts, default_weight, form_of, size_of}
 use Rattle.static_cost.specs.Leaves.{kind_holds}
 use Rattle.response_meter.specs.declared.fault.MeterFault.{MeterFault}
 use Rattle.response_meter.specs.declared.fault.Why.TheVariants.{BadLeaf, NullHere, NotList, MissingKey}
-use Rattle.response_meter.specs.Faults.{Fault, size_broken, Tells, tested, given, at_step, key_step}
+use Rattle.response_meter.specs.Faults.{Fault, size_broken, tested, given, at_step, key_step}
 use Rattle.response_meter.specs.FirstFault.{size_fault, items_fault, list_fault, place_fault}
 use Rattle.response_meter.specs.Trees.{tree_of, items_tree, list_tree, place_tree}
 use Rattle.response_meter.specs.Answer.{key_text, tree_text, elements_text}

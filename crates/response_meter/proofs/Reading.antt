@@ -1,16 +1,16 @@
 -- A value that reads, fits and keeps the declared sizes passes every test.
-use Rattle.std.proofs.Common.{◌≡◌, ◌≤◌, ℕ, suc, List, [], Bool, true, false, true≢false, cond, ◌||◌, ◌&&◌, eqb, leb, bytes_eq, Option, Some, None, refl, sym, ap, ◌∙◌, subst, arith, eq-eqb, eqb-true}
-use Rattle.std.proofs.lemmas.Bool.{cases_Bool, le-leb}
+use Rattle.std.proofs.Common.{◌≡◌, ◌≤◌, ℕ, suc, List, [], Bool, true, false, true≢false, cond, ◌||◌, ◌&&◌, eqb, bytes_eq, Option, Some, None, refl, sym, ap, ◌∙◌, arith, eqb-true}
+use Rattle.std.proofs.lemmas.Bool.{le-leb}
 use Rattle.std.proofs.lemmas.Slice.Eq.{bytes_eq-Decides}
 use Rattle.std.specs.Option.{option_or}
 use Rattle.serde_json.specs.Data.{Data, null as json_null, boolean, number, string, array, object as json_object, Items, no_items, item, Members, no_members, member}
-use Rattle.serde_json.specs.Find.{get_member, as_array, as_object}
+use Rattle.serde_json.specs.Find.{get_member}
 use Rattle.serde_json.specs.Events.{items_len}
-use Rattle.response_model.specs.Plan.{Form, single, listed, Selected, LeafType, type_name, numbered, Plan, leaf_plan, position, ObjectTypes, no_type, object_type, Nodes, no_node, node, is_possible, nodes_of}
-use Rattle.response_model.specs.Response.{Tree, null, leaf, list_of, object, Elements, no_element, element, Entries, no_entry, entry, count, may_be_null, is_null, IsLeafOf, Fits, EntriesFit, ElementsFit, IsWithin, SizesKept, EntriesKept, ElementsKept}
-use Rattle.response_model.specs.Reading.{has_key, IsOnlyType, IsOfType, KeysKnown, Reads, EntriesRead, ElementsRead}
+use Rattle.response_model.specs.Plan.{Form, single, listed, LeafType, type_name, numbered, Plan, leaf_plan, position, ObjectTypes, no_type, object_type, Nodes, no_node, node, is_possible, nodes_of}
+use Rattle.response_model.specs.Response.{Tree, null, leaf, list_of, object, Elements, no_element, element, Entries, no_entry, entry, count, is_null, IsLeafOf, Fits, EntriesFit, ElementsFit, IsWithin, SizesKept, EntriesKept, ElementsKept}
+use Rattle.response_model.specs.Reading.{IsOnlyType, IsOfType, KeysKnown, Reads, EntriesRead, ElementsRead}
 use Rattle.response_meter.specs.declared.fault.Why.{Why}
-use Rattle.response_meter.specs.declared.fault.Why.TheVariants.{MissingKey, ExtraKey, NullHere, NotList, BadLeaf, BadType, BadObject}
+use Rattle.response_meter.specs.declared.fault.Why.TheVariants.{MissingKey, ExtraKey, NullHere, BadLeaf, BadType}
 use Rattle.response_meter.specs.Faults.{Fault, size_broken, key_step, item_step, at_step, tested, given}
 use Rattle.response_meter.specs.FirstFault.{null_fault, size_fault, items_fault, list_fault, place_fault, only_type, is_text, keys_known, is_leaf, type_named, type_told, value_fault, object_fault, entries_fault, NamesFilled, TypesFilled, NodesFilled}
 

@@ -1,24 +1,23 @@
 -- A whole reply.
-use Rattle.std.proofs.Common.{◌≡◌, ◌≤◌, ◌<◌, ◌+◌, ℕ, suc, List, [], ◌∷◌, ◌++◌, length, min, Bool, true, false, true≢false, cond, is_some, codes, IsUtf8, Option, Some, None, Result, Ok, refl, sym, ap, ◌∙◌, subst, arith, zero-le}
+use Rattle.std.proofs.Common.{◌≡◌, ◌≤◌, ℕ, List, [], ◌++◌, Bool, true, false, true≢false, cond, is_some, codes, IsUtf8, Option, Some, None, Ok, refl, sym, ap, ◌∙◌, subst, arith, zero-le}
 use Rattle.std.proofs.lemmas.Str.{IsUtf8-from_is_utf8, is_utf8-from_IsUtf8}
 use Rattle.std.specs.Str.{is_utf8}
 use Rattle.cost_num.specs.Capped.{capped}
-use Rattle.cost_num.specs.declared.Cost.{Cost}
 use Rattle.cost_num.specs.declared.TheConstants.{CAP}
 use Rattle.serde_json.specs.Data.{Data, null as json_null, boolean, number, string, array, object as json_object, Members}
 use Rattle.serde_json.specs.Read.{read}
 use Rattle.serde_json.specs.Find.{get, as_object}
-use Rattle.response_model.specs.Plan.{Plan, single}
+use Rattle.response_model.specs.Plan.{Plan}
 use Rattle.response_model.specs.Response.{Tree}
-use Rattle.response_model.specs.Cost.{Part, types, fields, cost}
+use Rattle.response_model.specs.Cost.{Part, types, fields}
 use Rattle.response_model.specs.Bound.{IsBound}
 use Rattle.static_cost.specs.Leaves.{holds}
 use Rattle.response_meter.specs.declared.metered.FirstMetered.{FirstMetered}
 use Rattle.response_meter.specs.Errors.{ReplyError, errors_of}
-use Rattle.response_meter.specs.Reply.{json_of, errors_entry, data_entry, DataReads, ReplyReads, IsResponseOrNone, reply_cost}
+use Rattle.response_meter.specs.Reply.{json_of, errors_entry, data_entry, IsResponseOrNone, reply_cost}
 use Rattle.response_meter.specs.Answer.{errors_part, data_part}
 use Rattle.response_meter.specs.FirstForm.{own_name}
-use Rattle.response_meter.specs.Walks.{has_some, content_tree, content_fault, MeasuresContent, Found}
+use Rattle.response_meter.specs.Walks.{has_some, content_tree, MeasuresContent, Found}
 use Rattle.response_meter.specs.Metered.{IsMetered}
 use Rattle.response_meter.proofs.Passing.{content_reads}
 

@@ -1,13 +1,13 @@
 -- The first test that the data of a reply does not pass, in the order in which a reply is read.
-use Rattle.std.specs.Prelude.{ℕ, suc, List, [], ◌∷◌, Bool, true, false, ◌&&◌, ◌||◌, leb, eqb, bytes_eq, Option, Some, None, if◌then◌else◌}
+use Rattle.std.specs.Prelude.{ℕ, suc, List, [], Bool, true, false, ◌&&◌, ◌||◌, leb, eqb, bytes_eq, Option, Some, None, if◌then◌else◌}
 use Rattle.std.specs.Option.{option_or}
 use Rattle.serde_json.specs.Data.{Data, null as json_null, boolean, number, string, array, object as json_object, Items, no_items, item, Members, no_members, member}
 use Rattle.serde_json.specs.Find.{get_member, as_array, as_object}
 use Rattle.serde_json.specs.Events.{items_len}
-use Rattle.response_model.specs.Plan.{Form, single, listed, Selected, LeafType, type_name, numbered, Plan, leaf_plan, position, ObjectTypes, no_type, object_type, Nodes, no_node, node}
+use Rattle.response_model.specs.Plan.{Form, single, listed, LeafType, type_name, numbered, Plan, leaf_plan, position, ObjectTypes, no_type, object_type, Nodes, no_node, node}
 use Rattle.response_model.specs.Response.{is_null}
 use Rattle.response_model.specs.Reading.{has_key}
-use Rattle.response_meter.specs.Faults.{Fault, not_response, size_broken, key_step, item_step, at_step, tested, given}
+use Rattle.response_meter.specs.Faults.{Fault, size_broken, key_step, item_step, at_step, tested, given}
 use Rattle.response_meter.specs.declared.fault.Why.TheVariants.{MissingKey, ExtraKey, NullHere, NotList, BadLeaf, BadType, BadObject}
 
 -- Null passes where it may stand. Another value is tested further.

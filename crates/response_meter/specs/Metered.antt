@@ -1,8 +1,7 @@
 -- What is measured of a reply to an operation of the first form.
-use Rattle.std.specs.Prelude.{◌≡◌, ◌≤◌, ℕ, List, [], Option, Some, None}
-use Rattle.cost_num.specs.declared.Cost.{Cost}
+use Rattle.std.specs.Prelude.{◌≡◌, ℕ, List, [], Option}
 use Rattle.response_model.specs.Response.{Tree}
-use Rattle.response_model.specs.Cost.{Part, types, fields}
+use Rattle.response_model.specs.Cost.{types, fields}
 use Rattle.response_model.specs.Plan.{Plan}
 use Rattle.static_cost.specs.Leaves.{holds}
 use Rattle.response_meter.specs.FirstForm.{own_name}

@@ -9,7 +9,7 @@ use Rattle.response_model.specs.Response.{Tree}
 use Rattle.response_model.specs.Reading.{ReadsReply}
 use Rattle.response_model.specs.Bound.{IsResponse}
 use Rattle.response_model.specs.Cost.{Part, cost}
-use Rattle.response_meter.specs.Faults.{Fault, not_response, at_step, tested, given}
+use Rattle.response_meter.specs.Faults.{Fault, not_response, at_step, given}
 use Rattle.response_meter.specs.FirstFault.{data_fault}
 use Rattle.response_meter.specs.Errors.{ReplyError, errors_of}
 use Rattle.response_meter.specs.declared.fault.Why.TheVariants.{NotJson, NotObject, NoData, BadErrors}

@@ -1,5 +1,5 @@
 -- The tree that the data of a reply is read as, where it passes the tests. (Where it does not, null or no entry stands.)
-use Rattle.std.specs.Prelude.{ℕ, List, [], Bool, true, false, eqb, Option, Some, None, if◌then◌else◌}
+use Rattle.std.specs.Prelude.{ℕ, List, Bool, true, false, eqb, Option, Some, None, if◌then◌else◌}
 use Rattle.serde_json.specs.Data.{Data, Items, no_items, item, Members}
 use Rattle.serde_json.specs.Find.{get_member, as_array, as_object}
 use Rattle.response_model.specs.Plan.{Form, single, listed, Plan, leaf_plan, position, ObjectTypes, no_type, object_type, Nodes, no_node, node}

@@ -1,6 +1,6 @@
 //! The errors of a reply (GraphQL October 2021, 7.1.2).
 
-ghost use Rattle.std.specs.Prelude.{◌≡◌, ◌++◌, [], Some, IsTrue, is_some, option_map, option_and_then, string_bytes};
+ghost use Rattle.std.specs.Prelude.{◌≡◌, [], is_some, option_map, option_and_then, string_bytes};
 ghost use Rattle.serde_json.specs.View.{view, items_view};
 ghost use Rattle.response_meter.specs.Errors.{errors_of, errors_in, error_of, path_of, steps_of, step_of};
 ghost use Rattle.response_meter.specs.Walks.{WritesErrors, Writes};

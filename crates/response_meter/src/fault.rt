@@ -1,6 +1,6 @@
 //! Why a reply is not measured.
 
-ghost use Rattle.std.specs.Prelude.{◌≡◌, ◌++◌, List, [], Option, Some, IfOk};
+ghost use Rattle.std.specs.Prelude.{◌≡◌, ◌++◌, [], Option, Some, IfOk};
 ghost use Rattle.response_meter.specs.Faults.{Fault, not_response as refused, size_broken as broken, Tells, at_step, key_step, item_step};
 
 use gql_base::Text;

@@ -1,11 +1,8 @@
 //! The measuring of a whole reply.
 
-ghost use Rattle.std.specs.Prelude.{◌≡◌, ◌≤◌, ℕ, List, [], None, IfOk, IfErr, Some, option_map, string_bytes};
+ghost use Rattle.std.specs.Prelude.{◌≡◌, ◌≤◌, List, [], None, IfOk, IfErr, Some, option_map, string_bytes};
 ghost use Rattle.serde_json.specs.View.{view};
-ghost use Rattle.cost_num.specs.declared.TheConstants.{CAP};
 ghost use Rattle.cost_num.specs.declared.Cost.{Cost as CostType};
-ghost use Rattle.response_model.specs.Cost.{types, fields};
-ghost use Rattle.response_model.specs.Bound.{Exceeds};
 ghost use Rattle.static_cost.specs.FirstPlan.{plan_of};
 ghost use Rattle.static_cost.specs.FirstBound.{IsBoundOf, IsWithinCap};
 ghost use Rattle.response_meter.specs.declared.fault.Why.TheVariants.{NotJson};

@@ -1,5 +1,5 @@
 -- A list of some errors is written as their part of the answer.
-use Rattle.std.proofs.Common.{◌≡◌, Some, true≢false, option_map, sym, ap, ◌∙◌, string_bytes}
+use Rattle.std.proofs.Common.{Some, true≢false, option_map, sym, ap, ◌∙◌, string_bytes}
 use Rattle.std.specs.Bool.{◌==◌}
 use Rattle.serde_json.specs.View.{view, items_view}
 use Rattle.serde_json.proofs.Views.{view-Array}

@@ -1,5 +1,5 @@
 -- A path is written as its steps.
-use Rattle.std.proofs.Common.{◌≡◌, Some, option_map, sym, ap, ◌∙◌, string_bytes}
+use Rattle.std.proofs.Common.{option_map, sym, ap, ◌∙◌, string_bytes}
 use Rattle.serde_json.specs.View.{view}
 use Rattle.response_meter.specs.Errors.{path_of}
 use Rattle.response_meter.proofs.ErrorTexts.{path_written}

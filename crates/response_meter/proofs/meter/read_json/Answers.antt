@@ -1,5 +1,5 @@
 -- Bytes are JSON where they are UTF-8 and are read.
-use Rattle.std.proofs.Common.{◌≡◌, sym, ap, ◌∙◌, None, true≢false}
+use Rattle.std.proofs.Common.{sym, ap, ◌∙◌, None, true≢false}
 use Rattle.response_meter.specs.declared.fault.Why.TheVariants.{NotJson}
 use Rattle.response_meter.specs.Faults.{given}
 use Rattle.response_meter.proofs.Replies.{json_read, not_json}

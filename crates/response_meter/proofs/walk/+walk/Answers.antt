@@ -1,5 +1,5 @@
 -- What each part of the walk measured, put together.
-use Rattle.std.proofs.Common.{◌≡◌, ◌+◌, [], ◌∷◌, List, ℕ, length, drop, refl, sym, ap, ◌∙◌, Option, Some, None, string_bytes}
+use Rattle.std.proofs.Common.{◌+◌, [], ◌∷◌, length, refl, sym, ap, ◌∙◌, Some, None, string_bytes}
 use Rattle.std.proofs.lemmas.Result.{err_from_is_err_and}
 use Rattle.serde_json.specs.View.{view, items_view, members_view}
 use Rattle.serde_json.proofs.Views.{items_len-items_view}
@@ -7,9 +7,8 @@ use Rattle.static_cost.specs.Nodes.{first_of}
 use Rattle.static_cost.specs.FirstPlan.{default_weight}
 use Rattle.response_meter.specs.declared.fault.Why.TheVariants.{MissingKey}
 use Rattle.response_meter.specs.Faults.{not_response}
-use Rattle.response_meter.specs.Walks.{nodes_of, plan_in, value_fault, value_tree, entries_fault, entry_fault}
-use Rattle.response_meter.specs.FirstFault.{null_fault, items_fault}
-use Rattle.response_meter.proofs.Left.{tells_same, tells_first}
+use Rattle.response_meter.specs.Walks.{plan_in, value_fault}
+use Rattle.response_meter.proofs.Left.{tells_same}
 use Rattle.response_meter.proofs.Fields.{entries_step, entries_refused}
 use Rattle.response_meter.proofs.Elements.{elements_step, elements_refused, elements_end}
 use Rattle.response_meter.proofs.Places.{kind_opened, nullable_opened, list_opened, key_opened, value_object, value_leaf, null_told, field_null, field_single, field_list, list_broken, size_kept, list_measured, entry_found, entry_measured}

@@ -1,4 +1,4 @@
-use Rattle.std.proofs.Common.{◌≡◌, sym, ap, ◌∙◌, bytes_eq}
+use Rattle.std.proofs.Common.{sym, ap, ◌∙◌, bytes_eq}
 use Rattle.response_model.specs.Reading.{has_key}
 use Rattle.response_meter.specs.Walks.{nodes_of}
 use Rattle.response_meter.proofs.Fields.{key_found, key_passed}
