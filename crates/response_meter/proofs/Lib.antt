@@ -1,0 +1,10 @@
+pub mod Left
+pub mod Fields
+pub mod Elements
+pub mod Places
+pub mod ErrorTexts
+pub mod Passing
+pub mod Replies
+pub mod Reading
+pub mod Exact
+pub mod FirstNames
