@@ -24,8 +24,8 @@ refused_reading schema document s d (NotBuilt Document) same_schema same_documen
       types = r.types;
       of_schema = record { text = text; form = subst (λ x. HasFirstSchema x r.types) same_schema r.of_schema };
       refused = λ nodes held.
-        let fitting = document_fits r.types d nodes (subst (λ x. HasFirstDocument r.types x nodes) (sym same_document) held.form) in
-        r.refused fitting.0 fitting.1 fitting.2;
+          let fitting = document_fits r.types d nodes (subst (λ x. HasFirstDocument r.types x nodes) (sym same_document) held.form) in
+          r.refused fitting.0 fitting.1 fitting.2;
     }
 refused_reading schema document s d Memory same_schema same_document text no_schema no_document = tt
 

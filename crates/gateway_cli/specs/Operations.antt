@@ -6,7 +6,12 @@ use Rattle.first_form.specs.Schemas.{TypeTree, HasFirstSchema}
 use Rattle.first_form.specs.Documents.{HasFirstDocument}
 use Rattle.static_cost.specs.declared.first.FirstNode.{FirstNode}
 use Rattle.static_cost.specs.Nodes.{Firsts, firsts_of}
+use Rattle.static_cost.specs.FirstPlan.{plan_of}
 use Rattle.static_cost.specs.FirstBound.{IsBoundOf, ExceedsCap}
+use Rattle.response_meter.specs.declared.metered.FirstMetered.{FirstMetered}
+use Rattle.response_meter.specs.declared.fault.MeterFault.{MeterFault}
+use Rattle.response_meter.specs.Faults.{Tells}
+use Rattle.response_meter.specs.Metered.{IsMetered, first_fault}
 use Rattle.gateway_cli.specs.declared.operation.TheConstants.{SCHEMA_LIMIT, DOCUMENT_LIMIT}
 use Rattle.gateway_cli.specs.declared.operation.Refusal.{Refusal}
 use Rattle.gateway_cli.specs.declared.operation.Refusal.TheVariants.{SchemaNotBuilt, DocumentNotBuilt, TypesTooCostly, FieldsTooCostly, BothTooCostly}
@@ -58,3 +63,11 @@ IsRefused schema document DocumentNotBuilt = HoldsSchemaAlone schema document
 IsRefused schema document TypesTooCostly = OfOperation schema document (λ operation. IsTooCostly operation TypesTooCostly)
 IsRefused schema document FieldsTooCostly = OfOperation schema document (λ operation. IsTooCostly operation FieldsTooCostly)
 IsRefused schema document BothTooCostly = OfOperation schema document (λ operation. IsTooCostly operation BothTooCostly)
+
+-- The reply to the operation of the two files is measured so.
+abbrev pub IsMeasured : List ℕ → List ℕ → List ℕ → FirstMetered → Type 0
+IsMeasured schema document reply metered = OfOperation schema document (λ operation. IsMetered (plan_of operation) reply metered)
+
+-- The first test that the reply to the operation of the two files does not pass.
+abbrev pub IsFaulty : List ℕ → List ℕ → List ℕ → MeterFault → Type 0
+IsFaulty schema document reply fault = OfOperation schema document (λ operation. Tells fault (first_fault (plan_of operation) reply))

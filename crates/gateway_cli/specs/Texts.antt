@@ -1,6 +1,12 @@
 -- The lines that the commands write.
-use Rattle.std.specs.Prelude.{ℕ, List, Option, [], ◌∷◌, ◌++◌, codes}
+use Rattle.std.specs.Prelude.{◌≡◌, ℕ, List, Option, [], ◌∷◌, ◌++◌, codes}
+use Rattle.std.specs.Fmt.{decimal}
 use Rattle.std.specs.Io.KnownBytes.{Appends}
+use Rattle.response_meter.specs.declared.fault.Why.{Why}
+use Rattle.response_meter.specs.declared.fault.Why.TheVariants.{NotJson, NotObject, NoData, BadErrors, MissingKey, ExtraKey, NullHere, NotList, BadLeaf, BadType, BadObject}
+use Rattle.response_meter.specs.declared.fault.MeterFault.{MeterFault}
+use Rattle.response_meter.specs.declared.fault.MeterFault.TheVariants.{NotResponse, SizeBroken, Memory}
+use Rattle.gateway_cli.specs.declared.report.TheConstants.{SIZE_BROKEN, NOT_RESPONSE}
 use Rattle.gateway_cli.specs.declared.operation.Refusal.{Refusal}
 use Rattle.gateway_cli.specs.declared.operation.Refusal.TheVariants.{SchemaNotBuilt, DocumentNotBuilt, TypesTooCostly, FieldsTooCostly, BothTooCostly}
 
@@ -23,3 +29,36 @@ file_text name = codes "file " ++ name
 -- the line of a file that was not read was written
 abbrev pub SaysFile : List ℕ → Option (List ℕ) → Option (List ℕ) → Type 0
 SaysFile name before after = Appends before after (line (file_text name))
+
+-- a file is longer than its limit
+abbrev pub too_large_text : List ℕ → List ℕ
+too_large_text name = codes "input 1 TooLarge " ++ name
+
+abbrev pub why_text : Why → List ℕ
+why_text NotJson = codes "NotJson"
+why_text NotObject = codes "NotObject"
+why_text NoData = codes "NoData"
+why_text BadErrors = codes "BadErrors"
+why_text MissingKey = codes "MissingKey"
+why_text ExtraKey = codes "ExtraKey"
+why_text NullHere = codes "NullHere"
+why_text NotList = codes "NotList"
+why_text BadLeaf = codes "BadLeaf"
+why_text BadType = codes "BadType"
+why_text BadObject = codes "BadObject"
+
+-- a fault of a reply, with its path; want of memory has no text
+abbrev pub meter_text : MeterFault → List ℕ
+meter_text (NotResponse path why) = codes "meter 1 NotResponse " ++ path ++ (32 ∷ why_text why)
+meter_text (SizeBroken path size length) = codes "meter 2 SizeBroken " ++ path ++ (32 ∷ (decimal size ++ (32 ∷ decimal length)))
+meter_text Memory = []
+
+-- the line of a file that is too large was written
+abbrev pub SaysTooLarge : List ℕ → Option (List ℕ) → Option (List ℕ) → Type 0
+SaysTooLarge name before after = Appends before after (line (too_large_text name))
+
+-- the status that a fault of a reply ends with
+abbrev pub IsStatusOf : MeterFault → ℕ → Type 0
+IsStatusOf (NotResponse path why) status = status ≡ NOT_RESPONSE
+IsStatusOf (SizeBroken path size length) status = status ≡ SIZE_BROKEN
+IsStatusOf Memory status = ⊥

@@ -2,6 +2,8 @@
 #![tactic(auto)]
 
 mod command;
+mod inputs;
+mod meter;
 mod operation;
 mod price;
 mod report;

@@ -4,7 +4,6 @@ ghost use Rattle.std.specs.Prelude.{◌≡◌, ◌≤◌, ◌⊎◌, ◌≢◌, 
 ghost use Rattle.std.specs.Io.KnownBytes.{Keeps};
 ghost use Rattle.outside.specs.Faults.{Rose};
 ghost use Rattle.static_cost.specs.FirstBound.{IsWithinCap};
-ghost use Rattle.gateway_cli.specs.Reading.{IsRead};
 ghost use Rattle.gateway_cli.specs.Texts.{SaysFile};
 ghost use Rattle.gateway_cli.specs.Statuses.{IsSilent, IsQuiet};
 ghost use Rattle.gateway_cli.specs.Causes.{IsFileFault, IfRefused};
@@ -12,13 +11,12 @@ ghost use Rattle.gateway_cli.specs.Faults.{IfRefusedAs};
 ghost use Rattle.gateway_cli.specs.Operations.{HasPrice, IsRefused};
 ghost use Rattle.gateway_cli.specs.Outcomes.{IsPrice, IsRefusal, PrintsPrice, PrintsRefusal};
 
-use crate::operation::{
-    DOCUMENT_LIMIT, OperationFault, Refusal, SCHEMA_LIMIT, bound_of, operation_of,
-};
+use crate::inputs::{InputFault, read_inputs};
+use crate::operation::{OperationFault, Refusal, bound_of, operation_of};
 use crate::report;
 use crate::report::{DONE, FILE_FAILED, NO_MEMORY, REFUSED, STREAM_FAILED, USAGE};
 use cost_num::Cost;
-use outside::{FileFault, Files, Sink};
+use outside::{Files, Sink};
 use std::alloc::Global;
 
 /// Why there is no price to print.
@@ -50,38 +48,6 @@ fn price_of(alloc: Global, schema: Vec<u8>, document: Vec<u8>) -> Result<Cost, O
     }
 }
 
-/// The bytes of a schema file and of a document file, each at most one past its limit.
-#[derive(Drop)]
-struct Read {
-    schema: Vec<u8>,
-    document: Vec<u8>,
-}
-
-// Reads both files, the schema first.
-fn read_files<F: Files>(
-    alloc: Global,
-    schema: &str,
-    document: &str,
-    files: &mut F,
-) -> Result<Read, PriceFault>
-    ensures schema { IfOk result (λ read. IsRead SCHEMA_LIMIT (F.content files.old schema.now) read.schema.items) }
-    ensures document { IfOk result (λ read. IsRead DOCUMENT_LIMIT (F.content files.old document.now) read.document.items) }
-    ensures failed { IfErr result (λ fault. IsFileFault fault → Rose (F.faults files.old) (F.faults files.new)) }
-    ensures refused { IfErr result (λ fault. IfRefused fault (λ refusal. ⊥)) }
-{
-    let schema = match files.read(alloc, schema, SCHEMA_LIMIT) {
-        Ok(read) => read,
-        Err(FileFault::Failed) => return Err(PriceFault::SchemaFailed),
-        Err(FileFault::Memory) => return Err(PriceFault::Memory),
-    };
-    let document = match files.read(alloc, document, DOCUMENT_LIMIT) {
-        Ok(read) => read,
-        Err(FileFault::Failed) => return Err(PriceFault::DocumentFailed),
-        Err(FileFault::Memory) => return Err(PriceFault::Memory),
-    };
-    Ok(Read { schema, document })
-}
-
 // The price of the operation that two files hold.
 fn price_files<F: Files>(
     alloc: Global,
@@ -95,9 +61,11 @@ fn price_files<F: Files>(
         (IsRefusal (F.content files.old schema.now) (F.content files.old document.now))) }
     ensures failed { IfErr result (λ fault. IsFileFault fault → Rose (F.faults files.old) (F.faults files.new)) }
 {
-    let read = match read_files(alloc, schema, document, files) {
+    let read = match read_inputs(alloc, schema, document, files) {
         Ok(read) => read,
-        Err(fault) => return Err(fault),
+        Err(InputFault::SchemaFailed) => return Err(PriceFault::SchemaFailed),
+        Err(InputFault::DocumentFailed) => return Err(PriceFault::DocumentFailed),
+        Err(InputFault::Memory) => return Err(PriceFault::Memory),
     };
     match price_of(alloc, read.schema, read.document) {
         Ok(cost) => Ok(cost),

@@ -9,12 +9,18 @@ use std::test::Fail;
 const USERS: &str =
     "type Query { user: User } type User { id: ID! friends: [User!]! @listSize(assumedSize: 3) }";
 
+/// The ids of the user's friends.
+const FRIENDS: &str = "{ user { friends { id } } }";
+
 /// Lists of two billion items.
 const HUGE: &str =
     "type Query { a: [N] @listSize(assumedSize: 2000000000) } type N { id: ID a: [N] @listSize(assumedSize: 2000000000) }";
 
 /// The words of a price command.
 const PRICE: [&str; 3] = ["price", "schema", "document"];
+
+/// The words of a meter command.
+const METER: [&str; 4] = ["meter", "schema", "document", "reply"];
 
 /// What a run ended with.
 #[derive(Drop)]
@@ -36,9 +42,11 @@ fn failures(alloc: Global, failing: &[u64]) -> Result<Failures, Fail> {
     Ok(Failures::of(Vec::from_slice(alloc, failing)?))
 }
 
-fn files(alloc: Global, schema: &[u8], document: &[u8], failing: &[u64]) -> Result<MemFiles, Fail> {
+/// The files `schema`, `document` and `reply`, of which these reads fail.
+fn files(alloc: Global, contents: [&[u8]; 3], failing: &[u64]) -> Result<MemFiles, Fail> {
+    let [schema, document, reply] = contents;
     let mut files = Vec::new(alloc);
-    for (name, content) in [("schema", schema), ("document", document)] {
+    for (name, content) in [("schema", schema), ("document", document), ("reply", reply)] {
         files.push(MemFile {
             name: String::from_str(alloc, name)?,
             content: Vec::from_slice(alloc, content)?,
@@ -48,16 +56,15 @@ fn files(alloc: Global, schema: &[u8], document: &[u8], failing: &[u64]) -> Resu
 }
 
 /// Runs the program on these words and files, where these calls of the files and of both streams fail.
-fn run_on(
+fn run_with(
     rt: &HostRuntime,
     given: &[&str],
-    schema: &[u8],
-    document: &[u8],
+    contents: [&[u8]; 3],
     failing: (&[u64], &[u64]),
 ) -> Result<Ended, Fail> {
     let alloc = rt.alloc();
     let words = words(alloc, given)?;
-    let mut files = files(alloc, schema, document, failing.0)?;
+    let mut files = files(alloc, contents, failing.0)?;
     let mut out = MemSink::new(alloc, failures(alloc, failing.1)?);
     let mut err = MemSink::new(alloc, failures(alloc, failing.1)?);
     let status = run(rt, alloc, &words, &mut files, &mut out, &mut err);
@@ -66,6 +73,17 @@ fn run_on(
         out: out.written,
         err: err.written,
     })
+}
+
+/// The same with a schema and a document.
+fn run_on(
+    rt: &HostRuntime,
+    given: &[&str],
+    schema: &[u8],
+    document: &[u8],
+    failing: (&[u64], &[u64]),
+) -> Result<Ended, Fail> {
+    run_with(rt, given, [schema, document, b"".as_slice()], failing)
 }
 
 /// Prices with nothing that fails.
@@ -234,5 +252,89 @@ fn files_that_fail_are_named(rt: HostRuntime) -> Result<(), Fail> {
         assert!(rt; ended.out.is_empty(), "{text}");
         assert_eq!(rt; ended.err.as_slice(), text.as_bytes(), "{text}");
     }
+    Ok(())
+}
+
+#[test]
+fn replies_are_measured(rt: HostRuntime) -> Result<(), Fail> {
+    for (reply, output) in [
+        (
+            "{\"data\":{\"user\":{\"friends\":[{\"id\":\"1\"},{\"id\":\"1\"}]}}}",
+            "4.000 2.000\n{\"data\":{\"user\":{\"friends\":[{\"id\":\"1\"},{\"id\":\"1\"}]}}}\n",
+        ),
+        (
+            " { \"data\" : { \"user\" : null } } ",
+            "1.000 1.000\n{\"data\":{\"user\":null}}\n",
+        ),
+        (
+            "{\"errors\":[{\"message\":\"x\",\"code\":1}]}",
+            "0.000 0.000\n{\"errors\":[{\"message\":\"x\"}]}\n",
+        ),
+    ] {
+        let contents = [USERS.as_bytes(), FRIENDS.as_bytes(), reply.as_bytes()];
+        let ended = run_with(&rt, &METER, contents, (&[], &[]))?;
+        assert_eq!(rt; ended.status, 0, "{reply}");
+        assert_eq!(rt; ended.out.as_slice(), output.as_bytes(), "{reply}");
+        assert!(rt; ended.err.is_empty(), "{reply}");
+    }
+    Ok(())
+}
+
+#[test]
+fn faulty_replies_are_told(rt: HostRuntime) -> Result<(), Fail> {
+    for (schema, document, reply, status, line) in [
+        (
+            USERS,
+            FRIENDS,
+            "{\"data\":{\"user\":{\"friends\":[{\"id\":\"1\"},{\"id\":\"1\"},{\"id\":\"1\"},{\"id\":\"1\"}]}}}",
+            6,
+            "meter 2 SizeBroken data.user.friends 3 4\n",
+        ),
+        (
+            USERS,
+            FRIENDS,
+            "{\"data\":{\"user\":{\"friends\":[null]}}}",
+            7,
+            "meter 1 NotResponse data.user.friends.0 NullHere\n",
+        ),
+        (
+            USERS,
+            FRIENDS,
+            "[]",
+            7,
+            "meter 1 NotResponse data NotObject\n",
+        ),
+        (USERS, FRIENDS, "[", 7, "meter 1 NotResponse data NotJson\n"),
+        (USERS, "{ nobody }", "[]", 1, "first 1 NotBuilt document\n"),
+        (
+            HUGE,
+            "{ a { a { id } } }",
+            "[]",
+            1,
+            "bound 1 TooCostly types\n",
+        ),
+    ] {
+        let contents = [schema.as_bytes(), document.as_bytes(), reply.as_bytes()];
+        let ended = run_with(&rt, &METER, contents, (&[], &[]))?;
+        assert_eq!(rt; ended.status, status, "{line}");
+        assert!(rt; ended.out.is_empty(), "{line}");
+        assert_eq!(rt; ended.err.as_slice(), line.as_bytes(), "{line}");
+    }
+    Ok(())
+}
+
+#[test]
+fn replies_have_a_limit(rt: HostRuntime) -> Result<(), Fail> {
+    let reply = filled(rt.alloc(), "{}", 4_194_305)?;
+    let contents = [b"".as_slice(), b"".as_slice(), reply.as_slice()];
+    let ended = run_with(&rt, &METER, contents, (&[], &[]))?;
+    assert_eq!(rt; ended.status, 1);
+    assert_eq!(rt;
+        ended.err.as_slice(),
+        b"input 1 TooLarge reply\n".as_slice()
+    );
+    let failed = run_with(&rt, &METER, contents, (&[2], &[]))?;
+    assert_eq!(rt; failed.status, 3);
+    assert_eq!(rt; failed.err.as_slice(), b"file reply\n".as_slice());
     Ok(())
 }
