@@ -93,10 +93,9 @@ fn priced(rt: &HostRuntime, schema: &[u8], document: &[u8]) -> Result<Ended, Fai
 
 /// A text that spaces fill up to a number of bytes.
 fn filled(alloc: Global, text: &str, length: usize) -> Result<Vec<u8>, Fail> {
-    let mut bytes = vec![in alloc; b' '; length]?;
-    for (at, byte) in text.bytes().enumerate() {
-        bytes[at] = byte;
-    }
+    let mut bytes = Vec::from_slice(alloc, text.as_bytes())?;
+    bytes.extend_from_slice(&vec![in alloc; b' '; length]?)?;
+    bytes.truncate(length);
     Ok(bytes)
 }
 
