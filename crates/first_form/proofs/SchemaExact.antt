@@ -9,7 +9,7 @@ use Rattle.std.proofs.lemmas.Bool.{cases_Bool, leb-true, le-leb}
 use Rattle.std.proofs.lemmas.Fmt.{digits_value-decimal}
 use Rattle.std.proofs.lemmas.Str.Parse.{IsNumeralModel}
 use Rattle.gql_base.specs.declared.token.TokenKind.TheVariants.{Bang, Colon, At, OpenParen, CloseParen, OpenBracket, CloseBracket, OpenBrace, CloseBrace}
-use Rattle.gql_base.specs.Pieces.{Lexeme, word, number, mark}
+use Rattle.gql_base.specs.Pieces.{Lexeme, word, number, string, block, mark}
 use Rattle.static_cost.specs.declared.first.FirstList.{FirstList}
 use Rattle.first_form.specs.Schemas.{FieldTree, TypeTree, bang, size_words, type_words, field_words, definition_words, schema_words, greatest_size, is_size, is_sized}
 use Rattle.first_form.specs.Reading.{Lexemes, peek, consumed, satisfy, repeated, peeks, before, has_more}
@@ -74,6 +74,8 @@ size_is_read n small =
 size_token : (w : Lexeme) (n : ℕ) → size_in w ≡ Some n → (w ≡ number (decimal n)) × Small n
 size_token (number b) n e = let k = size_read b n e in (ap number k.0, k.1)
 size_token (word b) n e = none_some n e
+size_token (string b) n e = none_some n e
+size_token (block b) n e = none_some n e
 size_token (mark k) n e = none_some n e
 
 number_exact : Exact (λ n. number (decimal n) ∷ []) Small never (satisfy size_in)

@@ -5,7 +5,7 @@ use Rattle.std.specs.Str.{bytes_eq}
 use Rattle.std.specs.Cmp.Lexicographic.{bytes_decides}
 use Rattle.gql_base.specs.declared.token.TokenKind.{TokenKind}
 use Rattle.gql_base.specs.declared.token.TokenKind.TheVariants.{Name, Int, Str, BlockStr, Bang, Dollar, Amp, OpenParen, CloseParen, Spread, Colon, Equals, At, OpenBracket, CloseBracket, OpenBrace, Pipe, CloseBrace}
-use Rattle.gql_base.specs.Pieces.{Lexeme, word, number, mark, kind_of}
+use Rattle.gql_base.specs.Pieces.{Lexeme, word, number, string, block, mark, kind_of}
 use Rattle.first_form.specs.Reading.{satisfy, number_of, when, of_kind, name_in, keyword}
 use Rattle.first_form.proofs.Exact.{Exact, never, satisfy_exact}
 
@@ -40,6 +40,8 @@ same_kind j k e = sym (kind_numbered j) ∙ (ap (λ n. slice_index_or kinds n Na
 abbrev pub IsMark : TokenKind → Type 0
 IsMark Name = ⊥
 IsMark Int = ⊥
+IsMark Str = ⊥
+IsMark BlockStr = ⊥
 IsMark k = Unit {0}
 
 pub when_true : (b : Bool) (a : Unit {0}) → when b ≡ Some a → b ≡ true
@@ -50,6 +52,8 @@ mark_is : (k : TokenKind) (w : Lexeme) → IsMark k → k ≡ kind_of w → w �
 mark_is k (mark j) is e = ap mark (sym e)
 mark_is k (word b) is e = absurd (subst IsMark e is)
 mark_is k (number b) is e = absurd (subst IsMark e is)
+mark_is k (string b) is e = absurd (subst IsMark e is)
+mark_is k (block b) is e = absurd (subst IsMark e is)
 
 pub mark_exact : (k : TokenKind) → IsMark k → Exact (λ a. mark k ∷ []) (λ a. Unit {0}) never (satisfy (of_kind k))
 mark_exact k is = satisfy_exact (of_kind k) (λ a. mark k) (λ a. Unit {0})
@@ -59,6 +63,8 @@ mark_exact k is = satisfy_exact (of_kind k) (λ a. mark k) (λ a. Unit {0})
 name_is : (w : Lexeme) (a : List ℕ) → name_in w ≡ Some a → w ≡ word a
 name_is (word b) a e = cc
 name_is (number b) a e = cc
+name_is (string b) a e = cc
+name_is (block b) a e = cc
 name_is (mark k) a e = cc
 
 pub name_exact : Exact (λ a. word a ∷ []) (λ a. Unit {0}) never (satisfy name_in)
@@ -73,6 +79,8 @@ bytes_equal a b e = (bytes_decides a b).1 e
 keyword_is : (text : List ℕ) (w : Lexeme) (a : Unit {0}) → keyword text w ≡ Some a → w ≡ word text
 keyword_is text (word b) a e = ap word (bytes_same b text (when_true _ a e))
 keyword_is text (number b) a e = cc
+keyword_is text (string b) a e = cc
+keyword_is text (block b) a e = cc
 keyword_is text (mark k) a e = cc
 
 pub keyword_exact : (text : List ℕ) → Exact (λ a. word text ∷ []) (λ a. Unit {0}) never (satisfy (keyword text))

@@ -4,7 +4,7 @@ use Rattle.std.specs.Prelude.{codes}
 use Rattle.std.specs.Result.{IfOk}
 use Rattle.std.specs.List.{list_all}
 use Rattle.gql_base.specs.declared.lexing.LexFault.{LexFault}
-use Rattle.gql_base.specs.declared.lexing.LexFault.TheVariants.{BadChar, Memory as NoMemory}
+use Rattle.gql_base.specs.declared.lexing.LexFault.TheVariants.{BadChar, BadNumber, OpenText, BadEscape, FloatValue, Memory as NoMemory}
 use Rattle.gql_base.specs.declared.token.Token.{Token}
 use Rattle.gql_base.specs.Tokens.{HasLexemes, lexeme_of}
 use Rattle.static_cost.specs.Nodes.{Firsts}
@@ -103,6 +103,10 @@ words_all s tokens e = ap (λ l. map (lexeme_of s.text.now) l) e
 
 pub lex_refused : (fault : LexFault) → stopped_of fault ≡ NotBuilt → fault ≡ NoMemory → ⊥
 lex_refused (BadChar at) e f = cc
+lex_refused (BadNumber at) e f = cc
+lex_refused (OpenText at) e f = cc
+lex_refused (BadEscape at) e f = cc
+lex_refused (FloatValue at) e f = cc
 lex_refused NoMemory e f = cc
 
 pub schema_text : (text : List ℕ) (ws : Lexemes) (types : List TypeTree) → HasLexemes text ws → SpellsSchema ws types → HasFirstSchema text types

@@ -4,7 +4,7 @@ use Rattle.std.specs.Prelude.{ℕ, zero, suc, ◌==◌, not, Bool, true, false, 
 use Rattle.std.specs.Str.{bytes_eq}
 use Rattle.gql_base.specs.declared.token.TokenKind.{TokenKind}
 use Rattle.gql_base.specs.declared.token.TokenKind.TheVariants.{Name, Int, Str, BlockStr, Bang, Dollar, Amp, OpenParen, CloseParen, Spread, Colon, Equals, At, OpenBracket, CloseBracket, OpenBrace, Pipe, CloseBrace}
-use Rattle.gql_base.specs.Pieces.{Lexeme, word, number, mark, kind_of}
+use Rattle.gql_base.specs.Pieces.{Lexeme, word, number, string, block, mark, kind_of}
 
 abbrev pub Lexemes : Type 0
 Lexemes = List Lexeme
@@ -100,12 +100,16 @@ of_kind kind w = when (is_kind kind w)
 abbrev pub name_in : Lexeme → Option (List ℕ)
 name_in (word bytes) = Some bytes
 name_in (number bytes) = None
+name_in (string body) = None
+name_in (block body) = None
 name_in (mark kind) = None
 
 -- the name that this word is
 abbrev pub keyword : List ℕ → Lexeme → Option (Unit {0})
 keyword text (word bytes) = when (bytes_eq bytes text)
 keyword text (number bytes) = None
+keyword text (string body) = None
+keyword text (block body) = None
 keyword text (mark kind) = None
 
 -- whether a token of this kind is next

@@ -3,7 +3,7 @@ use Rattle.std.specs.Prelude.{ℕ, ◌&&◌, nat_le, Bool, true, false, List, Op
 use Rattle.std.specs.Fmt.{decimal}
 use Rattle.std.specs.Str.{bytes_eq}
 use Rattle.std.specs.Str.Parse.{digits_value}
-use Rattle.gql_base.specs.Pieces.{Lexeme, word, number, mark}
+use Rattle.gql_base.specs.Pieces.{Lexeme, word, number, string, block, mark}
 use Rattle.gql_base.specs.declared.token.TokenKind.TheVariants.{Bang, Colon, At, OpenParen, CloseParen, OpenBracket, CloseBracket, OpenBrace, CloseBrace}
 use Rattle.static_cost.specs.declared.first.FirstList.{FirstList}
 use Rattle.first_form.specs.Schemas.{FieldTree, TypeTree, greatest_size}
@@ -16,6 +16,8 @@ size_from_digits bytes = if bytes_eq bytes (decimal (digits_value 10 bytes)) && 
 abbrev pub size_in : Lexeme → Option ℕ
 size_in (number bytes) = size_from_digits bytes
 size_in (word bytes) = None
+size_in (string body) = None
+size_in (block body) = None
 size_in (mark kind) = None
 
 abbrev pub never_null : Unit {0} → Bool

@@ -57,7 +57,11 @@ impl From<LexFault> for Stop {
 
     fn from(fault: LexFault) -> Stop {
         match fault {
-            LexFault::BadChar { .. } => Stop::NotBuilt,
+            LexFault::BadChar { .. }
+            | LexFault::BadNumber { .. }
+            | LexFault::OpenText { .. }
+            | LexFault::BadEscape { .. }
+            | LexFault::FloatValue { .. } => Stop::NotBuilt,
             LexFault::Memory => Stop::Memory,
         }
     }

@@ -1,22 +1,22 @@
--- Tokens and bad characters of a UTF-8 text lie at the borders of its characters.
-use Rattle.std.proofs.Common.{◌≡◌, ℕ, zero, suc, ◌+◌, ◌-◌, ◌<◌, ◌≤◌, true, false, List, [], ◌∷◌, ◌++◌, length, drop, get_or, IsUtf8, IsCharBoundary, refl, sym, ap, ◌∙◌, arith, subst}
+-- Tokens of a UTF-8 text lie at the borders of its characters.
+use Rattle.std.proofs.Common.{◌≡◌, ℕ, suc, ◌+◌, ◌-◌, ◌<◌, ◌≤◌, true, false, List, [], ◌∷◌, ◌++◌, length, drop, get_or, IsUtf8, IsCharBoundary, refl, sym, ap, ◌∙◌, arith, subst}
 use Rattle.std.specs.List.{All}
 use Rattle.std.proofs.lemmas.Bool.Decides.{nat_tests}
 use Rattle.std.proofs.lemmas.List.{length-append, length-drop, drop-drop, drop_at, get_or_append_left}
 use Rattle.std.proofs.lemmas.List.Elements.{All-cons}
-use Rattle.std.proofs.lemmas.Str.{IsUtf8-nil, IsUtf8-drop, IsUtf8-past_char, IsCharBoundary-after_ascii, IsCharBoundary-before_ascii, IsCharBoundary-from_drop}
+use Rattle.std.proofs.lemmas.Str.{IsUtf8-nil, IsUtf8-drop, IsUtf8-past_char, IsCharBoundary-after_ascii, IsCharBoundary-before_ascii}
 use Rattle.gql_base.specs.declared.token.Token.{Token}
 use Rattle.gql_base.specs.Characters.{is_blank, is_comment_byte}
 use Rattle.gql_base.specs.Pieces.{Lexeme, Piece, token, byte_order_mark, blank, comment, lexeme_bytes, piece_bytes, IsLexeme, IsPiece, EndsBefore, Divides, token_at, tokens_from}
-use Rattle.gql_base.specs.Tokens.{Lexes, IsBadCharacter, is_border}
+use Rattle.gql_base.specs.Tokens.{Lexes, is_border}
 use Rattle.gql_base.proofs.OneDivision.{not_empty}
-use Rattle.gql_base.proofs.Places.{lexeme_is_ascii, part_start, part_end}
+use Rattle.gql_base.proofs.Places.{HasAsciiEnds, lexeme_ends, part_start, part_end}
 
 -- what follows some ASCII bytes of a text is a text
-after_ascii : (text xs after : List ℕ) → text ≡ xs ++ after → 0 < length xs → ((k : ℕ) → k < length xs → get_or xs k 0 < 128) → IsUtf8 text → IsUtf8 after
+after_ascii : (text xs after : List ℕ) → text ≡ xs ++ after → 0 < length xs → HasAsciiEnds xs → IsUtf8 text → IsUtf8 after
 after_ascii text xs after cut some ascii utf8 =
     let last : length xs - 1 < length xs = omega (arith, some) in
-    let small : get_or text (length xs - 1) 0 < 128 = rw cut (rw (get_or_append_left xs after 0 (length xs - 1) last) (ascii (length xs - 1) last)) in
+    let small : get_or text (length xs - 1) 0 < 128 = rw cut (rw (get_or_append_left xs after 0 (length xs - 1) last) ascii.1) in
     let inside : length xs - 1 < length text = omega (arith, last, ap length cut, length-append xs after) in
     let end : length xs - 1 + 1 ≡ length xs = omega (arith, some) in
     subst IsUtf8 (ap (drop (length xs)) cut ∙ drop_at xs after (length xs) refl)
@@ -25,9 +25,8 @@ after_ascii text xs after cut some ascii utf8 =
 blank_is_ascii : (c : ℕ) → is_blank c ≡ true → c < 128
 blank_is_ascii c is = grind (arith, nat_tests)
 
-one_is_ascii : (c : ℕ) → c < 128 → (k : ℕ) → k < length (c ∷ []) → get_or (c ∷ []) k 0 < 128
-one_is_ascii c small zero below = small
-one_is_ascii c small (suc k) below = omega arith
+one_is_ascii : (c : ℕ) → c < 128 → HasAsciiEnds (c ∷ [])
+one_is_ascii c small = (small, small)
 
 no_comment_is_ascii : (c : ℕ) → is_comment_byte c ≡ false → c < 128
 no_comment_is_ascii c is = grind (arith, nat_tests)
@@ -48,19 +47,10 @@ after_comment text xs (c ∷ cs) cut ends utf8 =
 -- what follows a piece of a text is a text
 after_piece : (p : Piece) (text after : List ℕ) → IsPiece p → EndsBefore p after → text ≡ piece_bytes p ++ after → IsUtf8 text → IsUtf8 after
 unfolding lib.Utf8.encode
-after_piece (token l) text after is ends cut utf8 = after_ascii text (lexeme_bytes l) after cut (not_empty (token l) is) (λ k. lexeme_is_ascii l k is) utf8
+after_piece (token l) text after is ends cut utf8 = after_ascii text (lexeme_bytes l) after cut (not_empty (token l) is) (lexeme_ends l is) utf8
 after_piece byte_order_mark text after is ends cut utf8 = IsUtf8-past_char text after 65279 utf8 cut
 after_piece (blank c) text after is ends cut utf8 = after_ascii text (c ∷ []) after cut (omega arith) (one_is_ascii c (blank_is_ascii c is)) utf8
 after_piece (comment bytes) text after is ends cut utf8 = after_comment text (35 ∷ bytes) after cut ends utf8
-
-rest_is_utf8 : (ps : List Piece) (text rest : List ℕ) → Divides ps text rest → IsUtf8 text → IsUtf8 rest
-unfolding Divides
-rest_is_utf8 [] text rest d utf8 = subst IsUtf8 d utf8
-rest_is_utf8 (p ∷ ps) text rest d utf8 = rest_is_utf8 ps d.0 rest d.4 (after_piece p text d.0 d.2 d.3 d.1 utf8)
-
-pub bad_character_border : (text : List ℕ) (at : ℕ) → IsUtf8 text → IsBadCharacter text at → IsCharBoundary text at
-bad_character_border text at utf8 bad =
-    IsCharBoundary-from_drop text at (omega (arith, bad.inside)) (rest_is_utf8 bad.pieces text (drop at text) bad.divided utf8)
 
 border_true : (text : List ℕ) (at : ℕ) → is_border text at ≡ true → IsCharBoundary text at
 border_true text at is = (grind (arith, nat_tests), λ below high. grind (arith, nat_tests))
@@ -78,8 +68,8 @@ borders_after ps text after xs at next within cut d =
 token_borders : (text after : List ℕ) (at : ℕ) (l : Lexeme) → IsUtf8 text → at ≤ length text → drop at text ≡ lexeme_bytes l ++ after → IsLexeme l → HasBorders text (token_at at l)
 unfolding HasBorders
 token_borders text after at l utf8 within cut is = (
-  border_true text at (part_start text (lexeme_bytes l) after at within cut (not_empty (token l) is) (λ k. lexeme_is_ascii l k is)),
-  border_true text (at + length (lexeme_bytes l)) (part_end text (lexeme_bytes l) after at within cut (not_empty (token l) is) (λ k. lexeme_is_ascii l k is) utf8),
+  border_true text at (part_start text (lexeme_bytes l) after at within cut (not_empty (token l) is) (lexeme_ends l is)),
+  border_true text (at + length (lexeme_bytes l)) (part_end text (lexeme_bytes l) after at within cut (not_empty (token l) is) (lexeme_ends l is) utf8),
 )
 
 borders_from : (ps : List Piece) (text : List ℕ) (at : ℕ) → IsUtf8 text → at ≤ length text → Divides ps (drop at text) [] → All (HasBorders text) (tokens_from at ps)

@@ -1,14 +1,17 @@
 -- What holds of a text that is divided into pieces.
-use Rattle.std.proofs.Common.{◌≡◌, ℕ, ◌+◌, ◌-◌, ◌<◌, ◌≤◌, List, [], ◌∷◌, ◌++◌, length, take, drop, refl, sym, ap, ◌∙◌, arith, Option, Some, None, subst}
+use Rattle.std.proofs.Common.{◌≡◌, ℕ, ◌+◌, ◌-◌, ◌<◌, ◌≤◌, List, [], ◌∷◌, ◌++◌, length, take, drop, refl, sym, ap, ◌∙◌, arith, Option, Some, None, Ok, Err, subst}
 use Rattle.std.proofs.lemmas.List.{append-nil, length-append, length-drop, drop-drop, drop_all, append_assoc}
 use Rattle.gql_base.specs.declared.lexing.Front.{Front}
 use Rattle.gql_base.specs.declared.token.Token.{Token}
 use Rattle.gql_base.specs.declared.token.TokenKind.{TokenKind}
 use Rattle.gql_base.specs.Pieces.{Piece, token, byte_order_mark, blank, comment, lexeme_bytes, kind_of, piece_bytes, IsPiece, EndsBefore, Divides, tokens_from, token_of}
-use Rattle.gql_base.specs.Tokens.{Lexes, IsBadCharacter}
+use Rattle.gql_base.specs.declared.lexing.LexFault.{LexFault}
+use Rattle.gql_base.specs.Faults.{HasFault, moved}
+use Rattle.gql_base.specs.Tokens.{Lexes}
 use Rattle.gql_base.specs.Fronts.{front_of}
 use Rattle.gql_base.proofs.Runs.{rest_of}
-use Rattle.gql_base.proofs.FrontPieces.{piece_kind, outline, begins_nothing, BeginsWith, begins_with}
+use Rattle.gql_base.proofs.FrontPieces.{piece_kind, outline, BeginsWith, begins_with}
+use Rattle.gql_base.proofs.FrontFaults.{fault_is}
 
 -- All before the place is pieces, of which these are the tokens.
 pub record LexedUpTo (text : List ℕ) (at : ℕ) (tokens : List Token) : Type 0 where
@@ -75,21 +78,21 @@ lexed_more text at tokens read f begins within lexed more = record {
 }
 
 -- what was found in the bytes from a place on
-begins_at : (text : List ℕ) (at : ℕ) (f : Front) → front_of (take (length text - at) (drop at text)) ≡ Some f → BeginsWith (drop at text) f
+begins_at : (text : List ℕ) (at : ℕ) (f : Front) → front_of (take (length text - at) (drop at text)) ≡ Ok f → BeginsWith (drop at text) f
 begins_at text at f found = begins_with (drop at text) f (sym (ap front_of (rest_of text at)) ∙ found)
 
 piece_kind_is : (p : Piece) (f : Front) (kind : Option TokenKind) → outline p ≡ f → f.kind ≡ kind → piece_kind p ≡ kind
 piece_kind_is p f kind told is = ap (λ g. g.kind) told ∙ is
 
 -- a piece that is ignored
-pub lexed_ignored : (text : List ℕ) (at : ℕ) (tokens : List Token) (f : Front) → at ≤ length text → LexedUpTo text at tokens → front_of (take (length text - at) (drop at text)) ≡ Some f → f.kind ≡ None → LexedUpTo text (at + f.length) tokens
+pub lexed_ignored : (text : List ℕ) (at : ℕ) (tokens : List Token) (f : Front) → at ≤ length text → LexedUpTo text at tokens → front_of (take (length text - at) (drop at text)) ≡ Ok f → f.kind ≡ None → LexedUpTo text (at + f.length) tokens
 lexed_ignored text at tokens f within lexed found none =
     let begins : BeginsWith (drop at text) f = begins_at text at f found in
     lexed_more text at tokens tokens f begins within lexed
     (sym (append-nil tokens) ∙ ap (λ ts. tokens ++ ts) (sym (token_of_none at begins.piece (piece_kind_is begins.piece f None begins.told none))))
 
 -- a piece that is a token
-pub lexed_token : (text : List ℕ) (at : ℕ) (tokens : List Token) (f : Front) (kind : TokenKind) → at ≤ length text → LexedUpTo text at tokens → front_of (take (length text - at) (drop at text)) ≡ Some f → f.kind ≡ Some kind → LexedUpTo text (at + f.length) (tokens ++ record { kind = kind; span = record { start = at; end = at + f.length } } ∷ [])
+pub lexed_token : (text : List ℕ) (at : ℕ) (tokens : List Token) (f : Front) (kind : TokenKind) → at ≤ length text → LexedUpTo text at tokens → front_of (take (length text - at) (drop at text)) ≡ Ok f → f.kind ≡ Some kind → LexedUpTo text (at + f.length) (tokens ++ record { kind = kind; span = record { start = at; end = at + f.length } } ∷ [])
 lexed_token text at tokens f kind within lexed found some =
     let begins : BeginsWith (drop at text) f = begins_at text at f found in
     lexed_more text at tokens _ f begins within lexed
@@ -104,12 +107,15 @@ lexed_whole bytes text at tokens same end lexed = record {
   told = lexed.told;
 }
 
--- a text that is read up to a place where nothing is found
-pub bad_character_at : (bytes text : List ℕ) (at : ℕ) (tokens : List Token) → bytes ≡ text → at < length bytes → LexedUpTo bytes at tokens → front_of (take (length bytes - at) (drop at bytes)) ≡ None → IsBadCharacter text at
-bad_character_at bytes text at tokens same below lexed none =
-    subst (λ t. IsBadCharacter t at) same (record {
+-- a text that is read up to a place where a fault is found
+pub fault_at : (bytes text : List ℕ) (at : ℕ) (tokens : List Token) (fault : LexFault) → bytes ≡ text → at < length bytes → LexedUpTo bytes at tokens → front_of (take (length bytes - at) (drop at bytes)) ≡ Err fault → HasFault text (moved at fault)
+fault_at bytes text at tokens fault same below lexed found =
+    subst (λ t. HasFault t (moved at fault)) same (record {
+      at = at;
       inside = below;
       pieces = lexed.pieces;
       divided = lexed.divided;
-      begins_none = begins_nothing (drop at bytes) (sym (ap front_of (rest_of bytes at)) ∙ none);
+      first = fault;
+      begins = fault_is (drop at bytes) fault (sym (ap front_of (rest_of bytes at)) ∙ found);
+      told = refl;
     })

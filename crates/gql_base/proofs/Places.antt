@@ -1,19 +1,19 @@
 -- Where the tokens of a text lie.
 use Rattle.std.proofs.Common.{◌≡◌, ℕ, zero, suc, ◌+◌, ◌-◌, ◌<◌, ◌≤◌, inl, inr, ◌&&◌, nat_le, Bool, true, if◌then◌else◌, List, [], ◌∷◌, ◌++◌, length, take, drop, get_or, map, IsUtf8, refl, sym, ap, ◌∙◌, arith, subst}
 use Rattle.std.specs.List.{All}
-use Rattle.std.specs.Char.{is_ascii_digit}
 use Rattle.std.proofs.lemmas.Bool.{cases_lt}
 use Rattle.std.proofs.lemmas.Bool.Decides.{nat_tests}
-use Rattle.std.proofs.lemmas.List.{get_or_append_left, length-append, length-drop, drop-drop, drop_at, take_at, get_or-drop}
+use Rattle.std.proofs.lemmas.List.{get_or_past, get_or_append_left, length-append, length-drop, drop-drop, drop_at, take_at, get_or-drop, append_assoc}
 use Rattle.std.proofs.lemmas.List.Elements.{All-cons}
 use Rattle.std.proofs.lemmas.Str.{lead_after_ascii}
 use Rattle.gql_base.specs.declared.token.Token.{Token}
 use Rattle.gql_base.specs.declared.token.TokenKind.{TokenKind}
 use Rattle.gql_base.specs.declared.token.TokenKind.TheVariants.{Name, Int, Str, BlockStr, Bang, Dollar, Amp, OpenParen, CloseParen, Spread, Colon, Equals, At, OpenBracket, CloseBracket, OpenBrace, Pipe, CloseBrace}
 use Rattle.gql_base.specs.Characters.{is_name_start, is_name_continue}
-use Rattle.gql_base.specs.Pieces.{Lexeme, word, number, mark, Piece, token, byte_order_mark, blank, comment, mark_bytes, lexeme_bytes, kind_of, IsLexeme, Divides, token_at, tokens_from, lexemes_of}
+use Rattle.gql_base.specs.Pieces.{Lexeme, word, number, string, block, mark, Piece, token, byte_order_mark, blank, comment, mark_bytes, lexeme_bytes, kind_of, IsName, IsInteger, IsLexeme, Divides, token_at, tokens_from, lexemes_of}
 use Rattle.gql_base.specs.Tokens.{Lexes, HasLexemes, AreInOrder, is_border, bytes_at, lexeme_with, lexeme_of}
-use Rattle.gql_base.proofs.OneDivision.{not_empty}
+use Rattle.gql_base.proofs.Integers.{integer_ascii}
+use Rattle.gql_base.proofs.OneDivision.{not_empty, inner_string, inner_block}
 
 -- the tokens of a text from a place on are in order
 in_order_from : (ps : List Piece) (text rest : List ℕ) (from at to : ℕ) → Divides ps text rest → from ≤ at → at + length text ≤ to → AreInOrder from to (tokens_from at ps)
@@ -32,48 +32,66 @@ in_order_from (comment bytes ∷ ps) text rest from at to d start end =
 pub in_order : (text : List ℕ) (ts : List Token) → Lexes text ts → AreInOrder 0 (length text) ts
 in_order text ts l = subst (AreInOrder 0 (length text)) (sym l.told) (in_order_from l.pieces text [] 0 0 (length text) l.divided (omega arith) (omega arith))
 
--- each byte of a token is ASCII
+-- the first and the last byte of a token are ASCII
+abbrev pub HasAsciiEnds : List ℕ → Type 0
+HasAsciiEnds xs = (get_or xs 0 0 < 128) × (get_or xs (length xs - 1) 0 < 128)
+
 start_is_ascii : (c : ℕ) → is_name_start c ≡ true → c < 128
 start_is_ascii c is = grind (arith, nat_tests)
 
 continue_is_ascii : (c : ℕ) → is_name_continue c ≡ true → c < 128
 continue_is_ascii c is = grind (arith, nat_tests)
 
-digit_is_ascii : (c : ℕ) → is_ascii_digit c ≡ true → c < 128
-digit_is_ascii c is = grind (arith, nat_tests)
+name_is_ascii : (bytes : List ℕ) (k : ℕ) → IsName bytes → get_or bytes k 0 < 128
+name_is_ascii [] k is = absurd is
+name_is_ascii (c ∷ cs) zero is = start_is_ascii c is.0
+name_is_ascii (c ∷ cs) (suc k) is =
+    elim (cases_lt k (length cs)) [
+      | inl below ↦ continue_is_ascii (get_or cs k 0) (is.1 k 0 below)
+      | inr past ↦ rw (get_or_past cs k 0 past) (omega arith)
+    ]
 
-one_byte : (c k : ℕ) → c < 128 → get_or (c ∷ []) k 0 < 128
-one_byte c zero small = small
-one_byte c (suc k) small = omega arith
+get_or_after : (xs ys : List ℕ) → get_or (xs ++ ys) (length xs) 0 ≡ get_or ys 0 0
+get_or_after [] ys = refl
+get_or_after (x ∷ xs) ys = get_or_after xs ys
 
-mark_is_ascii : (kind : TokenKind) (k : ℕ) → get_or (mark_bytes kind) k 0 < 128
-mark_is_ascii Bang k = one_byte 33 k (omega arith)
-mark_is_ascii OpenParen k = one_byte 40 k (omega arith)
-mark_is_ascii CloseParen k = one_byte 41 k (omega arith)
-mark_is_ascii Colon k = one_byte 58 k (omega arith)
-mark_is_ascii At k = one_byte 64 k (omega arith)
-mark_is_ascii OpenBracket k = one_byte 91 k (omega arith)
-mark_is_ascii CloseBracket k = one_byte 93 k (omega arith)
-mark_is_ascii OpenBrace k = one_byte 123 k (omega arith)
-mark_is_ascii CloseBrace k = one_byte 125 k (omega arith)
-mark_is_ascii Name k = omega arith
-mark_is_ascii Int k = omega arith
-mark_is_ascii Str k = omega arith
-mark_is_ascii BlockStr k = omega arith
-mark_is_ascii Dollar k = omega arith
-mark_is_ascii Amp k = omega arith
-mark_is_ascii Spread k = omega arith
-mark_is_ascii Equals k = omega arith
-mark_is_ascii Pipe k = omega arith
+ends_with_mark : (xs : List ℕ) → get_or (xs ++ 34 ∷ []) (length (xs ++ 34 ∷ []) - 1) 0 < 128
+ends_with_mark xs =
+    let e : length xs ≡ length (xs ++ 34 ∷ []) - 1 = omega (arith, length-append xs (34 ∷ [])) in
+    subst (λ n. get_or (xs ++ 34 ∷ []) n 0 < 128) e (rw (get_or_after xs (34 ∷ [])) (omega arith))
 
-pub lexeme_is_ascii : (l : Lexeme) (k : ℕ) → IsLexeme l → k < length (lexeme_bytes l) → get_or (lexeme_bytes l) k 0 < 128
-lexeme_is_ascii (word []) k is below = absurd is
-lexeme_is_ascii (word (c ∷ cs)) zero is below = start_is_ascii c is.0
-lexeme_is_ascii (word (c ∷ cs)) (suc k) is below = continue_is_ascii (get_or cs k 0) (is.1 k 0 (omega (arith, below)))
-lexeme_is_ascii (number []) k is below = absurd is
-lexeme_is_ascii (number (c ∷ cs)) zero is below = digit_is_ascii c is.0
-lexeme_is_ascii (number (c ∷ cs)) (suc k) is below = digit_is_ascii (get_or cs k 0) (is.1 k 0 (omega (arith, below)))
-lexeme_is_ascii (mark kind) k is below = mark_is_ascii kind k
+block_ends : (body : List ℕ) → lexeme_bytes (block body) ≡ (34 ∷ 34 ∷ 34 ∷ (body ++ 34 ∷ 34 ∷ [])) ++ 34 ∷ []
+block_ends body = ap (λ xs. 34 ∷ 34 ∷ 34 ∷ xs) (sym (append_assoc body (34 ∷ 34 ∷ []) (34 ∷ [])))
+
+mark_ends : (kind : TokenKind) → HasAsciiEnds (mark_bytes kind)
+mark_ends Bang = (omega arith, omega arith)
+mark_ends Dollar = (omega arith, omega arith)
+mark_ends Amp = (omega arith, omega arith)
+mark_ends OpenParen = (omega arith, omega arith)
+mark_ends CloseParen = (omega arith, omega arith)
+mark_ends Spread = (omega arith, omega arith)
+mark_ends Colon = (omega arith, omega arith)
+mark_ends Equals = (omega arith, omega arith)
+mark_ends At = (omega arith, omega arith)
+mark_ends OpenBracket = (omega arith, omega arith)
+mark_ends CloseBracket = (omega arith, omega arith)
+mark_ends OpenBrace = (omega arith, omega arith)
+mark_ends Pipe = (omega arith, omega arith)
+mark_ends CloseBrace = (omega arith, omega arith)
+mark_ends Name = (omega arith, omega arith)
+mark_ends Int = (omega arith, omega arith)
+mark_ends Str = (omega arith, omega arith)
+mark_ends BlockStr = (omega arith, omega arith)
+
+number_ends : (bytes : List ℕ) (k : ℕ) → IsInteger bytes → get_or bytes k 0 < 128
+number_ends bytes k is = rw is.cut (integer_ascii is.minus is.whole k is.is)
+
+pub lexeme_ends : (l : Lexeme) → IsLexeme l → HasAsciiEnds (lexeme_bytes l)
+lexeme_ends (word bytes) is = (name_is_ascii bytes 0 is, name_is_ascii bytes (length bytes - 1) is)
+lexeme_ends (number bytes) is = (number_ends bytes 0 is, number_ends bytes (length bytes - 1) is)
+lexeme_ends (string body) is = (omega arith, ends_with_mark (34 ∷ body))
+lexeme_ends (block body) is = subst HasAsciiEnds (sym (block_ends body)) (omega arith, ends_with_mark (34 ∷ 34 ∷ 34 ∷ (body ++ 34 ∷ 34 ∷ [])))
+lexeme_ends (mark kind) is = mark_ends kind
 
 -- a byte of a part of a text is one of the text
 byte_of_part : (text xs after : List ℕ) (at k : ℕ) → drop at text ≡ xs ++ after → k < length xs → get_or text (at + k) 0 ≡ get_or xs k 0
@@ -102,23 +120,26 @@ nat_le_more : (at n : ℕ) → nat_le at (at + n) ≡ true
 nat_le_more at n = grind (arith, nat_tests)
 
 -- a part of a text that is ASCII, and not empty
-module _ (text xs after : List ℕ) (at : ℕ) (within : at ≤ length text) (cut : drop at text ≡ xs ++ after) (some : 0 < length xs) (ascii : (k : ℕ) → k < length xs → get_or xs k 0 < 128) where
+module _ (text xs after : List ℕ) (at : ℕ) (within : at ≤ length text) (cut : drop at text ≡ xs ++ after) (some : 0 < length xs) (ascii : HasAsciiEnds xs) where
   part_inside : at + length xs ≤ length text
   part_inside = omega (arith, ap length cut, length-append xs after, length-drop at text, within)
 
-  part_is_ascii : (k : ℕ) → k < length xs → get_or text (at + k) 0 < 128
-  part_is_ascii k below = rw (byte_of_part text xs after at k cut below) (ascii k below)
+  first_is_ascii : get_or text (at + 0) 0 < 128
+  first_is_ascii = rw (byte_of_part text xs after at 0 cut some) ascii.0
+
+  last_is_ascii : get_or text (at + (length xs - 1)) 0 < 128
+  last_is_ascii = rw (byte_of_part text xs after at (length xs - 1) cut (omega (arith, some))) ascii.1
 
   pub part_start : is_border text at ≡ true
   part_start =
       let e : at + 0 ≡ at = omega arith in
-      border_at text at (omega (arith, part_inside, some)) (subst (λ n. get_or text n 0 < 128) e (part_is_ascii 0 some))
+      border_at text at (omega (arith, part_inside, some)) (subst (λ n. get_or text n 0 < 128) e first_is_ascii)
 
   pub part_end : IsUtf8 text → is_border text (at + length xs) ≡ true
   part_end utf8 =
       let e : at + (length xs - 1) + 1 ≡ at + length xs = omega (arith, some) in
       subst (λ n. is_border text n ≡ true) e
-      (border_after text (at + (length xs - 1)) utf8 (omega (arith, part_inside, some)) (part_is_ascii (length xs - 1) (omega (arith, some))))
+      (border_after text (at + (length xs - 1)) utf8 (omega (arith, part_inside, some)) last_is_ascii)
 
   part_bytes : IsUtf8 text → bytes_at text (record { start = at; end = at + length xs }) ≡ xs
   part_bytes utf8 =
@@ -127,11 +148,13 @@ module _ (text xs after : List ℕ) (at : ℕ) (within : at ≤ length text) (cu
 
 -- the bytes of a token's span are the token's
 bytes_of_token : (text after : List ℕ) (at : ℕ) (l : Lexeme) → IsUtf8 text → at ≤ length text → drop at text ≡ lexeme_bytes l ++ after → IsLexeme l → bytes_at text (token_at at l).span ≡ lexeme_bytes l
-bytes_of_token text after at l utf8 within cut is = part_bytes text (lexeme_bytes l) after at within cut (not_empty (token l) is) (λ k. lexeme_is_ascii l k is) utf8
+bytes_of_token text after at l utf8 within cut is = part_bytes text (lexeme_bytes l) after at within cut (not_empty (token l) is) (lexeme_ends l is) utf8
 
 same_lexeme : (l : Lexeme) → IsLexeme l → lexeme_with (kind_of l) (lexeme_bytes l) ≡ l
 same_lexeme (word bytes) is = refl
 same_lexeme (number bytes) is = refl
+same_lexeme (string body) is = ap string (inner_string body)
+same_lexeme (block body) is = ap block (inner_block body)
 same_lexeme (mark Bang) is = refl
 same_lexeme (mark OpenParen) is = refl
 same_lexeme (mark CloseParen) is = refl
@@ -145,11 +168,11 @@ same_lexeme (mark Name) is = absurd (omega (arith, is))
 same_lexeme (mark Int) is = absurd (omega (arith, is))
 same_lexeme (mark Str) is = absurd (omega (arith, is))
 same_lexeme (mark BlockStr) is = absurd (omega (arith, is))
-same_lexeme (mark Dollar) is = absurd (omega (arith, is))
-same_lexeme (mark Amp) is = absurd (omega (arith, is))
-same_lexeme (mark Spread) is = absurd (omega (arith, is))
-same_lexeme (mark Equals) is = absurd (omega (arith, is))
-same_lexeme (mark Pipe) is = absurd (omega (arith, is))
+same_lexeme (mark Dollar) is = refl
+same_lexeme (mark Amp) is = refl
+same_lexeme (mark Spread) is = refl
+same_lexeme (mark Equals) is = refl
+same_lexeme (mark Pipe) is = refl
 
 -- what holds from the place after some bytes on
 lexemes_after : (ps : List Piece) (text after xs : List ℕ) (at : ℕ) → (at + length xs ≤ length text → Divides ps (drop (at + length xs) text) [] → map (lexeme_of text) (tokens_from (at + length xs) ps) ≡ lexemes_of ps) → at ≤ length text → drop at text ≡ xs ++ after → Divides ps after [] → map (lexeme_of text) (tokens_from (at + length xs) ps) ≡ lexemes_of ps

@@ -1,16 +1,21 @@
 -- How a text is divided into tokens and what is ignored between them (GraphQL October 2021, 2.1).
-use Rattle.std.specs.Prelude.{◌≡◌, ℕ, ◌+◌, ◌<◌, Bool, false, List, [], ◌∷◌, ◌++◌, length, IsTrue}
+use Rattle.std.specs.Prelude.{◌≡◌, ℕ, ◌+◌, ◌^◌, ◌<◌, ◌≤◌, Bool, true, false, List, [], ◌∷◌, ◌++◌, length, IsTrue, None, Some}
 use Rattle.std.specs.List.{AllPass}
-use Rattle.std.specs.Char.{is_ascii_digit}
+use Rattle.std.specs.Str.Parse.{digits_value}
 use Rattle.gql_base.specs.declared.token.Token.{Token}
 use Rattle.gql_base.specs.declared.token.TokenKind.{TokenKind}
 use Rattle.gql_base.specs.declared.token.TokenKind.TheVariants.{Name, Int, Str, BlockStr, Bang, Dollar, Amp, OpenParen, CloseParen, Spread, Colon, Equals, At, OpenBracket, CloseBracket, OpenBrace, Pipe, CloseBrace}
-use Rattle.gql_base.specs.Characters.{is_name_start, is_name_continue, is_blank, is_comment_byte}
+use Rattle.gql_base.specs.Characters.{is_name_start, is_name_continue, is_blank, is_comment_byte, follows_no_number}
+use Rattle.gql_base.specs.Numbers.{IsWhole, minus_bytes}
+use Rattle.gql_base.specs.Strings.{closed_at, block_closed_at, begins_with_marks, text_fault, block_fault}
 
--- A token without its place: a name or a number with its bytes, or a punctuator, which its kind tells.
+-- A token without its place: a name or an integer with its bytes, a string or a block string with what stands
+-- between its marks, or a punctuator, which its kind tells.
 pub data Lexeme : Type 0 where
   word : (bytes : List ℕ) → Lexeme
   number : (bytes : List ℕ) → Lexeme
+  string : (body : List ℕ) → Lexeme
+  block : (body : List ℕ) → Lexeme
   mark : (kind : TokenKind) → Lexeme
 
 -- What a text is made of: tokens, and what is ignored, which is a byte order mark, a blank, or a comment
@@ -21,7 +26,7 @@ pub data Piece : Type 0 where
   blank : (byte : ℕ) → Piece
   comment : (bytes : List ℕ) → Piece
 
--- the bytes of a punctuator: `! ( ) : @ [ ] { }`; a kind without bytes is no punctuator here
+-- the bytes of a punctuator; a kind without bytes is none
 abbrev pub mark_bytes : TokenKind → List ℕ
 mark_bytes Bang = 33 ∷ []
 mark_bytes OpenParen = 40 ∷ []
@@ -36,20 +41,24 @@ mark_bytes Name = []
 mark_bytes Int = []
 mark_bytes Str = []
 mark_bytes BlockStr = []
-mark_bytes Dollar = []
-mark_bytes Amp = []
-mark_bytes Spread = []
-mark_bytes Equals = []
-mark_bytes Pipe = []
+mark_bytes Dollar = 36 ∷ []
+mark_bytes Amp = 38 ∷ []
+mark_bytes Spread = 46 ∷ 46 ∷ 46 ∷ []
+mark_bytes Equals = 61 ∷ []
+mark_bytes Pipe = 124 ∷ []
 
 abbrev pub lexeme_bytes : Lexeme → List ℕ
 lexeme_bytes (word bytes) = bytes
 lexeme_bytes (number bytes) = bytes
+lexeme_bytes (string body) = 34 ∷ (body ++ 34 ∷ [])
+lexeme_bytes (block body) = 34 ∷ 34 ∷ 34 ∷ (body ++ 34 ∷ 34 ∷ 34 ∷ [])
 lexeme_bytes (mark kind) = mark_bytes kind
 
 abbrev pub kind_of : Lexeme → TokenKind
 kind_of (word bytes) = Name
 kind_of (number bytes) = Int
+kind_of (string body) = Str
+kind_of (block body) = BlockStr
 kind_of (mark kind) = kind
 
 abbrev pub piece_bytes : Piece → List ℕ
@@ -63,14 +72,24 @@ abbrev pub IsName : List ℕ → Type 0
 IsName [] = ⊥
 IsName (c ∷ cs) = IsTrue (is_name_start c) × AllPass is_name_continue cs
 
--- one or more digits
-abbrev pub IsNumber : List ℕ → Type 0
-IsNumber [] = ⊥
-IsNumber (c ∷ cs) = IsTrue (is_ascii_digit c) × AllPass is_ascii_digit cs
+-- how far integers reach below and above 0: those of 128 bits
+abbrev pub IsInRange : Bool → ℕ → Type 0
+IsInRange true n = n ≤ 2 ^ 127
+IsInRange false n = n < 2 ^ 127
+
+-- a minus or none, and the digits of a whole number, in the range of integers
+pub record IsInteger (bytes : List ℕ) : Type 0 where
+  pub minus : Bool
+  pub whole : List ℕ
+  pub cut : bytes ≡ minus_bytes minus ++ whole
+  pub is : IsWhole whole
+  pub small : IsInRange minus (digits_value 10 whole)
 
 abbrev pub IsLexeme : Lexeme → Type 0
 IsLexeme (word bytes) = IsName bytes
-IsLexeme (number bytes) = IsNumber bytes
+IsLexeme (number bytes) = IsInteger bytes
+IsLexeme (string body) = text_fault 0 1 body ≡ None
+IsLexeme (block body) = block_fault 3 body ≡ None
 IsLexeme (mark kind) = 0 < length (mark_bytes kind)
 
 abbrev pub IsPiece : Piece → Type 0
@@ -84,11 +103,15 @@ abbrev pub BeginsWithout : (ℕ → Bool) → List ℕ → Type 0
 BeginsWithout test [] = Unit {0}
 BeginsWithout test (c ∷ cs) = test c ≡ false
 
--- The piece is as long as possible, with this after it: a name isn't followed by a name character, a number
--- by a digit, or a comment by what it may hold.
+-- The piece ends where it must, with this after it: a name isn't followed by a name character, an integer by a
+-- digit, a dot or a name, or a comment by what it may hold. A string ends with the first mark that closes it,
+-- and isn't the beginning of a block string, which ends with the first three marks that close it.
 abbrev pub EndsBefore : Piece → List ℕ → Type 0
 EndsBefore (token (word bytes)) after = BeginsWithout is_name_continue after
-EndsBefore (token (number bytes)) after = BeginsWithout is_ascii_digit after
+EndsBefore (token (number bytes)) after = BeginsWithout follows_no_number after
+EndsBefore (token (string body)) after =
+    (closed_at false 1 (body ++ 34 ∷ after) ≡ Some (1 + length body)) × (begins_with_marks (34 ∷ (body ++ 34 ∷ after)) ≡ false)
+EndsBefore (token (block body)) after = block_closed_at 0 3 (body ++ 34 ∷ 34 ∷ 34 ∷ after) ≡ Some (3 + length body)
 EndsBefore (token (mark kind)) after = Unit {0}
 EndsBefore byte_order_mark after = Unit {0}
 EndsBefore (blank byte) after = Unit {0}
@@ -101,7 +124,7 @@ Divides (p ∷ ps) text rest = (after : List ℕ) × (text ≡ piece_bytes p ++ 
 
 -- no token and no ignored piece begins the text
 abbrev pub BeginsNothing : List ℕ → Type 0
-BeginsNothing text = (p : Piece) (after : List ℕ) → IsPiece p → text ≡ piece_bytes p ++ after → ⊥
+BeginsNothing text = (p : Piece) (after : List ℕ) → text ≡ piece_bytes p ++ after → IsPiece p → EndsBefore p after → ⊥
 
 -- the token of a lexeme whose first byte is at this place
 abbrev pub token_at : ℕ → Lexeme → Token

@@ -1,13 +1,14 @@
--- The tokens of a text, or the first character that begins none.
-use Rattle.std.specs.Prelude.{◌≡◌, ℕ, ◌<◌, ◌≤◌, Bool, nat_le, nat_lt, ◌==◌, ◌&&◌, ◌||◌, List, [], ◌∷◌, length, drop, map, slice_index, slice_range, if◌then◌else◌, Result, Ok, Err, Vec}
+-- The tokens of a text, or its first fault.
+use Rattle.std.specs.Prelude.{◌≡◌, ◌⊎◌, ℕ, ◌+◌, ◌-◌, ◌<◌, ◌≤◌, Bool, nat_le, nat_lt, ◌==◌, ◌&&◌, ◌||◌, List, [], ◌∷◌, length, take, drop, map, slice_index, slice_range, if◌then◌else◌, Result, Ok, Err, Vec}
 use Rattle.std.specs.declared.alloc.Global.{Global}
 use Rattle.gql_base.specs.declared.token.Span.{Span}
 use Rattle.gql_base.specs.declared.token.Token.{Token}
 use Rattle.gql_base.specs.declared.token.TokenKind.{TokenKind}
-use Rattle.gql_base.specs.declared.token.TokenKind.TheVariants.{Name, Int}
+use Rattle.gql_base.specs.declared.token.TokenKind.TheVariants.{Name, Int, Str, BlockStr}
 use Rattle.gql_base.specs.declared.lexing.LexFault.{LexFault}
-use Rattle.gql_base.specs.declared.lexing.LexFault.TheVariants.{BadChar, Memory}
-use Rattle.gql_base.specs.Pieces.{Lexeme, word, number, mark, Piece, Divides, BeginsNothing, tokens_from, lexemes_of}
+use Rattle.gql_base.specs.declared.lexing.LexFault.TheVariants.{Memory}
+use Rattle.gql_base.specs.Pieces.{Lexeme, word, number, string, block, mark, Piece, Divides, tokens_from, lexemes_of}
+use Rattle.gql_base.specs.Faults.{HasFault}
 
 -- The text lexes as these tokens: it is pieces, each as long as possible, of which these are the tokens.
 pub record Lexes (text : List ℕ) (tokens : List Token) : Type 0 where
@@ -21,13 +22,6 @@ pub record HasLexemes (text : List ℕ) (lexemes : List Lexeme) : Type 0 where
   pub divided : Divides pieces text []
   pub told : lexemes ≡ lexemes_of pieces
 
--- All before this place is pieces, each as long as possible. The character there begins nothing.
-pub record IsBadCharacter (text : List ℕ) (at : ℕ) : Type 0 where
-  pub inside : at < length text
-  pub pieces : List Piece
-  pub divided : Divides pieces text (drop at text)
-  pub begins_none : BeginsNothing (drop at text)
-
 -- whether a character of a UTF-8 text begins at this place, or the text ends there
 abbrev pub is_border : List ℕ → ℕ → Bool
 is_border text at = (at == length text) || (nat_lt at (length text) && (nat_lt (slice_index text at) 128 || nat_le 192 (slice_index text at)))
@@ -36,12 +30,18 @@ is_border text at = (at == length text) || (nat_lt at (length text) && (nat_lt (
 abbrev pub bytes_at : List ℕ → Span → List ℕ
 bytes_at text span = if nat_le span.start span.end && is_border text span.start && is_border text span.end then slice_range text span.start span.end else []
 
+-- the bytes but for so many at each end
+abbrev pub inner : ℕ → List ℕ → List ℕ
+inner n bytes = take (length bytes - (n + n)) (drop n bytes)
+
 abbrev pub lexeme_with : TokenKind → List ℕ → Lexeme
 lexeme_with Name bytes = word bytes
 lexeme_with Int bytes = number bytes
+lexeme_with Str bytes = string (inner 1 bytes)
+lexeme_with BlockStr bytes = block (inner 3 bytes)
 lexeme_with kind bytes = mark kind
 
--- a token of a text without its place: its kind, and the bytes of a name or a number
+-- a token of a text without its place: its kind, and the bytes of a name or a number, or between marks
 abbrev pub lexeme_of : List ℕ → Token → Lexeme
 lexeme_of text token = lexeme_with token.kind (bytes_at text token.span)
 
@@ -52,8 +52,7 @@ AreInOrder from to (t ∷ ts) = (from ≤ t.span.start) × (t.span.start < t.spa
 
 -- why a text has no tokens
 abbrev pub IsFaultOf : List ℕ → LexFault → Type 0
-IsFaultOf text (BadChar at) = IsBadCharacter text at
-IsFaultOf text Memory = Unit {0}
+IsFaultOf text fault = HasFault text fault ⊎ (fault ≡ Memory)
 
 -- The answer is these tokens, unless memory ran out.
 abbrev pub Gives : List Token → Result (Vec Token Global) LexFault → Type 0
@@ -65,8 +64,7 @@ abbrev pub GivesLexemes : List ℕ → List Lexeme → Result (Vec Token Global)
 GivesLexemes text lexemes (Ok found) = map (lexeme_of text) found.items ≡ lexemes
 GivesLexemes text lexemes (Err fault) = fault ≡ Memory
 
--- The answer is a bad character at this place, unless memory ran out.
-abbrev pub RefusesAt : ℕ → Result (Vec Token Global) LexFault → Type 0
-RefusesAt at (Ok found) = ⊥
-RefusesAt at (Err (BadChar place)) = place ≡ at
-RefusesAt at (Err Memory) = Unit {0}
+-- The answer is this fault, unless memory ran out.
+abbrev pub Refuses : LexFault → Result (Vec Token Global) LexFault → Type 0
+Refuses fault (Ok found) = ⊥
+Refuses fault (Err other) = (other ≡ fault) ⊎ (other ≡ Memory)

@@ -1,5 +1,5 @@
 use Rattle.gql_base.proofs.Places.{in_order, lie_within}
-use Rattle.gql_base.proofs.Borders.{have_borders, bad_character_border}
+use Rattle.gql_base.proofs.Borders.{have_borders}
 use Rattle.gql_base.proofs.laws.tokens_lie_in_their_text.Goals as goal
 
 pub returns-clause-in_order : goal.returns-clause-in_order
@@ -10,6 +10,3 @@ returns-clause-within c = lie_within
 
 pub returns-clause-at_borders : goal.returns-clause-at_borders
 returns-clause-at_borders c = have_borders
-
-pub returns-clause-bad_at_border : goal.returns-clause-bad_at_border
-returns-clause-bad_at_border c = bad_character_border

@@ -1,0 +1,6 @@
+pub mod Documents
+pub mod DocumentReading
+pub mod Trees
+pub mod Places
+pub mod DocumentAnswers
+pub mod Picking

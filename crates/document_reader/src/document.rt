@@ -1,0 +1,118 @@
+//! Reading a document from its text.
+
+ghost use Rattle.std.specs.Prelude.{◌≡◌, ◌≤◌, ℕ, List, length, map, IfOk, IfErr, false};
+ghost use Rattle.gql_base.specs.declared.token.Token.{Token};
+ghost use Rattle.gql_base.specs.Tokens.{Lexes};
+ghost use Rattle.gql_base.specs.Symbols.{symbols_from};
+ghost use Rattle.gql_base.specs.Reading.{next};
+ghost use Rattle.gql_base.specs.Grammar.{Nested, plain, Within};
+ghost use Rattle.gql_base.specs.Answers.{level_limit};
+ghost use Rattle.gql_base.specs.Sources.{ahead, Reads};
+ghost use Rattle.document_reader.specs.Documents.{DefinitionTree, IsDocument};
+ghost use Rattle.document_reader.specs.DocumentReading.{document_at, is_there};
+ghost use Rattle.document_reader.specs.Trees.{definition_tree};
+ghost use Rattle.document_reader.specs.Places.{AllStandFrom};
+ghost use Rattle.document_reader.specs.DocumentAnswers.{IsDocumentAmong, IsDocumentOf, IsFaultAmong, IsDocumentFault, IsFaultOfHalt, IsLexicalFault, GivesTrees};
+
+use crate::definitions::definition;
+use crate::trees::{Definition, Document};
+use gql_base::{Halt, LEVEL_LIMIT, LexFault, Source, lex};
+use std::alloc::Global;
+
+/// Why a text is no document.
+#[derive(Clone, Copy, Debug, PartialEq, Eq)]
+pub enum DocFault {
+    /// The text has no tokens.
+    Lex(LexFault),
+    /// The first token with which no document goes on begins at `at`; there is none, and `at` is the text's length.
+    Unexpected { at: usize },
+    /// The token at `at` opens a level above the limit.
+    TooDeep { at: usize },
+    /// There was no memory for the document.
+    Memory,
+}
+
+/// Whether there is a token with this number.
+fn is_there(source: &Source, at: usize) -> bool
+    ensures there { result ≡ is_there (next (ahead source.now at)) }
+    ensures end { result ≡ false → length source.now.tokens.now ≤ at }
+{
+    if at < source.tokens.len() {
+        return true;
+    }
+    false
+}
+
+/// All definitions of the tokens.
+fn definitions(alloc: Global, source: &Source) -> Result<Vec<Definition>, Halt>
+    ensures read { Reads source.now (λ v. (map definition_tree v.items, length source.now.tokens.now)) result (document_at level_limit (ahead source.now 0)) }
+    ensures places { IfOk result (λ v. AllStandFrom source.now.text.now source.now.tokens.now 0 (length source.now.tokens.now) v.items) }
+{
+    let mut definitions = Vec::new(alloc);
+    let (first, end) = definition(alloc, source, 0, LEVEL_LIMIT)?;
+    definitions.push(first)?;
+    let mut at = end;
+    'rest: while is_there(source, at) {
+        let (definition, end) = definition(alloc, source, at, LEVEL_LIMIT)?;
+        definitions.push(definition)?;
+        at = end;
+    }
+    Ok(definitions)
+}
+
+/// The fault of reading that halted.
+fn fault_of(source: &Source, halt: Halt) -> DocFault
+    ensures { IsFaultOfHalt source.now halt result }
+{
+    match halt {
+        Halt::Unexpected(place) => DocFault::Unexpected {
+            at: source.offset(place),
+        },
+        Halt::TooDeep(place) => DocFault::TooDeep {
+            at: source.offset(place),
+        },
+        Halt::Memory => DocFault::Memory,
+    }
+}
+
+/// The fault of a text without tokens.
+fn lexical(fault: LexFault) -> DocFault
+    ensures { IsLexicalFault fault result }
+{
+    match fault {
+        LexFault::Memory => DocFault::Memory,
+        other => DocFault::Lex(other),
+    }
+}
+
+/// The document that the tokens are.
+fn parse(alloc: Global, source: &Source) -> Result<Document, DocFault>
+    ensures found { IfOk result (λ d. IsDocumentAmong source.now.text.now source.now.tokens.now d) }
+    ensures only { (trees : List DefinitionTree) (front : Nested) → IsDocument trees front → Within level_limit front → symbols_from source.now.text.now source.now.tokens.now 0 ≡ plain front → GivesTrees trees result }
+    ensures fault { IfErr result (λ f. IsFaultAmong source.now.text.now source.now.tokens.now f) }
+{
+    match definitions(alloc, source) {
+        Ok(definitions) => Ok(Document { definitions }),
+        Err(halt) => Err(fault_of(source, halt)),
+    }
+}
+
+/// The document that `text` is (GraphQL October 2021, 2.2). Where the text has no tokens, that is its fault. Otherwise
+/// the fault is the first token with which no document goes on, or that opens a level above the limit: a selection
+/// set, a list, an object or a list type.
+pub fn read_document(alloc: Global, text: &str) -> Result<Document, DocFault>
+    ensures found { IfOk result (λ d. IsDocumentOf text.now d) }
+    ensures only { (tokens : List Token) (trees : List DefinitionTree) (front : Nested) → Lexes text.now tokens → IsDocument trees front → Within level_limit front → symbols_from text.now tokens 0 ≡ plain front → GivesTrees trees result }
+    ensures fault { IfErr result (λ f. IsDocumentFault text.now f) }
+{
+    match lex(alloc, text) {
+        Ok(tokens) => parse(
+            alloc,
+            &Source {
+                text,
+                tokens: tokens.as_slice(),
+            },
+        ),
+        Err(fault) => Err(lexical(fault)),
+    }
+}

@@ -1,0 +1,15 @@
+//! Reading of executable GraphQL documents (GraphQL October 2021, 2.2 to 2.12).
+#![tactic(auto)]
+
+mod arguments;
+mod definitions;
+mod document;
+mod picking;
+mod selections;
+#[cfg(test)]
+mod tests;
+mod trees;
+
+pub use document::{DocFault, read_document};
+pub use picking::{PickFault, pick};
+pub use trees::{Definition, Document, Field, Fragment, Operation, Selection, VariableDef};

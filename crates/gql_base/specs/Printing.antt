@@ -1,0 +1,84 @@
+-- The one form in which symbols are printed: one space between two of them, but none after `$` and `@`.
+use Rattle.std.specs.Prelude.{ℕ, ◌==◌, not, ◌||◌, Bool, false, List, [], ◌∷◌, ◌++◌, codes, if◌then◌else◌}
+use Rattle.std.specs.List.{flat_map}
+use Rattle.std.specs.Char.{encode_utf8}
+use Rattle.std.specs.Str.{chars}
+use Rattle.std.specs.Fmt.{signed_decimal}
+use Rattle.gql_base.specs.declared.token.TokenKind.{TokenKind}
+use Rattle.gql_base.specs.declared.token.TokenKind.TheVariants.{Bang, Dollar, Amp, OpenParen, CloseParen, Spread, Colon, Equals, At, OpenBracket, CloseBracket, OpenBrace, Pipe, CloseBrace}
+use Rattle.gql_base.specs.Symbols.{Symbol, punctuator, identifier, integer, string, Symbols, kind_number}
+
+-- the text of a punctuator
+abbrev pub mark_text : TokenKind → List ℕ
+mark_text Bang = codes "!"
+mark_text Dollar = codes "$"
+mark_text Amp = codes "&"
+mark_text OpenParen = codes "("
+mark_text CloseParen = codes ")"
+mark_text Spread = codes "..."
+mark_text Colon = codes ":"
+mark_text Equals = codes "="
+mark_text At = codes "@"
+mark_text OpenBracket = codes "["
+mark_text CloseBracket = codes "]"
+mark_text OpenBrace = codes "{"
+mark_text Pipe = codes "|"
+mark_text CloseBrace = codes "}"
+mark_text kind = []
+
+-- a character in a string, with its escape if it has one here: `"`, `\`, a line feed, a carriage return, a tab, a
+-- backspace and a form feed
+abbrev pub escaped : ℕ → List ℕ
+escaped c =
+    if c == 34 then 92 ∷ 34 ∷ []
+    else if c == 92 then 92 ∷ 92 ∷ []
+    else if c == 10 then 92 ∷ 110 ∷ []
+    else if c == 13 then 92 ∷ 114 ∷ []
+    else if c == 9 then 92 ∷ 116 ∷ []
+    else if c == 8 then 92 ∷ 98 ∷ []
+    else if c == 12 then 92 ∷ 102 ∷ []
+    else encode_utf8 c
+
+-- the characters of a string, escaped
+abbrev pub all_escaped : List ℕ → List ℕ
+all_escaped text = flat_map escaped (chars text)
+
+-- the text of a symbol
+abbrev pub symbol_text : Symbol → List ℕ
+symbol_text (punctuator kind) = mark_text kind
+symbol_text (identifier bytes at) = bytes
+symbol_text (integer value) = signed_decimal value
+symbol_text (string value) = (34 ∷ []) ++ (all_escaped value ++ (34 ∷ []))
+
+-- no space stands after these kinds
+abbrev pub is_tight : TokenKind → Bool
+is_tight kind = (kind_number kind == 5) || (kind_number kind == 12)
+
+abbrev pub symbol_is_tight : Symbol → Bool
+symbol_is_tight (punctuator kind) = is_tight kind
+symbol_is_tight (identifier bytes at) = false
+symbol_is_tight (integer value) = false
+symbol_is_tight (string value) = false
+
+-- what was printed, and whether a space stands before what comes next
+abbrev pub Printed : Type 0
+Printed = List ℕ × Bool
+
+abbrev pub with_space : Printed → List ℕ
+with_space p = if p.1 then p.0 ++ (32 ∷ []) else p.0
+
+abbrev pub put_text : Printed → List ℕ → Bool → Printed
+put_text p text tight = (with_space p ++ text, not tight)
+
+-- one more symbol
+abbrev pub put : Printed → Symbol → Printed
+put p w = put_text p (symbol_text w) (symbol_is_tight w)
+
+-- more symbols
+unfoldable pub put_all : Printed → Symbols → Printed
+put_all p [] = p
+put_all p (w ∷ ws) = put_all (put p w) ws
+
+-- the printed form of symbols
+abbrev pub printed : Symbols → List ℕ
+printed ws = (put_all ([], false) ws).0
