@@ -1,8 +1,9 @@
 //! Documents as they are read, and the operations that are picked.
 use crate::{
-    Definition, DocFault, Document, Field, Operation, PickFault, Selection, pick, read_document,
+    Definition, DocFault, Document, Field, Operation, PickFault, Selection, VariableDef, pick,
+    read_document,
 };
-use gql_base::{Argument, Directive, LexFault, Name, OperationKind, Value};
+use gql_base::{Argument, Directive, LexFault, Name, OperationKind, TypeRef, Value};
 use std::alloc::Global;
 use std::fmt::Write;
 use std::test::Fail;
@@ -19,11 +20,12 @@ fn arguments(of: &[Argument], into: &mut String) -> Result<(), Fail> {
         match &argument.value {
             Value::Int(value) => write!(into, ":{value}")?,
             Value::EnumName(value) => write!(into, ":{}", value.text.as_str())?,
+            Value::Var(value) => write!(into, ":${}", value.text.as_str())?,
+            Value::Str(value) => write!(into, ":'{}'", value.as_str())?,
             Value::Bool(value) => write!(into, ":{value}")?,
             Value::Null => write!(into, ":null")?,
             Value::List(items) => write!(into, ":[{}]", items.len())?,
             Value::Object(fields) => write!(into, ":{{{}}}", fields.len())?,
-            _ => write!(into, ":other")?,
         }
         write!(into, ")")?;
     }
@@ -87,6 +89,28 @@ fn selections(of: &[Selection], into: &mut String) -> Result<(), Fail> {
     Ok(())
 }
 
+/// The variables with their names, and the rest of them by signs: `!` for a type that isn't null, `[` for a list, `=`
+/// for a default.
+fn variables(of: &[VariableDef], into: &mut String) -> Result<(), Fail> {
+    for variable in of {
+        write!(into, " $")?;
+        name(&variable.name, into)?;
+        match &variable.of {
+            TypeRef::Named(of) => {
+                write!(into, ":")?;
+                name(of, into)?;
+            }
+            TypeRef::ListOf(_) => write!(into, ":[")?,
+            TypeRef::NonNull(_) => write!(into, ":!")?,
+        }
+        if variable.default.is_some() {
+            write!(into, "=")?;
+        }
+        directives(variable.directives.as_slice(), into)?;
+    }
+    Ok(())
+}
+
 fn operation(of: &Operation, into: &mut String) -> Result<(), Fail> {
     let kind = match of.kind {
         OperationKind::Query => "query",
@@ -98,6 +122,7 @@ fn operation(of: &Operation, into: &mut String) -> Result<(), Fail> {
         write!(into, " ")?;
         name(of, into)?;
     }
+    variables(of.variables.as_slice(), into)?;
     directives(of.directives.as_slice(), into)?;
     selections(of.selections.as_slice(), into)
 }
@@ -120,13 +145,24 @@ fn document(of: &Document, into: &mut String) -> Result<(), Fail> {
     Ok(())
 }
 
+fn lexical(fault: LexFault, into: &mut String) -> Result<(), Fail> {
+    match fault {
+        LexFault::BadChar { at } => write!(into, "BadChar {at}")?,
+        LexFault::BadNumber { at } => write!(into, "BadNumber {at}")?,
+        LexFault::OpenText { at } => write!(into, "OpenText {at}")?,
+        LexFault::BadEscape { at } => write!(into, "BadEscape {at}")?,
+        LexFault::FloatValue { at } => write!(into, "FloatValue {at}")?,
+        LexFault::Memory => write!(into, "Memory")?,
+    }
+    Ok(())
+}
+
 /// The document that a text is, or its fault.
 fn told(alloc: Global, text: &str) -> Result<String, Fail> {
     let mut told = String::new(alloc);
     match read_document(alloc, text) {
         Ok(of) => document(&of, &mut told)?,
-        Err(DocFault::Lex(LexFault::BadChar { at })) => write!(told, "BadChar {at}")?,
-        Err(DocFault::Lex(_)) => write!(told, "Lex")?,
+        Err(DocFault::Lex(fault)) => lexical(fault, &mut told)?,
         Err(DocFault::Unexpected { at }) => write!(told, "Unexpected {at}")?,
         Err(DocFault::TooDeep { at }) => write!(told, "TooDeep {at}")?,
         Err(DocFault::Memory) => write!(told, "Memory")?,
@@ -159,8 +195,105 @@ fn documents_are_read(rt: HostRuntime) -> Result<(), Fail> {
             "fragment true@9 on on@17{ a@21 };query@24{ b@25 };",
         ),
         ("{a}{b}", "query@0{ a@1 };query@3{ b@4 };"),
+        ("\u{feff}{\u{feff}a}", "query@3{ a@7 };"),
+        ("#b\n{a}#c", "query@3{ a@4 };"),
+        ("{a}\n#", "query@0{ a@1 };"),
+        ("{a,,b}", "query@0{ a@1 b@4 };"),
+        (
+            "{a(b:$c d:\"e\" f:\"\"\"g\"\"\" h:{})}",
+            "query@0{ a@1(b@3:$c)(d@8:'e')(f@14:'g')(h@24:{0}) };",
+        ),
+        (
+            "{a(b:on c:fragment)}",
+            "query@0{ a@1(b@3:on)(c@8:fragment) };",
+        ),
     ] {
         assert_eq!(rt; told(rt.alloc(), text)?.as_str(), of, "{text}");
+    }
+    Ok(())
+}
+
+#[test]
+fn fragments_and_variables_are_read(rt: HostRuntime) -> Result<(), Fail> {
+    for (text, of) in [
+        ("{...a}", "query@0{ ...a@4 };"),
+        ("{... a@d}", "query@0{ ...a@5 @d@7 };"),
+        (
+            "{...true ...fragment}",
+            "query@0{ ...true@4 ...fragment@12 };",
+        ),
+        ("{...{a}}", "query@0{ ... on { a@5 } };"),
+        ("{...@d{a}}", "query@0{ ... on  @d@5{ a@7 } };"),
+        ("{...on b{a}}", "query@0{ ... on b@7{ a@9 } };"),
+        ("{...on on{a}}", "query@0{ ... on on@7{ a@10 } };"),
+        ("query($a:b){c}", "query@0 $a@7:b@9{ c@12 };"),
+        (
+            "query q($a:[b]=[1]@d(e:2)$c:b!){f}",
+            "query@0 q@6 $a@9:[= @d@19(e@21:2) $c@26:!{ f@32 };",
+        ),
+        (
+            "query($a:b={c:null},$d:[[b!]!]!)@e(f:$a){g}",
+            "query@0 $a@7:b@9= $d@21:! @e@33(f@35:$a){ g@41 };",
+        ),
+        (
+            "fragment a on b@c(d:$e){f}",
+            "fragment a@9 on b@14 @c@16(d@18:$e){ f@24 };",
+        ),
+    ] {
+        assert_eq!(rt; told(rt.alloc(), text)?.as_str(), of, "{text}");
+    }
+    Ok(())
+}
+
+#[test]
+fn lexical_faults_come_first(rt: HostRuntime) -> Result<(), Fail> {
+    for (text, fault) in [
+        ("{ user(x: 1.5) { id } }", "FloatValue 10"),
+        ("} 01", "BadNumber 2"),
+        ("{a(b:\"c)}", "OpenText 5"),
+        ("{a(b:\"\\uD83D\")}", "BadEscape 6"),
+        ("{..a}", "BadChar 1"),
+        ("{....a}", "BadChar 4"),
+        ("{} \"\"\"a", "OpenText 3"),
+    ] {
+        assert_eq!(rt; told(rt.alloc(), text)?.as_str(), fault, "{text}");
+    }
+    Ok(())
+}
+
+#[test]
+fn no_document_goes_on_with_the_first_fault(rt: HostRuntime) -> Result<(), Fail> {
+    for (text, fault) in [
+        ("query(){a}", "Unexpected 6"),
+        ("query($a:b", "Unexpected 10"),
+        ("query($a){b}", "Unexpected 8"),
+        ("query($a:$b){c}", "Unexpected 9"),
+        ("query($a:b!!){c}", "Unexpected 11"),
+        ("query($a:[]){c}", "Unexpected 10"),
+        ("query($a:b=$c){d}", "Unexpected 11"),
+        ("query($a:b=[$c]){d}", "Unexpected 12"),
+        ("query($a:b={c:$d}){e}", "Unexpected 14"),
+        ("query($a:b@c(d:$e)){f}", "Unexpected 15"),
+        ("query q{}", "Unexpected 8"),
+        ("query", "Unexpected 5"),
+        ("query mutation fragment", "Unexpected 15"),
+        ("{...on}", "Unexpected 6"),
+        ("{...on{a}}", "Unexpected 6"),
+        ("{...on a}", "Unexpected 8"),
+        ("{...}", "Unexpected 4"),
+        ("{a...}", "Unexpected 5"),
+        ("{a:b:c}", "Unexpected 4"),
+        ("{a(1:b)}", "Unexpected 3"),
+        ("{a(b:c}", "Unexpected 6"),
+        ("{a(b:|)}", "Unexpected 5"),
+        ("{$a}", "Unexpected 1"),
+        ("{\"a\"}", "Unexpected 1"),
+        ("fragment a on b", "Unexpected 15"),
+        ("fragment a on b{}", "Unexpected 16"),
+        ("{a}\"b\"{c}", "Unexpected 3"),
+        ("type a{b:c}", "Unexpected 0"),
+    ] {
+        assert_eq!(rt; told(rt.alloc(), text)?.as_str(), fault, "{text}");
     }
     Ok(())
 }
@@ -227,6 +360,25 @@ fn fifty_levels_are_read(rt: HostRuntime) -> Result<(), Fail> {
     let object = nested(alloc, 50, "{c:", "d", "}")?;
     let text = nested(alloc, 1, "{a(b:", object.as_str(), ")}")?;
     assert_eq!(rt; told(alloc, text.as_str())?.as_str(), "TooDeep 152");
+    Ok(())
+}
+
+#[test]
+fn levels_of_each_kind_are_counted(rt: HostRuntime) -> Result<(), Fail> {
+    let alloc = rt.alloc();
+    let sets = nested(alloc, 50, "{...", "{a}", "}")?;
+    assert_eq!(rt; told(alloc, sets.as_str())?.as_str(), "TooDeep 200");
+    let sets = nested(alloc, 49, "{...", "{a}", "}")?;
+    assert!(rt; read_document(alloc, sets.as_str()).is_ok());
+    let lists = nested(alloc, 51, "[", "a", "]")?;
+    let text = nested(alloc, 1, "query($a:", lists.as_str(), "){b}")?;
+    assert_eq!(rt; told(alloc, text.as_str())?.as_str(), "TooDeep 59");
+    let lists = nested(alloc, 50, "[", "a", "]")?;
+    let text = nested(alloc, 1, "query($a:", lists.as_str(), "){b}")?;
+    assert!(rt; read_document(alloc, text.as_str()).is_ok());
+    let objects = nested(alloc, 51, "{c:", "d", "}")?;
+    let text = nested(alloc, 1, "query($a:b=", objects.as_str(), "){e}")?;
+    assert_eq!(rt; told(alloc, text.as_str())?.as_str(), "TooDeep 161");
     Ok(())
 }
 

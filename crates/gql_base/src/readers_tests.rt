@@ -105,6 +105,15 @@ fn values_are_read(rt: HostRuntime) -> Result<(), Fail> {
         ("{}", "{} 2"),
         ("[1 [a, null] ]", "[1 [a@4 null ] ] 7"),
         ("{a: 1 b: {c: []}} d", "{a@1:1 b@6:{c@10:[] } } 13"),
+        ("$a", "$a@1 2"),
+        ("$ true", "$true@2 2"),
+        ("[$a, -3, {b: $c}]", "[$a@2 -3 {b@10:$c@14 } ] 11"),
+        ("\"a \\u0062\"", "'a b' 1"),
+        ("[\"\" \"\"\"c\"\"\"]", "['' 'c' ] 4"),
+        (
+            "-170141183460469231731687303715884105728",
+            "-170141183460469231731687303715884105728 1",
+        ),
         ("", "Unexpected 0"),
         ("]", "Unexpected 0"),
         (" !", "Unexpected 1"),
@@ -114,6 +123,14 @@ fn values_are_read(rt: HostRuntime) -> Result<(), Fail> {
         ("{1: a}", "Unexpected 1"),
         ("{a: }", "Unexpected 4"),
         ("{a: 1", "Unexpected 5"),
+        ("$", "Unexpected 1"),
+        ("$1", "Unexpected 1"),
+        ("$\"a\"", "Unexpected 1"),
+        ("...", "Unexpected 0"),
+        ("[= 1]", "Unexpected 1"),
+        ("[1 | 2]", "Unexpected 3"),
+        ("{\"a\": 1}", "Unexpected 1"),
+        ("{$a: 1}", "Unexpected 1"),
     ] {
         assert_eq!(rt; told(rt.alloc(), text)?.as_str(), value, "{text}");
     }
@@ -135,6 +152,9 @@ fn types_are_read(rt: HostRuntime) -> Result<(), Fail> {
         ("[A", "Unexpected 2"),
         ("[A!!]", "Unexpected 3"),
         ("[A B]", "Unexpected 3"),
+        ("$A", "Unexpected 0"),
+        ("\"A\"", "Unexpected 0"),
+        ("[A = B]", "Unexpected 3"),
     ] {
         assert_eq!(rt; told_type(rt.alloc(), text)?.as_str(), of, "{text}");
     }
@@ -152,6 +172,25 @@ fn nested(alloc: Global, levels: usize, inner: &str) -> Result<String, Fail> {
         write!(text, "]")?;
     }
     Ok(text)
+}
+
+#[test]
+fn fifty_objects_are_read(rt: HostRuntime) -> Result<(), Fail> {
+    let mut text = String::new(rt.alloc());
+    for _ in 0..50 {
+        write!(text, "{{a:")?;
+    }
+    write!(text, "1")?;
+    for _ in 0..50 {
+        write!(text, "}}")?;
+    }
+    let tokens = lex(rt.alloc(), text.as_str())?;
+    let value = read_value(rt.alloc(), tokens.as_slice(), text.as_str(), 0);
+    assert!(rt; matches!(value, Ok((Value::Object(_), 201))));
+    let mut deeper = String::new(rt.alloc());
+    write!(deeper, "[{}]", text.as_str())?;
+    assert_eq!(rt; told(rt.alloc(), deeper.as_str())?.as_str(), "TooDeep 148");
+    Ok(())
 }
 
 #[test]
