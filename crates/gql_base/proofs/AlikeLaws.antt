@@ -5,11 +5,11 @@ use Rattle.std.specs.Prelude.{map}
 use Rattle.std.specs.Option.{option_map}
 use Rattle.gql_base.specs.declared.token.TokenKind.{TokenKind}
 use Rattle.gql_base.specs.Symbols.{Symbol, punctuator, identifier, integer, string}
-use Rattle.gql_base.specs.Reading.{Taking, exact, Identifier, any_name, listed, second, when}
+use Rattle.gql_base.specs.Reading.{Taking, exact, Identifier, any_name, listed, second}
 use Rattle.gql_base.specs.Grammar.{Nested, Single, Pair, Image, Choice, Empty, Optional, Repeated, OneOrMore, Level, Bracketed}
 use Rattle.gql_base.specs.PlacelessSymbols.{placeless_symbol}
 use Rattle.gql_base.specs.Alike.{AreAlike}
-use Rattle.gql_base.proofs.AlikeSymbols.{none_alike, split_alike, first_alike, one_alike, punctuator_alike}
+use Rattle.gql_base.proofs.AlikeSymbols.{none_alike, split_alike, one_alike, punctuator_alike}
 
 -- Symbols that are alike to those of a thing are those of a thing too, and f, which drops offsets, makes both the same.
 pub record Alike {A : Type 0} (S : A → Nested → Type 0) (f : A → A) : Type 0 where

@@ -1,15 +1,14 @@
 -- The same symbols at other offsets are the same value or type, but for the offsets of its names.
-use Rattle.std.proofs.Common.{ℕ, suc, ◌≡◌, Bool, true, false, List, [], ◌∷◌, ◌++◌, Option, None, Some, refl, sym, ap, ◌∙◌, subst}
+use Rattle.std.proofs.Common.{ℕ, suc, ◌≡◌, Bool, true, false, List, [], ◌∷◌, ◌++◌, Some, refl, ap, ◌∙◌, subst}
 use Rattle.std.specs.Prelude.{codes, if◌then◌else◌}
 use Rattle.std.specs.Str.{bytes_eq}
 use Rattle.std.specs.Option.{option_map}
 use Rattle.gql_base.specs.declared.token.TokenKind.TheVariants.{Bang, Dollar, Colon, OpenBracket, CloseBracket, OpenBrace, CloseBrace}
 use Rattle.gql_base.specs.Symbols.{Symbol, punctuator, identifier, integer, string}
 use Rattle.gql_base.specs.Grammar.{Nested}
-use Rattle.gql_base.specs.Values.{ValueTree, variable_value, integer_value, string_value, boolean_value, null_value, enum_value, list_value, object_value, ValueTrees, no_value, value_then, FieldTrees, no_field, field_then, value_of_name, literal, IsValue, AreValues, AreFields, NamedValue, named_value_of}
+use Rattle.gql_base.specs.Values.{ValueTree, variable_value, integer_value, string_value, boolean_value, null_value, enum_value, list_value, object_value, ValueTrees, no_value, value_then, FieldTrees, no_field, field_then, literal, IsValue, AreValues, AreFields}
 use Rattle.gql_base.specs.TypeReferences.{TypeTree, named_type, list_type, non_null_type, IsNullable, IsType}
 use Rattle.gql_base.specs.PrintedTrees.{placeless, all_placeless, fields_placeless, type_placeless}
-use Rattle.gql_base.specs.PlacelessSymbols.{placeless_symbol}
 use Rattle.gql_base.specs.Alike.{AreAlike}
 use Rattle.gql_base.proofs.AlikeSymbols.{moved_symbol, moves, none_alike, split_alike, one_alike, punctuator_alike, name_alike}
 use Rattle.gql_base.proofs.AlikeLaws.{Alike, bracketed_alike}

@@ -1,5 +1,5 @@
 -- Symbols are those of one tree at most.
-use Rattle.std.proofs.Common.{ℕ, ◌+◌, ◌≡◌, ◌≤◌, Bool, [], ◌∷◌, ◌++◌, Ok, refl, sym, ap, ◌∙◌, arith, append-nil}
+use Rattle.std.proofs.Common.{ℕ, ◌+◌, ◌≡◌, ◌≤◌, Bool, [], ◌∷◌, ◌++◌, Ok, sym, ap, ◌∙◌, arith, append-nil}
 use Rattle.gql_base.specs.Reading.{Reader, Test}
 use Rattle.gql_base.specs.Grammar.{Nested, plain, Within}
 use Rattle.gql_base.specs.Values.{ValueTree, IsValue}
