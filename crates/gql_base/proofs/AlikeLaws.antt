@@ -59,14 +59,10 @@ mark_alike kind = single_alike (exact kind) whole same
     same (integer value) = whole_option _
     same (string value) = whole_option _
 
--- a name without its offset
-abbrev pub name_placeless : Identifier → Identifier
-name_placeless n = (n.0, 0)
-
-pub name_alike : {d : ℕ} → Alike (Single any_name d) name_placeless
-name_alike = single_alike any_name name_placeless same
+pub name_alike : {d : ℕ} → Alike (Single any_name d) (λ (n : Identifier). (n.0, 0))
+name_alike = single_alike any_name (λ (n : Identifier). (n.0, 0)) same
   where
-    same : TakesPlaceless any_name name_placeless
+    same : TakesPlaceless any_name (λ (n : Identifier). (n.0, 0))
     same (punctuator kind) = refl
     same (identifier bytes at) = refl
     same (integer value) = refl
