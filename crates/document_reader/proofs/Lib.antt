@@ -4,3 +4,5 @@ pub mod ReadingSteps
 pub mod DefinitionSteps
 pub mod Picks
 pub mod DocumentSteps
+pub mod AlikeSelections
+pub mod AlikeDocuments

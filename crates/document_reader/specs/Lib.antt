@@ -4,3 +4,4 @@ pub mod Trees
 pub mod Places
 pub mod DocumentAnswers
 pub mod Picking
+pub mod PlacelessDocuments

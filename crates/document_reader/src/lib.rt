@@ -8,8 +8,10 @@ mod picking;
 mod selections;
 #[cfg(test)]
 mod tests;
+mod tree_laws;
 mod trees;
 
 pub use document::{DocFault, read_document};
 pub use picking::{PickFault, pick};
+pub use tree_laws::{a_text_is_one_document, offsets_change_no_document};
 pub use trees::{Definition, Document, Field, Fragment, Operation, Selection, VariableDef};

@@ -24,3 +24,8 @@ pub mod Escapes
 pub mod StringValues
 pub mod PrintedLaws
 pub mod PrintSteps
+pub mod AlikeSymbols
+pub mod AlikeLaws
+pub mod AlikeTrees
+pub mod PrintedSymbols
+pub mod OneTree

@@ -19,3 +19,5 @@ pub mod Halting
 pub mod Printing
 pub mod PrintedTrees
 pub mod Printers
+pub mod PlacelessSymbols
+pub mod Alike

@@ -24,6 +24,7 @@ mod strings;
 mod tests;
 mod text;
 mod token;
+mod tree_laws;
 mod trees;
 mod types;
 mod values;
@@ -41,6 +42,10 @@ pub use readers::{LEVEL_LIMIT, ValueFault, read_type_ref, read_value};
 pub use source::{Halt, Source};
 pub use text::Text;
 pub use token::{Span, Token, TokenKind};
+pub use tree_laws::{
+    a_text_is_one_value, offsets_change_no_nesting, offsets_change_no_tree,
+    what_is_printed_has_the_symbols_of_its_text,
+};
 pub use trees::{Argument, Directive, Name, OperationKind, TypeRef, Value};
 pub use types::type_reference;
 pub use values::{argument, value};

@@ -1,0 +1,8 @@
+-- Symbols without the offsets of names.
+use Rattle.gql_base.specs.Symbols.{Symbol, punctuator, identifier, integer, string}
+
+abbrev pub placeless_symbol : Symbol → Symbol
+placeless_symbol (punctuator kind) = punctuator kind
+placeless_symbol (identifier bytes at) = identifier bytes 0
+placeless_symbol (integer value) = integer value
+placeless_symbol (string value) = string value
