@@ -24,3 +24,7 @@ pub mod Escapes
 pub mod StringValues
 pub mod PrintedLaws
 pub mod PrintSteps
+pub mod EscapedTexts
+pub mod DecimalTexts
+pub mod TokenSymbols
+pub mod PrintedSymbols

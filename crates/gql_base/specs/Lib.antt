@@ -19,3 +19,4 @@ pub mod Halting
 pub mod Printing
 pub mod PrintedTrees
 pub mod Printers
+pub mod PrintableSymbols

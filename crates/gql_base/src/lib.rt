@@ -10,6 +10,7 @@ mod literals;
 #[cfg(test)]
 mod literals_tests;
 mod numbers;
+mod printed_texts;
 mod printer;
 mod printing;
 mod printing_laws;
@@ -34,6 +35,7 @@ pub use laws::{
 };
 pub use lexing::{LexFault, lex};
 pub use literals::{integer_at, string_at, string_value};
+pub use printed_texts::what_is_printed_has_the_same_tokens;
 pub use printer::Printer;
 pub use printing::{print_type_ref, print_value, write_arguments, write_type, write_value};
 pub use printing_laws::what_is_printed_is_written_as_the_same_tree;
