@@ -13,7 +13,7 @@ use Rattle.gql_base.proofs.OneDivision.{not_empty}
 use Rattle.gql_base.proofs.Places.{HasAsciiEnds, lexeme_ends, part_start, part_end}
 
 -- what follows some ASCII bytes of a text is a text
-after_ascii : (text xs after : List ℕ) → text ≡ xs ++ after → 0 < length xs → HasAsciiEnds xs → IsUtf8 text → IsUtf8 after
+pub after_ascii : (text xs after : List ℕ) → text ≡ xs ++ after → 0 < length xs → HasAsciiEnds xs → IsUtf8 text → IsUtf8 after
 after_ascii text xs after cut some ascii utf8 =
     let last : length xs - 1 < length xs = omega (arith, some) in
     let small : get_or text (length xs - 1) 0 < 128 = rw cut (rw (get_or_append_left xs after 0 (length xs - 1) last) ascii.1) in

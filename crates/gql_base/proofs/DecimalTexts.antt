@@ -1,5 +1,5 @@
--- A printed integer of 128 bits is an integer as texts have it, with that value, and each integer of a text has a value
--- of 128 bits.
+-- A printed integer of 128 bits is an integer of a text and has that value. The value of each integer of a text has 128
+-- bits.
 use Rattle.std.proofs.Common.{◌≡◌, ℕ, zero, suc, ◌+◌, ◌/◌, ◌%◌, ◌^◌, ◌<◌, ◌≤◌, Bool, true, false, ◌==◌, List, [], ◌∷◌, ◌++◌, length, get_or, IsUtf8, refl, sym, ap, ◌∙◌, arith, ℤ, pos, negsuc, subst, FitsSigned}
 use Rattle.std.specs.Prelude.{neg_ℤ}
 use Rattle.std.specs.Int.{w128}

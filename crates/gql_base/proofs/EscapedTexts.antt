@@ -149,12 +149,12 @@ letter_or_none c =
     from_space : (c == 10) ≡ false → (c == 13) ≡ false → (c == 9) ≡ false → (c == 8) ≡ false → (c == 12) ≡ false → is_printable_byte c ≡ true → 32 ≤ c
     from_space f10 f13 f9 f8 f12 good = grind (arith, nat_tests)
 
-all_from : (f : ℕ → Bool) (xs : List ℕ) → ((k : ℕ) → k < length xs → f (get_or xs k 0) ≡ true) → AllPass f xs
+pub all_from : (f : ℕ → Bool) (xs : List ℕ) → ((k : ℕ) → k < length xs → f (get_or xs k 0) ≡ true) → AllPass f xs
 all_from f [] each = All-nil (λ c. f c ≡ true)
 all_from f (x ∷ xs) each = All-cons (λ c. f c ≡ true) x xs (each 0 (omega arith)) (all_from f xs (λ k below. each (suc k) (omega (arith, below))))
 
 -- a byte of a character is the character, or none of ASCII
-own_byte : (c k : ℕ) → k < length (encode c) → (get_or (encode c) k 0 ≡ c) ⊎ (128 ≤ get_or (encode c) k 0)
+pub own_byte : (c k : ℕ) → k < length (encode c) → (get_or (encode c) k 0 ≡ c) ⊎ (128 ≤ get_or (encode c) k 0)
 own_byte c k below =
     elim (cases_lt (get_or (encode c) k 0) 128) [
       | inl low ↦ inl (sym (inside_one c [] (encode c) k (sym (append-nil (encode c))) below low))
@@ -190,26 +190,26 @@ stands_characters (c ∷ cs) all =
     stands_append (escaped c) (encode c) (flat_map escaped cs) (encodes cs) (stands_character c (All-head (λ b. is_printable_byte b ≡ true) c cs all)) (stands_characters cs (All-tail (λ b. is_printable_byte b ≡ true) c cs all))
 
 -- the characters pass the test where the bytes do
-printable_byte : (c : ℕ) → 128 ≤ c → is_printable_byte c ≡ true
-printable_byte c high = grind (arith, nat_tests)
+high_printable : (c : ℕ) → 128 ≤ c → is_printable_byte c ≡ true
+high_printable c high = grind (arith, nat_tests)
 
-left_of : (f : ℕ → Bool) (xs ys : List ℕ) → AllPass f (xs ++ ys) → AllPass f xs × AllPass f ys
-left_of f [] ys all = (All-nil (λ c. f c ≡ true), all)
-left_of f (x ∷ xs) ys all =
-    let r = left_of f xs ys (All-tail (λ c. f c ≡ true) x (xs ++ ys) all) in
+parts_pass : (f : ℕ → Bool) (xs ys : List ℕ) → AllPass f (xs ++ ys) → AllPass f xs × AllPass f ys
+parts_pass f [] ys all = (All-nil (λ c. f c ≡ true), all)
+parts_pass f (x ∷ xs) ys all =
+    let r = parts_pass f xs ys (All-tail (λ c. f c ≡ true) x (xs ++ ys) all) in
     (All-cons (λ c. f c ≡ true) x xs (All-head (λ c. f c ≡ true) x (xs ++ ys) all) r.0, r.1)
 
 printable_character : (c : ℕ) → AllPass is_printable_byte (encode c) → is_printable_byte c ≡ true
 printable_character c all =
     elim (cases_lt c 128) [
       | inl low ↦ All-head (λ b. is_printable_byte b ≡ true) c [] (subst (AllPass is_printable_byte) (encode_ascii c low) all)
-      | inr high ↦ printable_byte c high
+      | inr high ↦ high_printable c high
     ]
 
 printable_characters : (cs : List ℕ) → AllPass is_printable_byte (encodes cs) → AllPass is_printable_byte cs
 printable_characters [] all = All-nil (λ c. is_printable_byte c ≡ true)
 printable_characters (c ∷ cs) all =
-    let r = left_of is_printable_byte (encode c) (encodes cs) all in
+    let r = parts_pass is_printable_byte (encode c) (encodes cs) all in
     All-cons (λ b. is_printable_byte b ≡ true) c cs (printable_character c r.0) (printable_characters cs r.1)
 
 pub escaped_stands : (v : List ℕ) → IsUtf8 v → AllPass is_printable_byte v → StandsFor (all_escaped v) v

@@ -28,7 +28,7 @@ whole_digits (c ∷ cs) is = (rw is.0 (all_digits cs is.1), omega arith)
 digit_small : (c : ℕ) → is_ascii_digit c ≡ true → c < 128
 digit_small c is = grind (arith, nat_tests)
 
-pub digit_unsigned : (c : ℕ) → is_ascii_digit c ≡ true → ((c == 45) ≡ false) × (c ≢ 43) × (c ≢ 45)
+digit_unsigned : (c : ℕ) → is_ascii_digit c ≡ true → ((c == 45) ≡ false) × (c ≢ 43) × (c ≢ 45)
 digit_unsigned c is = (grind (arith, nat_tests), λ e. grind (arith, nat_tests), λ e. grind (arith, nat_tests))
 
 digits_ascii : (cs : List ℕ) (i : ℕ) → AllPass is_ascii_digit cs → get_or cs i 0 < 128

@@ -28,3 +28,4 @@ pub mod EscapedTexts
 pub mod DecimalTexts
 pub mod TokenSymbols
 pub mod PrintedSymbols
+pub mod TextSymbols

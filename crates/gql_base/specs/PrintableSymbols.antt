@@ -21,7 +21,8 @@ IsTextual (string value) = IsUtf8 value
 abbrev pub is_printable_byte : ℕ → Bool
 is_printable_byte c = is_block_byte c || (c == 8) || (c == 12)
 
--- A string holds no control character but those that have an escape by a letter: others can't stand in a text.
+-- A string holds no control character but those that have an escape by a letter. Any other is printed as it stands,
+-- and no string of a text may hold it so (GraphQL October 2021, 2.1.1 and 2.9.4).
 abbrev pub HoldsPrintable : Symbol → Type 0
 HoldsPrintable (punctuator kind) = Unit {0}
 HoldsPrintable (identifier bytes at) = Unit {0}
