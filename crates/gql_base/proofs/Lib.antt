@@ -27,5 +27,5 @@ pub mod PrintSteps
 pub mod EscapedTexts
 pub mod DecimalTexts
 pub mod TokenSymbols
-pub mod PrintedSymbols
+pub mod PrintedPieces
 pub mod TextSymbols

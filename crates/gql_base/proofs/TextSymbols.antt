@@ -23,7 +23,7 @@ use Rattle.gql_base.proofs.Places.{HasAsciiEnds}
 use Rattle.gql_base.proofs.Borders.{after_ascii, after_piece}
 use Rattle.gql_base.proofs.EscapedTexts.{utf8_ascii, all_from, own_byte}
 use Rattle.gql_base.proofs.DecimalTexts.{integer_fits_128}
-use Rattle.gql_base.proofs.PrintedSymbols.{same_mark}
+use Rattle.gql_base.proofs.PrintedPieces.{same_mark}
 use Rattle.gql_base.proofs.TokenSymbols.{symbol_at, symbol_in, symbols_in, symbols_are}
 
 -- ---- values of strings

@@ -1,4 +1,4 @@
--- The symbols that texts have, those that can be printed, and symbols without their offsets.
+-- The symbols that texts have, and those that can be printed.
 use Rattle.std.specs.Prelude.{ℕ, ◌<◌, Bool, ◌==◌, ◌||◌, length, IsUtf8, FitsSigned}
 use Rattle.std.specs.List.{AllPass}
 use Rattle.std.specs.Int.{w128}
@@ -6,7 +6,6 @@ use Rattle.gql_base.specs.Characters.{is_block_byte}
 use Rattle.gql_base.specs.Pieces.{IsName}
 use Rattle.gql_base.specs.Symbols.{Symbol, punctuator, identifier, integer, string}
 use Rattle.gql_base.specs.Printing.{mark_text}
-use Rattle.gql_base.specs.PrintedTrees.{printed_name}
 
 -- What the symbols of every UTF-8 text are: punctuators that have a text, names, integers of 128 bits, and strings
 -- in UTF-8.
@@ -32,10 +31,3 @@ HoldsPrintable (string value) = AllPass is_printable_byte value
 -- a symbol whose printed form is a token
 abbrev pub IsPrintable : Symbol → Type 0
 IsPrintable w = IsTextual w × HoldsPrintable w
-
--- a symbol without its offset
-abbrev pub placeless_symbol : Symbol → Symbol
-placeless_symbol (punctuator kind) = punctuator kind
-placeless_symbol (identifier bytes at) = printed_name bytes
-placeless_symbol (integer value) = integer value
-placeless_symbol (string value) = string value

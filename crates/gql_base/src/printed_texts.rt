@@ -5,7 +5,8 @@ ghost use Rattle.gql_base.specs.declared.token.Token.{Token};
 ghost use Rattle.gql_base.specs.Tokens.{Lexes};
 ghost use Rattle.gql_base.specs.Symbols.{Symbols, symbols_from};
 ghost use Rattle.gql_base.specs.Printing.{printed};
-ghost use Rattle.gql_base.specs.PrintableSymbols.{IsTextual, IsPrintable, placeless_symbol};
+ghost use Rattle.gql_base.specs.PlacelessSymbols.{placeless_symbol};
+ghost use Rattle.gql_base.specs.PrintableSymbols.{IsTextual, IsPrintable};
 
 /// What is printed of symbols lexes, as tokens that are the same symbols but for the offsets of names. It is UTF-8.
 pub fn what_is_printed_has_the_same_tokens()

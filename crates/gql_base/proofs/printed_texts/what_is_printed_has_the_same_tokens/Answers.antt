@@ -1,4 +1,4 @@
-use Rattle.gql_base.proofs.PrintedSymbols.{printed_lexes, printed_utf8}
+use Rattle.gql_base.proofs.PrintedPieces.{printed_lexes, printed_utf8}
 use Rattle.gql_base.proofs.printed_texts.what_is_printed_has_the_same_tokens.Goals as goal
 
 pub returns-clause-tokens : goal.returns-clause-tokens

@@ -10,7 +10,8 @@ use Rattle.gql_base.specs.Pieces.{Lexeme, word, number, string as text_lexeme, m
 use Rattle.gql_base.specs.Tokens.{Lexes}
 use Rattle.gql_base.specs.Symbols.{Symbol, punctuator, identifier, integer, string, Symbols, symbols_from}
 use Rattle.gql_base.specs.Printing.{mark_text, all_escaped, symbol_text, symbol_is_tight, Printed, with_space, put, put_all, printed}
-use Rattle.gql_base.specs.PrintableSymbols.{IsTextual, IsPrintable, placeless_symbol}
+use Rattle.gql_base.specs.PlacelessSymbols.{placeless_symbol}
+use Rattle.gql_base.specs.PrintableSymbols.{IsTextual, IsPrintable}
 use Rattle.gql_base.proofs.EscapedTexts.{utf8_ascii, escaped_sound, escaped_closed, escaped_single, escaped_value, escaped_utf8}
 use Rattle.gql_base.proofs.DecimalTexts.{printed_integer, printed_integer_value, printed_integer_utf8}
 use Rattle.gql_base.proofs.Places.{name_is_ascii}
