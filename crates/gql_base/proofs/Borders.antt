@@ -13,7 +13,7 @@ use Rattle.gql_base.proofs.OneDivision.{not_empty}
 use Rattle.gql_base.proofs.Places.{HasAsciiEnds, lexeme_ends, part_start, part_end}
 
 -- what follows some ASCII bytes of a text is a text
-after_ascii : (text xs after : List ℕ) → text ≡ xs ++ after → 0 < length xs → HasAsciiEnds xs → IsUtf8 text → IsUtf8 after
+pub after_ascii : (text xs after : List ℕ) → text ≡ xs ++ after → 0 < length xs → HasAsciiEnds xs → IsUtf8 text → IsUtf8 after
 after_ascii text xs after cut some ascii utf8 =
     let last : length xs - 1 < length xs = omega (arith, some) in
     let small : get_or text (length xs - 1) 0 < 128 = rw cut (rw (get_or_append_left xs after 0 (length xs - 1) last) ascii.1) in
@@ -45,7 +45,7 @@ after_comment text xs (c ∷ cs) cut ends utf8 =
     (IsUtf8-drop text (length xs) utf8 (IsCharBoundary-before_ascii text (length xs) inside small))
 
 -- what follows a piece of a text is a text
-after_piece : (p : Piece) (text after : List ℕ) → IsPiece p → EndsBefore p after → text ≡ piece_bytes p ++ after → IsUtf8 text → IsUtf8 after
+pub after_piece : (p : Piece) (text after : List ℕ) → IsPiece p → EndsBefore p after → text ≡ piece_bytes p ++ after → IsUtf8 text → IsUtf8 after
 unfolding lib.Utf8.encode
 after_piece (token l) text after is ends cut utf8 = after_ascii text (lexeme_bytes l) after cut (not_empty (token l) is) (lexeme_ends l is) utf8
 after_piece byte_order_mark text after is ends cut utf8 = IsUtf8-past_char text after 65279 utf8 cut
@@ -58,7 +58,7 @@ border_true text at is = (grind (arith, nat_tests), λ below high. grind (arith,
 HasBorders : List ℕ → Token → Type 0
 HasBorders text t = IsCharBoundary text t.span.start × IsCharBoundary text t.span.end
 
-rest_after : (text xs after : List ℕ) (at : ℕ) → drop at text ≡ xs ++ after → drop (at + length xs) text ≡ after
+pub rest_after : (text xs after : List ℕ) (at : ℕ) → drop at text ≡ xs ++ after → drop (at + length xs) text ≡ after
 rest_after text xs after at cut = sym (drop-drop (length xs) at text) ∙ ap (drop (length xs)) cut ∙ drop_at xs after (length xs) refl
 
 borders_after : (ps : List Piece) (text after xs : List ℕ) (at : ℕ) → (at + length xs ≤ length text → Divides ps (drop (at + length xs) text) [] → All (HasBorders text) (tokens_from (at + length xs) ps)) → at ≤ length text → drop at text ≡ xs ++ after → Divides ps after [] → All (HasBorders text) (tokens_from (at + length xs) ps)

@@ -21,7 +21,7 @@ all_digits : (cs : List ℕ) → AllPass is_ascii_digit cs → all_ascii_digits 
 all_digits [] all = refl
 all_digits (c ∷ cs) all = rw (All-head (λ x. is_ascii_digit x ≡ true) c cs all) (all_digits cs (All-tail (λ x. is_ascii_digit x ≡ true) c cs all))
 
-whole_digits : (ws : List ℕ) → IsWhole ws → (all_ascii_digits ws ≡ true) × (0 < length ws)
+pub whole_digits : (ws : List ℕ) → IsWhole ws → (all_ascii_digits ws ≡ true) × (0 < length ws)
 whole_digits [] is = absurd is
 whole_digits (c ∷ cs) is = (rw is.0 (all_digits cs is.1), omega arith)
 
@@ -49,13 +49,13 @@ integer_ascii false ws i is = whole_ascii ws i is
 pub integer_is_text : (bytes ws : List ℕ) (minus : Bool) → bytes ≡ minus_bytes minus ++ ws → IsWhole ws → IsUtf8 bytes
 integer_is_text bytes ws minus cut is = rw cut (IsUtf8-from_ascii (minus_bytes minus ++ ws) (λ i. integer_ascii minus ws i is))
 
-le_true : (m n : ℕ) → m ≤ n → nat_le m n ≡ true
+pub le_true : (m n : ℕ) → m ≤ n → nat_le m n ≡ true
 le_true m n below = grind (arith, nat_tests)
 
 le_false : (m n : ℕ) → (m ≤ n → ⊥) → nat_le m n ≡ false
 le_false m n above = grind (arith, nat_tests)
 
-lt_true : (m n : ℕ) → m < n → nat_lt m n ≡ true
+pub lt_true : (m n : ℕ) → m < n → nat_lt m n ≡ true
 lt_true m n below = grind (arith, nat_tests)
 
 lt_false : (m n : ℕ) → (m < n → ⊥) → nat_lt m n ≡ false

@@ -29,3 +29,9 @@ pub mod AlikeLaws
 pub mod AlikeTrees
 pub mod PrintedSymbols
 pub mod OneTree
+pub mod EscapedTexts
+pub mod DecimalTexts
+pub mod TokenSymbols
+pub mod PrintedPieces
+pub mod TextSymbols
+pub mod ReadAgain

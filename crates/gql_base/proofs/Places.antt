@@ -42,7 +42,7 @@ start_is_ascii c is = grind (arith, nat_tests)
 continue_is_ascii : (c : ℕ) → is_name_continue c ≡ true → c < 128
 continue_is_ascii c is = grind (arith, nat_tests)
 
-name_is_ascii : (bytes : List ℕ) (k : ℕ) → IsName bytes → get_or bytes k 0 < 128
+pub name_is_ascii : (bytes : List ℕ) (k : ℕ) → IsName bytes → get_or bytes k 0 < 128
 name_is_ascii [] k is = absurd is
 name_is_ascii (c ∷ cs) zero is = start_is_ascii c is.0
 name_is_ascii (c ∷ cs) (suc k) is =
@@ -97,7 +97,7 @@ lexeme_ends (mark kind) is = mark_ends kind
 byte_of_part : (text xs after : List ℕ) (at k : ℕ) → drop at text ≡ xs ++ after → k < length xs → get_or text (at + k) 0 ≡ get_or xs k 0
 byte_of_part text xs after at k cut below = sym (get_or-drop at text k 0) ∙ ap (λ ys. get_or ys k 0) cut ∙ get_or_append_left xs after 0 k below
 
-border_at : (text : List ℕ) (at : ℕ) → at < length text → get_or text at 0 < 128 → is_border text at ≡ true
+pub border_at : (text : List ℕ) (at : ℕ) → at < length text → get_or text at 0 < 128 → is_border text at ≡ true
 border_at text at below small = grind (arith, nat_tests)
 
 border_end : (text : List ℕ) → is_border text (length text) ≡ true
@@ -106,17 +106,17 @@ border_end text = grind (arith, nat_tests)
 border_lead : (text : List ℕ) (at : ℕ) → at < length text → (128 ≤ get_or text at 0 → 192 ≤ get_or text at 0) → is_border text at ≡ true
 border_lead text at below lead = grind (arith, nat_tests)
 
-border_after : (text : List ℕ) (at : ℕ) → IsUtf8 text → at < length text → get_or text at 0 < 128 → is_border text (at + 1) ≡ true
+pub border_after : (text : List ℕ) (at : ℕ) → IsUtf8 text → at < length text → get_or text at 0 < 128 → is_border text (at + 1) ≡ true
 border_after text at utf8 below small =
     elim (cases_lt (at + 1) (length text)) [
       | inl inside ↦ border_lead text (at + 1) inside (lead_after_ascii text at utf8 small inside)
       | inr end ↦ let e : at + 1 ≡ length text = omega arith in rw e (border_end text)
     ]
 
-range_when : (b c d : Bool) (xs : List ℕ) → b ≡ true → c ≡ true → d ≡ true → (if b && c && d then xs else []) ≡ xs
+pub range_when : (b c d : Bool) (xs : List ℕ) → b ≡ true → c ≡ true → d ≡ true → (if b && c && d then xs else []) ≡ xs
 range_when b c d xs e f g = rw (e, f, g) refl
 
-nat_le_more : (at n : ℕ) → nat_le at (at + n) ≡ true
+pub nat_le_more : (at n : ℕ) → nat_le at (at + n) ≡ true
 nat_le_more at n = grind (arith, nat_tests)
 
 -- a part of a text that is ASCII, and not empty
@@ -147,7 +147,7 @@ module _ (text xs after : List ℕ) (at : ℕ) (within : at ≤ length text) (cu
       ∙ ap (take (at + length xs - at)) cut ∙ take_at xs after (at + length xs - at) (omega arith)
 
 -- the bytes of a token's span are the token's
-bytes_of_token : (text after : List ℕ) (at : ℕ) (l : Lexeme) → IsUtf8 text → at ≤ length text → drop at text ≡ lexeme_bytes l ++ after → IsLexeme l → bytes_at text (token_at at l).span ≡ lexeme_bytes l
+pub bytes_of_token : (text after : List ℕ) (at : ℕ) (l : Lexeme) → IsUtf8 text → at ≤ length text → drop at text ≡ lexeme_bytes l ++ after → IsLexeme l → bytes_at text (token_at at l).span ≡ lexeme_bytes l
 bytes_of_token text after at l utf8 within cut is = part_bytes text (lexeme_bytes l) after at within cut (not_empty (token l) is) (lexeme_ends l is) utf8
 
 same_lexeme : (l : Lexeme) → IsLexeme l → lexeme_with (kind_of l) (lexeme_bytes l) ≡ l

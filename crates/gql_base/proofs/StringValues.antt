@@ -23,13 +23,13 @@ value_step : (c : ℕ) (cs : List ℕ) → text_value 0 (c ∷ cs) ≡ part_valu
 unfolding text_value
 value_step c cs = refl
 
-value_alone : (c : ℕ) (cs : List ℕ) → escape_at (c ∷ cs) ≡ None → text_value 0 (c ∷ cs) ≡ c ∷ text_value 0 cs
+pub value_alone : (c : ℕ) (cs : List ℕ) → escape_at (c ∷ cs) ≡ None → text_value 0 (c ∷ cs) ≡ c ∷ text_value 0 cs
 value_alone c cs none = value_step c cs ∙ rw none refl
 
-value_escape : (c : ℕ) (cs : List ℕ) (e : Escape) → escape_at (c ∷ cs) ≡ Some e → text_value 0 (c ∷ cs) ≡ encode_utf8 e.character ++ text_value 0 (drop (e.length - 1) cs)
+pub value_escape : (c : ℕ) (cs : List ℕ) (e : Escape) → escape_at (c ∷ cs) ≡ Some e → text_value 0 (c ∷ cs) ≡ encode_utf8 e.character ++ text_value 0 (drop (e.length - 1) cs)
 value_escape c cs e is = value_step c cs ∙ rw is (ap (λ xs. encode_utf8 e.character ++ xs) (value_skip (e.length - 1) cs))
 
-value_plain : (xs rest : List ℕ) → AllPass is_plain_byte xs → text_value 0 (xs ++ rest) ≡ xs ++ text_value 0 rest
+pub value_plain : (xs rest : List ℕ) → AllPass is_plain_byte xs → text_value 0 (xs ++ rest) ≡ xs ++ text_value 0 rest
 value_plain [] rest all = refl
 value_plain (x ∷ xs) rest all =
     value_alone x (xs ++ rest) (no_escape x (xs ++ rest) (other x (All-head (λ c. is_plain_byte c ≡ true) x xs all)))

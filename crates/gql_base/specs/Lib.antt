@@ -21,3 +21,4 @@ pub mod PrintedTrees
 pub mod Printers
 pub mod PlacelessSymbols
 pub mod Alike
+pub mod PrintableSymbols

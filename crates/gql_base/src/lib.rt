@@ -10,6 +10,7 @@ mod literals;
 #[cfg(test)]
 mod literals_tests;
 mod numbers;
+mod printed_texts;
 mod printer;
 mod printing;
 mod printing_laws;
@@ -35,6 +36,7 @@ pub use laws::{
 };
 pub use lexing::{LexFault, lex};
 pub use literals::{integer_at, string_at, string_value};
+pub use printed_texts::{symbols_of_a_text_are_textual, what_is_printed_has_the_same_tokens};
 pub use printer::Printer;
 pub use printing::{print_type_ref, print_value, write_arguments, write_type, write_value};
 pub use printing_laws::what_is_printed_is_written_as_the_same_tree;
