@@ -4,3 +4,4 @@ pub mod ReadingSteps
 pub mod DefinitionSteps
 pub mod Picks
 pub mod DocumentSteps
+pub mod PrintingSteps

@@ -5,6 +5,7 @@ mod arguments;
 mod definitions;
 mod document;
 mod picking;
+mod printing;
 mod selections;
 #[cfg(test)]
 mod tests;
@@ -12,4 +13,5 @@ mod trees;
 
 pub use document::{DocFault, read_document};
 pub use picking::{PickFault, pick};
+pub use printing::print_document;
 pub use trees::{Definition, Document, Field, Fragment, Operation, Selection, VariableDef};
