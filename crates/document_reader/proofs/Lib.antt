@@ -5,3 +5,5 @@ pub mod DefinitionSteps
 pub mod Picks
 pub mod DocumentSteps
 pub mod PrintingSteps
+pub mod Rewriting
+pub mod PrintedDocumentLaws
