@@ -6,3 +6,7 @@ pub mod Picks
 pub mod DocumentSteps
 pub mod AlikeSelections
 pub mod AlikeDocuments
+pub mod PrintingSteps
+pub mod Rewriting
+pub mod PrintedDocumentLaws
+pub mod DocumentsReadAgain

@@ -4,4 +4,5 @@ pub mod Trees
 pub mod Places
 pub mod DocumentAnswers
 pub mod Picking
+pub mod PrintedDocuments
 pub mod PlacelessDocuments

@@ -1,0 +1,68 @@
+-- Symbols that are those in which a document is printed, but for the offsets of names, are those of the same document,
+-- but for the offsets of its names.
+use Rattle.std.proofs.Common.{ℕ, ◌≡◌, List, [], ◌∷◌, Option, None, Some, refl, ap, ◌∙◌}
+use Rattle.std.specs.Prelude.{map}
+use Rattle.gql_base.specs.Symbols.{Symbols}
+use Rattle.gql_base.specs.Reading.{Identifier}
+use Rattle.gql_base.specs.Grammar.{Nested, plain, Within}
+use Rattle.gql_base.specs.Values.{ValueTree, NamedValue}
+use Rattle.gql_base.specs.PlacelessSymbols.{placeless_symbol}
+use Rattle.document_reader.specs.Documents.{DirectiveTree, FieldNames, SelectionTree, field_selection, fragment_spread, inline_fragment, SelectionTrees, no_selection, selection_then, VariableTree, DefinitionTree, operation_tree, fragment_tree, IsDocument}
+use Rattle.document_reader.specs.PlacelessDocuments.{maybe_name_placeless, names_placeless, argument_placeless, directive_placeless, selection_placeless, selections_placeless, default_placeless, variable_placeless, definition_placeless, document_placeless}
+use Rattle.gql_base.proofs.ReadAgain.{ReadAgain, read_again_printed, placeless_twice, type_placeless_twice}
+use Rattle.document_reader.proofs.AlikeDocuments.{document_alike}
+
+-- what has no offsets loses none
+
+all_twice : {A : Type 0} (f : A → A) → ((a : A) → f (f a) ≡ f a) → (l : List A) → map f (map f l) ≡ map f l
+all_twice f twice [] = refl
+all_twice f twice (a ∷ l) = cc (twice a, all_twice f twice l)
+
+maybe_name_twice : (n : Option Identifier) → maybe_name_placeless (maybe_name_placeless n) ≡ maybe_name_placeless n
+maybe_name_twice None = refl
+maybe_name_twice (Some n) = refl
+
+names_twice : (n : FieldNames) → names_placeless (names_placeless n) ≡ names_placeless n
+names_twice n = ap (λ (m : Option Identifier). ((n.0.0, 0), m)) (maybe_name_twice n.1)
+
+argument_twice : (a : NamedValue) → argument_placeless (argument_placeless a) ≡ argument_placeless a
+argument_twice a = ap (λ (t : ValueTree). ((a.0.0, 0), t)) (placeless_twice a.1)
+
+arguments_twice : (l : List NamedValue) → map argument_placeless (map argument_placeless l) ≡ map argument_placeless l
+arguments_twice l = all_twice argument_placeless argument_twice l
+
+directive_twice : (d : DirectiveTree) → directive_placeless (directive_placeless d) ≡ directive_placeless d
+directive_twice d = ap (λ (l : List NamedValue). ((d.0.0, 0), l)) (arguments_twice d.1)
+
+directives_twice : (l : List DirectiveTree) → map directive_placeless (map directive_placeless l) ≡ map directive_placeless l
+directives_twice l = all_twice directive_placeless directive_twice l
+
+mutual
+  unfolding selection_placeless
+
+  selection_twice : (s : SelectionTree) → selection_placeless (selection_placeless s) ≡ selection_placeless s
+  selection_twice (field_selection names arguments directives below) = cc (names_twice names, arguments_twice arguments, directives_twice directives, selections_twice below)
+  selection_twice (fragment_spread name directives) = ap (fragment_spread (name.0, 0)) (directives_twice directives)
+  selection_twice (inline_fragment on directives below) = cc (maybe_name_twice on, directives_twice directives, selections_twice below)
+
+  selections_twice : (ss : SelectionTrees) → selections_placeless (selections_placeless ss) ≡ selections_placeless ss
+  selections_twice no_selection = refl
+  selections_twice (selection_then s others) = cc (selection_twice s, selections_twice others)
+
+default_twice : (v : Option ValueTree) → default_placeless (default_placeless v) ≡ default_placeless v
+default_twice None = refl
+default_twice (Some v) = ap (λ (t : ValueTree). Some t) (placeless_twice v)
+
+variable_twice : (v : VariableTree) → variable_placeless (variable_placeless v) ≡ variable_placeless v
+variable_twice v = cc (type_placeless_twice v.1, default_twice v.2, directives_twice v.3)
+
+definition_twice : (t : DefinitionTree) → definition_placeless (definition_placeless t) ≡ definition_placeless t
+definition_twice (operation_tree kind name variables directives below) = cc (maybe_name_twice name, all_twice variable_placeless variable_twice variables, directives_twice directives, selections_twice below)
+definition_twice (fragment_tree name on directives below) = cc (directives_twice directives, selections_twice below)
+
+pub document_placeless_twice : (ts : List DefinitionTree) → document_placeless (document_placeless ts) ≡ document_placeless ts
+document_placeless_twice ts = all_twice definition_placeless definition_twice ts
+
+-- `front` is what the document was printed in; the printed text has these symbols at offsets of its own.
+pub document_read_again : (n : ℕ) (ts : List DefinitionTree) (front : Nested) (symbols : Symbols) → IsDocument (document_placeless ts) front → Within n front → plain front ≡ map placeless_symbol symbols → ReadAgain IsDocument document_placeless n (document_placeless ts) symbols × (document_placeless (document_placeless ts) ≡ document_placeless ts)
+document_read_again n ts front symbols is within e = (read_again_printed document_alike n (document_placeless ts) front symbols is within e, document_placeless_twice ts)
