@@ -60,7 +60,7 @@ pub record Family {A : Type 0} (S : A → Nested → Type 0) (goes : Test) (r : 
   pub at_end : goes None ≡ false
 
 -- all symbols are nested no deeper than some number
-deep_enough : (ws : Nested) (n : ℕ) → (m : ℕ) × (n ≤ m) × Within m ws
+pub deep_enough : (ws : Nested) (n : ℕ) → (m : ℕ) × (n ≤ m) × Within m ws
 deep_enough [] n = (n, omega arith, tt)
 deep_enough (w ∷ ws) n = let b = deep_enough ws (n + w.1) in (b.0, omega (arith, b.1), (omega (arith, b.1), b.2))
 

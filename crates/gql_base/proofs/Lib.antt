@@ -35,3 +35,4 @@ pub mod TokenSymbols
 pub mod PrintedPieces
 pub mod TextSymbols
 pub mod ReadAgain
+pub mod PrintedAgain

@@ -5,19 +5,14 @@ use Rattle.gql_base.specs.Grammar.{Nested, plain, Within}
 use Rattle.gql_base.specs.Values.{ValueTree, IsValue}
 use Rattle.gql_base.specs.TypeReferences.{TypeTree, IsType}
 use Rattle.gql_base.proofs.ReadingLaws.{within_front, within_back, ok_same}
-use Rattle.gql_base.proofs.LevelLaws.{Family, is_read}
+use Rattle.gql_base.proofs.LevelLaws.{Family, deep_enough, is_read}
 use Rattle.gql_base.proofs.ValueLaws.{value_family}
 use Rattle.gql_base.proofs.TypeLaws.{type_family}
-
--- some number is below no nesting
-within_some : (ws : Nested) (n : ℕ) → (m : ℕ) × (n ≤ m) × Within m ws
-within_some [] n = (n, omega arith, tt)
-within_some (w ∷ ws) n = let r = within_some ws (n + w.1) in (r.0, omega (arith, r.1), (omega (arith, r.1), r.2))
 
 -- A reader that may open enough levels gives both trees.
 pub one_tree : {A : Type 0} {S : A → Nested → Type 0} {goes : Test} {r : ℕ → Reader A} → Family S goes r → (a b : A) (ws vs : Nested) → S a ws → S b vs → plain ws ≡ plain vs → a ≡ b
 one_tree {r = r} f a b ws vs is it same =
-    let m = within_some (ws ++ vs) 0 in
+    let m = deep_enough (ws ++ vs) 0 in
     let one : r m.0 (plain ws) ≡ Ok (a, []) = is_read m.0 f a ws (plain ws) [] is (within_front m.0 ws vs m.2) (sym (append-nil (plain ws))) f.at_end in
     let other : r m.0 (plain ws) ≡ Ok (b, []) = is_read m.0 f b vs (plain ws) [] it (within_back m.0 ws vs m.2) (same ∙ sym (append-nil (plain vs))) f.at_end in
     ap (λ x. x.0) (ok_same (a, []) (b, []) (sym one ∙ other))

@@ -97,7 +97,7 @@ lexeme_ends (mark kind) is = mark_ends kind
 byte_of_part : (text xs after : List ℕ) (at k : ℕ) → drop at text ≡ xs ++ after → k < length xs → get_or text (at + k) 0 ≡ get_or xs k 0
 byte_of_part text xs after at k cut below = sym (get_or-drop at text k 0) ∙ ap (λ ys. get_or ys k 0) cut ∙ get_or_append_left xs after 0 k below
 
-pub border_at : (text : List ℕ) (at : ℕ) → at < length text → get_or text at 0 < 128 → is_border text at ≡ true
+border_at : (text : List ℕ) (at : ℕ) → at < length text → get_or text at 0 < 128 → is_border text at ≡ true
 border_at text at below small = grind (arith, nat_tests)
 
 border_end : (text : List ℕ) → is_border text (length text) ≡ true
@@ -106,7 +106,7 @@ border_end text = grind (arith, nat_tests)
 border_lead : (text : List ℕ) (at : ℕ) → at < length text → (128 ≤ get_or text at 0 → 192 ≤ get_or text at 0) → is_border text at ≡ true
 border_lead text at below lead = grind (arith, nat_tests)
 
-pub border_after : (text : List ℕ) (at : ℕ) → IsUtf8 text → at < length text → get_or text at 0 < 128 → is_border text (at + 1) ≡ true
+border_after : (text : List ℕ) (at : ℕ) → IsUtf8 text → at < length text → get_or text at 0 < 128 → is_border text (at + 1) ≡ true
 border_after text at utf8 below small =
     elim (cases_lt (at + 1) (length text)) [
       | inl inside ↦ border_lead text (at + 1) inside (lead_after_ascii text at utf8 small inside)

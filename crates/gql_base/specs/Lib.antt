@@ -22,3 +22,4 @@ pub mod Printers
 pub mod PlacelessSymbols
 pub mod Alike
 pub mod PrintableSymbols
+pub mod ReadingBack

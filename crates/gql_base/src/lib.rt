@@ -19,6 +19,7 @@ mod printing_tests;
 mod readers;
 #[cfg(test)]
 mod readers_tests;
+mod reading_back;
 mod source;
 mod strings;
 #[cfg(test)]
@@ -41,6 +42,7 @@ pub use printer::Printer;
 pub use printing::{print_type_ref, print_value, write_arguments, write_type, write_value};
 pub use printing_laws::what_is_printed_is_written_as_the_same_tree;
 pub use readers::{LEVEL_LIMIT, ValueFault, read_type_ref, read_value};
+pub use reading_back::what_is_printed_reads_back;
 pub use source::{Halt, Source};
 pub use text::Text;
 pub use token::{Span, Token, TokenKind};
