@@ -10,3 +10,5 @@ pub mod PrintingSteps
 pub mod Rewriting
 pub mod PrintedDocumentLaws
 pub mod DocumentsReadAgain
+pub mod BareWays
+pub mod BareDocuments
