@@ -12,3 +12,4 @@ pub mod PrintedDocumentLaws
 pub mod DocumentsReadAgain
 pub mod BareWays
 pub mod BareDocuments
+pub mod ReadingBackLaws
