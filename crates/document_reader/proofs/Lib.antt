@@ -10,3 +10,6 @@ pub mod PrintingSteps
 pub mod Rewriting
 pub mod PrintedDocumentLaws
 pub mod DocumentsReadAgain
+pub mod BareWays
+pub mod BareDocuments
+pub mod ReadingBackLaws

@@ -6,3 +6,4 @@ pub mod DocumentAnswers
 pub mod Picking
 pub mod PrintedDocuments
 pub mod PlacelessDocuments
+pub mod ReadingBack
