@@ -9,7 +9,7 @@ pub mod AlikeDocuments
 pub mod PrintingSteps
 pub mod Rewriting
 pub mod PrintedDocumentLaws
-pub mod DocumentsReadAgain
+pub mod PlacelessTwice
 pub mod BareWays
 pub mod BareDocuments
 pub mod ReadingBackLaws

@@ -6,4 +6,3 @@ pub mod DocumentAnswers
 pub mod Picking
 pub mod PrintedDocuments
 pub mod PlacelessDocuments
-pub mod ReadingBack

@@ -2,14 +2,15 @@
 
 ghost use Rattle.std.specs.Prelude.{ℕ, List, IsUtf8};
 ghost use Rattle.gql_base.specs.Printing.{printed};
-ghost use Rattle.document_reader.specs.Documents.{DefinitionTree};
+ghost use Rattle.gql_base.specs.ReadingBack.{SpellsPrintable, SpellsAgain};
+ghost use Rattle.document_reader.specs.Documents.{DefinitionTree, IsDocument};
 ghost use Rattle.document_reader.specs.PrintedDocuments.{document_symbols};
-ghost use Rattle.document_reader.specs.ReadingBack.{IsPrintableText, ReadsBackAs};
+ghost use Rattle.document_reader.specs.PlacelessDocuments.{document_placeless};
 
 /// Where no string of a document's text holds a control character but those that have an escape by a letter (GraphQL
 /// October 2021, 2.9.4), what is printed of the document is UTF-8. It is the text of the same document, but for the
 /// offsets of names, and is nested no deeper than documents may be.
 pub fn what_is_printed_reads_back_as_the_same_document()
-    ensures reads_back { (text : List ℕ) (trees : List DefinitionTree) → IsUtf8 text → IsPrintableText text trees → ReadsBackAs (printed (document_symbols trees)) trees }
-    ensures utf8 { (text : List ℕ) (trees : List DefinitionTree) → IsUtf8 text → IsPrintableText text trees → IsUtf8 (printed (document_symbols trees)) }
+    ensures reads_back { (text : List ℕ) (trees : List DefinitionTree) → IsUtf8 text → SpellsPrintable IsDocument text trees → SpellsAgain IsDocument document_placeless (printed (document_symbols trees)) trees }
+    ensures utf8 { (text : List ℕ) (trees : List DefinitionTree) → IsUtf8 text → SpellsPrintable IsDocument text trees → IsUtf8 (printed (document_symbols trees)) }
 {}

@@ -1,7 +1,7 @@
 -- Symbols are those of one tree at most.
-use Rattle.std.proofs.Common.{ℕ, ◌+◌, ◌≡◌, ◌≤◌, Bool, [], ◌∷◌, ◌++◌, Ok, sym, ap, ◌∙◌, arith, append-nil}
+use Rattle.std.proofs.Common.{ℕ, ◌≡◌, Bool, [], ◌++◌, Ok, sym, ap, ◌∙◌, append-nil}
 use Rattle.gql_base.specs.Reading.{Reader, Test}
-use Rattle.gql_base.specs.Grammar.{Nested, plain, Within}
+use Rattle.gql_base.specs.Grammar.{Nested, plain}
 use Rattle.gql_base.specs.Values.{ValueTree, IsValue}
 use Rattle.gql_base.specs.TypeReferences.{TypeTree, IsType}
 use Rattle.gql_base.proofs.ReadingLaws.{within_front, within_back, ok_same}

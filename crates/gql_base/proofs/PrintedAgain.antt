@@ -1,23 +1,20 @@
 -- What is printed of a thing that a text spells is a text that spells it again.
-use Rattle.std.proofs.Common.{ℕ, ◌≡◌, List, [], ◌∷◌, ◌++◌, refl, sym, ap, ◌∙◌, subst, append-nil, All, IsUtf8}
+use Rattle.std.proofs.Common.{ℕ, ◌≡◌, List, sym, ap, ◌∙◌, subst, append-nil, All, IsUtf8}
 use Rattle.std.specs.Prelude.{map, Bool}
 use Rattle.std.proofs.lemmas.List.Elements.{All-map}
-use Rattle.gql_base.specs.declared.token.Token.{Token}
-use Rattle.gql_base.specs.Tokens.{Lexes}
 use Rattle.gql_base.specs.Symbols.{Symbol, punctuator, identifier, integer, string, Symbols, symbols_from}
 use Rattle.gql_base.specs.Grammar.{Nested, plain, Within}
-use Rattle.gql_base.specs.FirstFaults.{IsWritten}
 use Rattle.gql_base.specs.Answers.{level_limit}
 use Rattle.gql_base.specs.Printing.{printed}
 use Rattle.gql_base.specs.PlacelessSymbols.{placeless_symbol}
-use Rattle.gql_base.specs.PrintableSymbols.{HoldsPrintable, IsPrintable}
+use Rattle.gql_base.specs.PrintableSymbols.{IsPrintable}
 use Rattle.gql_base.specs.ReadingBack.{SpellsPrintable, SpellsAgain}
 use Rattle.gql_base.proofs.AlikeLaws.{Alike}
 use Rattle.gql_base.proofs.AlikeTrees.{value_alike, type_alike}
 use Rattle.gql_base.proofs.PrintedSymbols.{value_is_bare, type_is_bare}
 use Rattle.gql_base.proofs.PrintedPieces.{printed_lexes}
 use Rattle.gql_base.proofs.TextSymbols.{symbols_textual}
-use Rattle.gql_base.proofs.ReadAgain.{ReadAgain, read_again, symbols_placeless_twice}
+use Rattle.gql_base.proofs.ReadAgain.{read_again, symbols_placeless_twice}
 use Rattle.gql_base.specs.Values.{ValueTree, IsValue}
 use Rattle.gql_base.specs.TypeReferences.{TypeTree, IsType}
 use Rattle.gql_base.specs.PrintedTrees.{value_symbols, type_symbols, placeless, type_placeless}
@@ -50,6 +47,10 @@ spelled_again alike a ws symbols is within same all =
       written = record { front = r.front; cut = sym (append-nil (plain r.front) ∙ r.cut); within = r.within; written = r.written };
       same = r.same;
     }
+
+-- what is spelled again, said of a thing that is the same without offsets
+pub again_of_same : {A : Type 0} {S : A → Nested → Type 0} {f : A → A} (text : List ℕ) (a b : A) → SpellsAgain S f text a → f a ≡ f b → SpellsAgain S f text b
+again_of_same text a b s same = record { tokens = s.tokens; lexes = s.lexes; again = s.again; written = s.written; same = s.same ∙ same }
 
 -- the same for a thing that is printed in the symbols that it is written with, without their offsets
 bare_again : {A : Type 0} {S : A → Nested → Type 0} {f : A → A} → Alike S f → (text : List ℕ) (a : A) (symbols : Symbols) → IsUtf8 text → (s : SpellsPrintable S text a) → symbols ≡ map placeless_symbol (plain s.written.front) → SpellsAgain S f (printed symbols) a

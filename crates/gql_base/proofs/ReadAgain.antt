@@ -1,18 +1,15 @@
 -- Symbols that are those in which a tree is printed, but for the offsets of names, are those of the same tree, but for
 -- the offsets of its names.
-use Rattle.std.proofs.Common.{ℕ, ◌≡◌, Bool, List, [], ◌∷◌, refl, sym, ap, ◌∙◌}
+use Rattle.std.proofs.Common.{ℕ, ◌≡◌, [], ◌∷◌, refl, ap}
 use Rattle.std.specs.Prelude.{map}
 use Rattle.gql_base.specs.Symbols.{Symbol, punctuator, identifier, integer, string, Symbols}
 use Rattle.gql_base.specs.Grammar.{Nested, plain, Within}
-use Rattle.gql_base.specs.Values.{ValueTree, variable_value, integer_value, string_value, boolean_value, null_value, enum_value, list_value, object_value, ValueTrees, no_value, value_then, FieldTrees, no_field, field_then, IsValue}
-use Rattle.gql_base.specs.TypeReferences.{TypeTree, named_type, list_type, non_null_type, IsType}
-use Rattle.gql_base.specs.PrintedTrees.{value_symbols, type_symbols, placeless, all_placeless, fields_placeless, type_placeless}
+use Rattle.gql_base.specs.Values.{ValueTree, variable_value, integer_value, string_value, boolean_value, null_value, enum_value, list_value, object_value, ValueTrees, no_value, value_then, FieldTrees, no_field, field_then}
+use Rattle.gql_base.specs.TypeReferences.{TypeTree, named_type, list_type, non_null_type}
+use Rattle.gql_base.specs.PrintedTrees.{placeless, all_placeless, fields_placeless, type_placeless}
 use Rattle.gql_base.specs.PlacelessSymbols.{placeless_symbol}
-use Rattle.gql_base.specs.Alike.{AreAlike}
 use Rattle.gql_base.proofs.AlikeSymbols.{nested_alike, within_alike}
 use Rattle.gql_base.proofs.AlikeLaws.{Alike}
-use Rattle.gql_base.proofs.AlikeTrees.{value_alike, type_alike}
-use Rattle.gql_base.proofs.PrintedSymbols.{value_is_bare, type_is_bare}
 
 -- the symbols are those of a thing that f makes the same, nested n deep at most
 pub record ReadAgain {A : Type 0} (S : A → Nested → Type 0) (f : A → A) (n : ℕ) (a : A) (symbols : Symbols) : Type 0 where
@@ -29,12 +26,6 @@ read_again s n a ws symbols is within e =
     let b = s.again a ws vs.0 is vs.2 in
     record { again = b.0; front = vs.0; cut = vs.1; written = b.1; within = within_alike n ws vs.0 vs.2 within; same = b.2 }
 
-pub value_read_again : (n : ℕ) (c : Bool) (t : ValueTree) (ws : Nested) (symbols : Symbols) → IsValue c 0 t ws → Within n ws → map placeless_symbol symbols ≡ value_symbols t → ReadAgain (IsValue c 0) placeless n t symbols
-value_read_again n c t ws symbols is within e = read_again (value_alike c 0) n t ws symbols is within (sym (e ∙ value_is_bare c 0 t ws is))
-
-pub type_read_again : (n : ℕ) (t : TypeTree) (ws : Nested) (symbols : Symbols) → IsType 0 t ws → Within n ws → map placeless_symbol symbols ≡ type_symbols t → ReadAgain (IsType 0) type_placeless n t symbols
-type_read_again n t ws symbols is within e = read_again (type_alike 0) n t ws symbols is within (sym (e ∙ type_is_bare 0 t ws is))
-
 -- what has no offsets loses none
 
 symbol_placeless_twice : (w : Symbol) → placeless_symbol (placeless_symbol w) ≡ placeless_symbol w
@@ -46,10 +37,6 @@ symbol_placeless_twice (string value) = refl
 pub symbols_placeless_twice : (zs : Symbols) → map placeless_symbol (map placeless_symbol zs) ≡ map placeless_symbol zs
 symbols_placeless_twice [] = refl
 symbols_placeless_twice (z ∷ zs) = cc (symbol_placeless_twice z, symbols_placeless_twice zs)
-
--- for symbols that are printed of a tree, and a tree that is written with exactly them
-pub read_again_printed : {A : Type 0} {S : A → Nested → Type 0} {f : A → A} → Alike S f → (n : ℕ) (a : A) (front : Nested) (symbols : Symbols) → S a front → Within n front → plain front ≡ map placeless_symbol symbols → ReadAgain S f n a symbols
-read_again_printed s n a front symbols is within e = read_again s n a front symbols is within (ap (map placeless_symbol) e ∙ symbols_placeless_twice symbols)
 
 mutual
   unfolding placeless

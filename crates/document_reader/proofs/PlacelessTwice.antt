@@ -1,16 +1,11 @@
--- Symbols that are those in which a document is printed, but for the offsets of names, are those of the same document,
--- but for the offsets of its names.
-use Rattle.std.proofs.Common.{ℕ, ◌≡◌, List, [], ◌∷◌, Option, None, Some, refl, ap, ◌∙◌}
+-- A document without offsets loses none.
+use Rattle.std.proofs.Common.{◌≡◌, List, [], ◌∷◌, Option, None, Some, refl, ap}
 use Rattle.std.specs.Prelude.{map}
-use Rattle.gql_base.specs.Symbols.{Symbols}
 use Rattle.gql_base.specs.Reading.{Identifier}
-use Rattle.gql_base.specs.Grammar.{Nested, plain, Within}
 use Rattle.gql_base.specs.Values.{ValueTree, NamedValue}
-use Rattle.gql_base.specs.PlacelessSymbols.{placeless_symbol}
-use Rattle.document_reader.specs.Documents.{DirectiveTree, FieldNames, SelectionTree, field_selection, fragment_spread, inline_fragment, SelectionTrees, no_selection, selection_then, VariableTree, DefinitionTree, operation_tree, fragment_tree, IsDocument}
+use Rattle.document_reader.specs.Documents.{DirectiveTree, FieldNames, SelectionTree, field_selection, fragment_spread, inline_fragment, SelectionTrees, no_selection, selection_then, VariableTree, DefinitionTree, operation_tree, fragment_tree}
 use Rattle.document_reader.specs.PlacelessDocuments.{maybe_name_placeless, names_placeless, argument_placeless, directive_placeless, selection_placeless, selections_placeless, default_placeless, variable_placeless, definition_placeless, document_placeless}
-use Rattle.gql_base.proofs.ReadAgain.{ReadAgain, read_again_printed, placeless_twice, type_placeless_twice}
-use Rattle.document_reader.proofs.AlikeDocuments.{document_alike}
+use Rattle.gql_base.proofs.ReadAgain.{placeless_twice, type_placeless_twice}
 
 -- what has no offsets loses none
 
@@ -62,7 +57,3 @@ definition_twice (fragment_tree name on directives below) = cc (directives_twice
 
 pub document_placeless_twice : (ts : List DefinitionTree) → document_placeless (document_placeless ts) ≡ document_placeless ts
 document_placeless_twice ts = all_twice definition_placeless definition_twice ts
-
--- `front` is what the document was printed in; the printed text has these symbols at offsets of its own.
-pub document_read_again : (n : ℕ) (ts : List DefinitionTree) (front : Nested) (symbols : Symbols) → IsDocument (document_placeless ts) front → Within n front → plain front ≡ map placeless_symbol symbols → ReadAgain IsDocument document_placeless n (document_placeless ts) symbols × (document_placeless (document_placeless ts) ≡ document_placeless ts)
-document_read_again n ts front symbols is within e = (read_again_printed document_alike n (document_placeless ts) front symbols is within e, document_placeless_twice ts)
