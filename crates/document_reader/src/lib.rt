@@ -7,6 +7,8 @@ mod document;
 mod picking;
 mod printing;
 mod printing_laws;
+#[cfg(test)]
+mod printing_tests;
 mod selections;
 #[cfg(test)]
 mod tests;
@@ -15,5 +17,5 @@ mod trees;
 pub use document::{DocFault, read_document};
 pub use picking::{PickFault, pick};
 pub use printing::print_document;
-pub use printing_laws::what_is_printed_is_written_as_the_same_document;
+pub use printing_laws::{a_text_is_one_document, what_is_printed_is_written_as_the_same_document};
 pub use trees::{Definition, Document, Field, Fragment, Operation, Selection, VariableDef};

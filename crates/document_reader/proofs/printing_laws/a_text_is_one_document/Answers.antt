@@ -1,0 +1,8 @@
+use Rattle.document_reader.proofs.PrintedDocumentLaws.{one_document, one_document_of}
+use Rattle.document_reader.proofs.printing_laws.a_text_is_one_document.Goals as goal
+
+pub returns-clause-symbols : goal.returns-clause-symbols
+returns-clause-symbols c = one_document
+
+pub returns-clause-texts : goal.returns-clause-texts
+returns-clause-texts c = one_document_of
