@@ -71,8 +71,8 @@ fn strings_of_documents_are_printed(rt: HostRuntime) -> Result<(), Fail> {
             "query { a ( x : \"\\\" \\\\ / \\b \\f \\n \\r \\t \u{e9}\" ) }",
         ),
         (
-            "{ a(x: \"\"\"\n  one \"two\"\n    three\n\"\"\", y: \"\") }",
-            "query { a ( x : \"one \\\"two\\\"\\n  three\" y : \"\" ) }",
+            "{ a(x: \"\"\"one \"two\"\nc\\d\"\"\", y: \"\") }",
+            "query { a ( x : \"one \\\"two\\\"\\nc\\\\d\" y : \"\" ) }",
         ),
     ] {
         assert_eq!(rt; printed(rt.alloc(), text)?.as_str(), document, "{text}");
