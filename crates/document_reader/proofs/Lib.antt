@@ -7,3 +7,4 @@ pub mod DocumentSteps
 pub mod PrintingSteps
 pub mod Rewriting
 pub mod PrintedDocumentLaws
+pub mod OneDocument

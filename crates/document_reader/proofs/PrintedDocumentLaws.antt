@@ -1,6 +1,5 @@
--- What is printed of a document is written as the same document, offsets aside, and nested no deeper; and no symbols are
--- written as two documents.
-use Rattle.std.proofs.Common.{ℕ, suc, ◌≡◌, ◌≤◌, inl, inr, Bool, true, false, List, [], ◌∷◌, ◌++◌, map, Option, None, Some, refl, ap, ◌∙◌, subst, append_assoc, arith, Ok, append-nil, sym}
+-- What is printed of a document is written as the same document, offsets aside, and nested no deeper.
+use Rattle.std.proofs.Common.{ℕ, suc, ◌≡◌, ◌≤◌, inl, inr, Bool, true, false, List, [], ◌∷◌, ◌++◌, map, Option, None, Some, refl, ap, ◌∙◌, subst, append_assoc, arith}
 use Rattle.std.specs.Prelude.{codes}
 use Rattle.std.specs.Str.{bytes_eq}
 use Rattle.gql_base.specs.declared.token.TokenKind.TheVariants.{Dollar, Colon, Equals, At, Spread, OpenBrace, CloseBrace}
@@ -8,22 +7,12 @@ use Rattle.gql_base.specs.declared.trees.OperationKind.{OperationKind}
 use Rattle.gql_base.specs.declared.trees.OperationKind.TheVariants.{Query, Mutation, Subscription}
 use Rattle.gql_base.specs.Symbols.{Symbol, punctuator, identifier, integer, string, Symbols}
 use Rattle.gql_base.specs.Reading.{Identifier, exact, any_name, second}
-use Rattle.gql_base.specs.Grammar.{Nested, plain, Within, Single, Pair, Image, Optional}
+use Rattle.gql_base.specs.Grammar.{Nested, Within, Single, Pair, Image, Optional}
 use Rattle.gql_base.specs.Values.{NamedValue, named_value_of}
 use Rattle.gql_base.specs.PrintedTrees.{printed_name}
 use Rattle.gql_base.proofs.ReadingLaws.{within_front, within_back}
 use Rattle.gql_base.proofs.PrintedLaws.{Rewritten, value_rewritten, type_rewritten}
 use Rattle.document_reader.specs.Documents.{DirectiveTree, FieldNames, SelectionTree, field_selection, fragment_spread, inline_fragment, SelectionTrees, no_selection, selection_then, DefinitionTree, on_word, fragment_word, kind_word, unless, fragment_name, some_second, IsArgument, AreArguments, IsDirective, AreDirectives, AreFieldNames, IsFieldHead, IsTypeCondition, IsSpreadEnd, IsInlineHead, IsSelection, IsSelectionSet, AreSelections, IsDefault, variable_of, IsVariable, IsOperationHead, bare_operation, operation_of, head_of_fragment, IsFragmentHead, fragment_of, IsDefinition, IsDocument}
-use Rattle.gql_base.specs.Symbols.{symbols_from}
-use Rattle.gql_base.specs.Answers.{level_limit}
-use Rattle.gql_base.proofs.ReadingLaws.{ok_same}
-use Rattle.gql_base.proofs.LevelLaws.{is_read}
-use Rattle.gql_base.proofs.OneDivision.{lexes_once}
-use Rattle.document_reader.specs.declared.trees.Document.{Document}
-use Rattle.document_reader.specs.DocumentReading.{document_at}
-use Rattle.document_reader.specs.DocumentAnswers.{IsDocumentOf}
-use Rattle.document_reader.specs.Trees.{definition_tree}
-use Rattle.document_reader.proofs.DocumentLaws.{document_family}
 use Rattle.document_reader.specs.PrintedDocuments.{argument_symbols, arguments_symbols, directive_symbols, directives_symbols, names_symbols, condition_symbols, selection_symbols, set_symbols, selections_symbols, default_symbols, variable_symbols, variables_symbols, kind_name, maybe_name_symbols, definition_symbols, document_symbols}
 use Rattle.document_reader.specs.PlacelessDocuments.{name_placeless, maybe_name_placeless, names_placeless, argument_placeless, directive_placeless, selection_placeless, selections_placeless, default_placeless, variable_placeless, definition_placeless, document_placeless}
 use Rattle.document_reader.proofs.Rewriting.{Rewrites, joined_rewritten, same_symbols, braces_rewritten, three_parts, optional_rewritten, rewrites_single, rewrites_mark, rewrites_pair, rewrites_image, rewrites_optional, rewrites_repeated, rewrites_one_or_more, rewrites_parentheses}
@@ -202,18 +191,3 @@ definition_rewrites {n = n} = record { says = definition_rewritten n 0 }
 pub document_rewritten : (n : ℕ) (trees : List DefinitionTree) (ws : Nested) → IsDocument trees ws → Within n ws → Rewritten n (IsDocument (document_placeless trees)) (document_symbols trees)
 unfolding IsDocument
 document_rewritten n trees ws is b = (rewrites_one_or_more definition_rewrites).says trees ws is b
-
--- one document
-
-pub one_document : (n : ℕ) (trees others : List DefinitionTree) (ws vs : Nested) → IsDocument trees ws → Within n ws → IsDocument others vs → Within n vs → plain ws ≡ plain vs → trees ≡ others
-one_document n trees others ws vs is b are c same =
-    let first : document_at n (plain ws) ≡ Ok (trees, []) = is_read n document_family trees ws (plain ws) [] is b (sym (append-nil (plain ws))) refl in
-    let second : document_at n (plain ws) ≡ Ok (others, []) = is_read n document_family others vs (plain ws) [] are c (same ∙ sym (append-nil (plain vs))) refl in
-    ap (λ y. y.0) (ok_same (trees, []) (others, []) (sym first ∙ second))
-
-pub one_document_of : (text : List ℕ) (document other : Document) → IsDocumentOf text document → IsDocumentOf text other → map definition_tree document.definitions.items ≡ map definition_tree other.definitions.items
-one_document_of text document other is are =
-    let one = is.among.written in let two = are.among.written in
-    let same : symbols_from text is.tokens 0 ≡ symbols_from text are.tokens 0 = ap (λ ts. symbols_from text ts 0) (lexes_once text is.tokens are.tokens is.lexes are.lexes) in
-    one_document level_limit _ _ one.front two.front one.written one.within two.written two.within
-    (sym (append-nil (plain one.front)) ∙ (sym one.cut ∙ (same ∙ (two.cut ∙ append-nil (plain two.front)))))

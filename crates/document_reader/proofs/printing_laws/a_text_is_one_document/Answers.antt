@@ -1,4 +1,4 @@
-use Rattle.document_reader.proofs.PrintedDocumentLaws.{one_document, one_document_of}
+use Rattle.document_reader.proofs.OneDocument.{one_document, one_document_of}
 use Rattle.document_reader.proofs.printing_laws.a_text_is_one_document.Goals as goal
 
 pub returns-clause-symbols : goal.returns-clause-symbols

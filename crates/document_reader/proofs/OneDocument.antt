@@ -1,0 +1,27 @@
+-- No symbols are written as two documents, and no text is two documents.
+use Rattle.std.proofs.Common.{ℕ, ◌≡◌, List, [], map, Ok, refl, sym, ap, ◌∙◌, append-nil}
+use Rattle.gql_base.specs.Symbols.{symbols_from}
+use Rattle.gql_base.specs.Grammar.{Nested, plain, Within}
+use Rattle.gql_base.specs.Answers.{level_limit}
+use Rattle.gql_base.proofs.ReadingLaws.{ok_same}
+use Rattle.gql_base.proofs.LevelLaws.{is_read}
+use Rattle.gql_base.proofs.OneDivision.{lexes_once}
+use Rattle.document_reader.specs.declared.trees.Document.{Document}
+use Rattle.document_reader.specs.Documents.{DefinitionTree, IsDocument}
+use Rattle.document_reader.specs.DocumentReading.{document_at}
+use Rattle.document_reader.specs.DocumentAnswers.{IsDocumentOf}
+use Rattle.document_reader.specs.Trees.{definition_tree}
+use Rattle.document_reader.proofs.DocumentLaws.{document_family}
+
+pub one_document : (n : ℕ) (trees others : List DefinitionTree) (ws vs : Nested) → IsDocument trees ws → Within n ws → IsDocument others vs → Within n vs → plain ws ≡ plain vs → trees ≡ others
+one_document n trees others ws vs is b are c same =
+    let first : document_at n (plain ws) ≡ Ok (trees, []) = is_read n document_family trees ws (plain ws) [] is b (sym (append-nil (plain ws))) refl in
+    let second : document_at n (plain ws) ≡ Ok (others, []) = is_read n document_family others vs (plain ws) [] are c (same ∙ sym (append-nil (plain vs))) refl in
+    ap (λ y. y.0) (ok_same (trees, []) (others, []) (sym first ∙ second))
+
+pub one_document_of : (text : List ℕ) (document other : Document) → IsDocumentOf text document → IsDocumentOf text other → map definition_tree document.definitions.items ≡ map definition_tree other.definitions.items
+one_document_of text document other is are =
+    let one = is.among.written in let two = are.among.written in
+    let same : symbols_from text is.tokens 0 ≡ symbols_from text are.tokens 0 = ap (λ ts. symbols_from text ts 0) (lexes_once text is.tokens are.tokens is.lexes are.lexes) in
+    one_document level_limit _ _ one.front two.front one.written one.within two.written two.within
+    (sym (append-nil (plain one.front)) ∙ (sym one.cut ∙ (same ∙ (two.cut ∙ append-nil (plain two.front)))))
