@@ -8,7 +8,6 @@ use Rattle.document_reader.specs.Documents.{DefinitionTree, kind_word, some_seco
 use Rattle.document_reader.specs.PlacelessDocuments.{name_placeless, maybe_name_placeless, directive_placeless, default_placeless, variable_placeless, definition_placeless, document_placeless}
 use Rattle.gql_base.proofs.AlikeLaws.{Alike, whole, both, TakesPlaceless, whole_option, single_alike, mark_alike, name_alike, pair_alike, image_alike, choice_alike, optional_alike, one_or_more_alike}
 use Rattle.gql_base.proofs.AlikeTrees.{value_alike, type_alike}
-use Rattle.gql_base.proofs.OneTree.{one_tree}
 use Rattle.document_reader.proofs.DocumentLaws.{document_family}
 use Rattle.document_reader.proofs.AlikeSelections.{word_alike, fragment_name_alike, parens_alike, directives_alike, set_alike}
 
@@ -55,6 +54,3 @@ definition_alike d = choice_alike (image_alike bare_operation (set_alike d) (λ 
 pub document_alike : Alike IsDocument document_placeless
 unfolding IsDocument
 document_alike = one_or_more_alike (definition_alike 0)
-
-pub one_document : (ts us : List DefinitionTree) (ws vs : Nested) → IsDocument ts ws → IsDocument us vs → plain ws ≡ plain vs → ts ≡ us
-one_document ts us ws vs is it same = one_tree document_family ts us ws vs is it same

@@ -13,3 +13,4 @@ pub mod PlacelessTwice
 pub mod BareWays
 pub mod BareDocuments
 pub mod ReadingBackLaws
+pub mod OneDocument

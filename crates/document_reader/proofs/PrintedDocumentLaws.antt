@@ -1,5 +1,4 @@
--- What is printed of a document is written as the same document, offsets aside, and nested no deeper; and no symbols are
--- written as two documents.
+-- What is printed of a document is written as the same document, offsets aside, and nested no deeper.
 use Rattle.std.proofs.Common.{ℕ, suc, ◌≡◌, ◌≤◌, inl, inr, Bool, true, false, List, [], ◌∷◌, ◌++◌, map, Option, None, Some, refl, ap, ◌∙◌, subst, append_assoc, arith}
 use Rattle.std.specs.Prelude.{codes}
 use Rattle.std.specs.Str.{bytes_eq}

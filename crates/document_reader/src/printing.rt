@@ -41,7 +41,6 @@ fn write_directive(printer: &mut Printer, directive: &Directive) -> Result<(), A
 }
 
 /// Directives, one after the other.
-#[tactic(auto, using(crate::proofs::PrintingSteps::printing_steps))]
 fn write_directives(printer: &mut Printer, directives: &[Directive]) -> Result<(), AllocError>
     ensures { OnOk result (printed_by printer.new ≡ put_all (printed_by printer.old) (directives_symbols (map directive_tree directives.now))) }
 {
@@ -132,7 +131,6 @@ fn write_set(printer: &mut Printer, selections: &[Selection]) -> Result<(), Allo
 
 /// Selections, one after the other.
 #[cycle(printing)]
-#[tactic(auto, using(crate::proofs::PrintingSteps::selection_steps))]
 fn write_selections(printer: &mut Printer, selections: &[Selection]) -> Result<(), AllocError>
     ensures { OnOk result (printed_by printer.new ≡ put_all (printed_by printer.old) (flat_map selection_symbols (map selection_tree selections.now))) }
 {
@@ -169,7 +167,6 @@ fn write_variable(printer: &mut Printer, variable: &VariableDef) -> Result<(), A
 }
 
 /// Variables, one after the other.
-#[tactic(auto, using(crate::proofs::PrintingSteps::printing_steps))]
 fn write_variables(printer: &mut Printer, variables: &[VariableDef]) -> Result<(), AllocError>
     ensures { OnOk result (printed_by printer.new ≡ put_all (printed_by printer.old) (flat_map variable_symbols (map variable_tree variables.now))) }
 {
@@ -236,7 +233,6 @@ fn write_fragment(printer: &mut Printer, fragment: &Fragment) -> Result<(), Allo
     write_set(printer, fragment.selections.as_slice())
 }
 
-#[tactic(auto, using(crate::proofs::PrintingSteps::printing_steps))]
 fn write_definition(printer: &mut Printer, definition: &Definition) -> Result<(), AllocError>
     ensures { OnOk result (printed_by printer.new ≡ put_all (printed_by printer.old) (definition_symbols (definition_tree definition.now))) }
 {
@@ -247,7 +243,6 @@ fn write_definition(printer: &mut Printer, definition: &Definition) -> Result<()
 }
 
 /// Definitions, one after the other.
-#[tactic(auto, using(crate::proofs::PrintingSteps::printing_steps))]
 fn write_definitions(printer: &mut Printer, definitions: &[Definition]) -> Result<(), AllocError>
     ensures { OnOk result (printed_by printer.new ≡ put_all (printed_by printer.old) (document_symbols (map definition_tree definitions.now))) }
 {

@@ -1,4 +1,4 @@
-//! What holds of all printed documents. These functions do nothing: their contracts are the laws.
+//! What holds of all printed documents. This function does nothing: its contract is the law.
 
 ghost use Rattle.std.specs.Prelude.{◌≡◌, ℕ, List};
 ghost use Rattle.gql_base.specs.Grammar.{Nested, plain, Within};
