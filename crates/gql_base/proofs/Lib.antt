@@ -24,3 +24,6 @@ pub mod Escapes
 pub mod StringValues
 pub mod PrintedLaws
 pub mod PrintSteps
+pub mod BlockLines
+pub mod BlockMarks
+pub mod BlockUtf8
