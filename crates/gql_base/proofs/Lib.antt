@@ -36,3 +36,6 @@ pub mod PrintedPieces
 pub mod TextSymbols
 pub mod ReadAgain
 pub mod PrintedAgain
+pub mod BlockLines
+pub mod BlockMarks
+pub mod BlockUtf8

@@ -10,17 +10,16 @@ use Rattle.std.proofs.lemmas.List.Elements.{All-nil, All-cons}
 use Rattle.std.proofs.lemmas.Str.{IsUtf8-nil, IsUtf8-append, IsUtf8-encode, IsUtf8-take, IsUtf8-drop, IsCharBoundary-after_ascii, IsCharBoundary-before_ascii, encode_ascii, length-le-encodes}
 use Rattle.gql_base.specs.declared.strings.Escape.{Escape}
 use Rattle.gql_base.specs.declared.token.Token.{Token}
-use Rattle.gql_base.specs.declared.token.TokenKind.TheVariants.{BlockStr}
 use Rattle.gql_base.specs.Strings.{escape_at, text_value, is_plain_byte}
 use Rattle.gql_base.specs.Pieces.{Lexeme, word, number, string as text_lexeme, block, mark, Piece, token, byte_order_mark, blank, comment, lexeme_bytes, IsLexeme, Divides}
 use Rattle.gql_base.specs.Tokens.{Lexes}
-use Rattle.gql_base.specs.Literals.{marked_value}
 use Rattle.gql_base.specs.Symbols.{symbols_from}
 use Rattle.gql_base.specs.PrintableSymbols.{IsTextual}
 use Rattle.gql_base.proofs.Escapes.{escape_some, escape_last, escape_scalar}
 use Rattle.gql_base.proofs.StringValues.{value_alone, value_escape, value_plain}
 use Rattle.gql_base.proofs.Places.{HasAsciiEnds}
 use Rattle.gql_base.proofs.Borders.{after_ascii, after_piece}
+use Rattle.gql_base.proofs.BlockUtf8.{block_text_is_utf8}
 use Rattle.gql_base.proofs.EscapedTexts.{utf8_ascii, all_from, own_byte}
 use Rattle.gql_base.proofs.DecimalTexts.{integer_fits_128}
 use Rattle.gql_base.proofs.PrintedPieces.{same_mark}
@@ -102,10 +101,6 @@ value_within (suc n) text short utf8 = value_of n utf8.0 text utf8.1.0 utf8.1.1 
 pub string_value_utf8 : (body : List ℕ) → IsUtf8 body → IsUtf8 (text_value 0 body)
 string_value_utf8 body utf8 = value_within (length body) body (omega arith) utf8
 
--- the value of a block string
-block_value_utf8 : (body : List ℕ) → IsUtf8 body → IsUtf8 (marked_value BlockStr body)
-block_value_utf8 body utf8 = utf8
-
 -- what stands between marks
 body_utf8 : (text marks body after : List ℕ) → text ≡ marks ++ (body ++ (marks ++ after)) → 0 < length marks → HasAsciiEnds marks → IsUtf8 text → IsUtf8 body
 body_utf8 text marks body after cut some ascii utf8 =
@@ -129,7 +124,7 @@ lexeme_textual (number bytes) text after at is cut utf8 = integer_fits_128 bytes
 lexeme_textual (text_lexeme body) text after at is cut utf8 =
     string_value_utf8 body (body_utf8 text (34 ∷ []) body after (cut ∙ ap (λ xs. 34 ∷ xs) (append_assoc body (34 ∷ []) after)) (omega arith) (omega arith, omega arith) utf8)
 lexeme_textual (block body) text after at is cut utf8 =
-    block_value_utf8 body (body_utf8 text (34 ∷ 34 ∷ 34 ∷ []) body after (cut ∙ ap (λ xs. 34 ∷ 34 ∷ 34 ∷ xs) (append_assoc body (34 ∷ 34 ∷ 34 ∷ []) after)) (omega arith) (omega arith, omega arith) utf8)
+    block_text_is_utf8 body (body_utf8 text (34 ∷ 34 ∷ 34 ∷ []) body after (cut ∙ ap (λ xs. 34 ∷ 34 ∷ 34 ∷ xs) (append_assoc body (34 ∷ 34 ∷ 34 ∷ []) after)) (omega arith) (omega arith, omega arith) utf8)
 lexeme_textual (mark kind) text after at is cut utf8 = subst (λ xs. 0 < length xs) (sym (same_mark kind)) is
 
 pieces_textual : (ps : List Piece) (text : List ℕ) (at : ℕ) → IsUtf8 text → Divides ps text [] → All IsTextual (symbols_in at ps)

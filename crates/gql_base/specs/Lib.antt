@@ -1,6 +1,7 @@
 pub mod Characters
 pub mod Numbers
 pub mod Strings
+pub mod Blocks
 pub mod Pieces
 pub mod Faults
 pub mod Tokens

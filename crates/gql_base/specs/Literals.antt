@@ -7,6 +7,7 @@ use Rattle.gql_base.specs.declared.token.TokenKind.{TokenKind}
 use Rattle.gql_base.specs.declared.token.TokenKind.TheVariants.{BlockStr}
 use Rattle.gql_base.specs.declared.token.Span.{Span}
 use Rattle.gql_base.specs.Strings.{text_value}
+use Rattle.gql_base.specs.Blocks.{block_text}
 use Rattle.gql_base.specs.Tokens.{bytes_at}
 
 -- one or more digits
@@ -37,10 +38,10 @@ abbrev pub mark_length : TokenKind → ℕ
 mark_length BlockStr = 3
 mark_length kind = 1
 
--- What stands between marks, with the character of each escape in its place. That of a block string is as it is
--- written.
+-- The value of what stands between marks: with the character of each escape in its place, or of a block string its
+-- lines without their common indent.
 abbrev pub marked_value : TokenKind → List ℕ → List ℕ
-marked_value BlockStr body = body
+marked_value BlockStr body = block_text body
 marked_value kind body = text_value 0 body
 
 -- the value of a string token

@@ -1,5 +1,6 @@
--- How strings and block strings are written (GraphQL October 2021, 2.9.4), and what they stand for. Escaped
--- surrogate pairs stand for one character, and other escaped surrogates are no escapes.
+-- How strings and block strings are written (GraphQL October 2021, 2.9.4), and what strings stand for. Escaped
+-- surrogate pairs stand for one character, and other escaped surrogates are no escapes. What block strings stand for
+-- is in `Blocks`.
 use Rattle.std.specs.Prelude.{ℕ, zero, suc, ◌+◌, ◌-◌, ◌*◌, Bool, true, false, nat_le, nat_lt, ◌==◌, ◌&&◌, not, List, [], ◌∷◌, ◌++◌, length, take, drop, if◌then◌else◌, Option, None, Some}
 use Rattle.std.specs.List.{prefix_len}
 use Rattle.std.specs.Char.{encode_utf8}

@@ -1,6 +1,9 @@
 //! What every reader of GraphQL texts stands on: texts, and the tokens that they are made of.
 #![tactic(auto)]
 
+mod blocks;
+#[cfg(test)]
+mod blocks_tests;
 mod characters;
 mod laws;
 mod lexing;
@@ -31,6 +34,7 @@ mod trees;
 mod types;
 mod values;
 
+pub use blocks::block_value;
 pub use laws::{
     a_text_lexes_in_one_way, a_text_lexes_or_has_one_fault, lexemes_are_tokens_without_places,
     tokens_lie_in_their_text,

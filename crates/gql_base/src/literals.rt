@@ -6,6 +6,7 @@ ghost use Rattle.std.specs.Char.{InScalarRange};
 ghost use Rattle.gql_base.specs.Strings.{text_value, is_plain_byte};
 ghost use Rattle.gql_base.specs.Literals.{integer_of, integer_value, inner_span, mark_length, marked_value, string_of};
 
+use crate::blocks::block_value;
 use crate::strings::{after, escape_at};
 use crate::text::Text;
 use crate::token::{Span, Token, TokenKind};
@@ -30,7 +31,7 @@ pub fn integer_at(text: &str, token: Token) -> i128
 }
 
 /// The place of the next `\` from a place on, or the end.
-fn plain_end(bytes: &[u8], at: usize) -> usize
+pub fn plain_end(bytes: &[u8], at: usize) -> usize
     requires { at ≤ length bytes.now }
     ensures { result ≡ at + prefix_len is_plain_byte (drop at bytes.now) }
 {
@@ -110,13 +111,13 @@ fn marked_value(alloc: Global, kind: TokenKind, body: &str) -> Result<Text, Allo
     ensures { IfOk result (λ value. value ≡ marked_value kind body.now) }
 {
     match kind {
-        TokenKind::BlockStr => Text::copy_of(alloc, body),
+        TokenKind::BlockStr => block_value(alloc, body),
         _ => string_value(alloc, body),
     }
 }
 
-/// The value of a string token of `text`. It fails for want of memory alone. That of a block string is what
-/// stands between its marks as it is written.
+/// The value of a string or block string token of `text` (GraphQL October 2021, 2.9.4). It fails for want of
+/// memory alone.
 #[tactic(auto, unfolding(crate::specs::Literals::string_of))]
 pub fn string_at(alloc: Global, text: &str, token: Token) -> Result<Text, AllocError>
     ensures { IfOk result (λ value. value ≡ string_of text.now token) }

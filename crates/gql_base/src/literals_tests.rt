@@ -42,7 +42,7 @@ fn strings_have_their_values(rt: HostRuntime) -> Result<(), Fail> {
             "x\u{10000}\u{10ffff}y",
         ),
         ("\"\u{e9}\\n\u{1f600}\"", "\u{e9}\n\u{1f600}"),
-        ("\"\"\"\\\"\"\" \"\"\"", "\\\"\"\" "),
+        ("\"\"\"\\\"\"\" \"\"\"", "\"\"\" "),
     ] {
         let Ok(tokens) = lex(rt.alloc(), text) else {
             return Err(Fail::from("it has no fault"));

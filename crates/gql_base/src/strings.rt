@@ -70,7 +70,7 @@ fn string_closing(bytes: &[u8]) -> Option<usize>
 }
 
 /// Whether `\` and three marks stand at a place.
-fn escapes_marks(bytes: &[u8], at: usize) -> bool
+pub fn escapes_marks(bytes: &[u8], at: usize) -> bool
     requires { at < length bytes.now }
     ensures test { result ≡ ((get_or bytes.now at 0 == 92) && begins_with_marks (drop (at + 1) bytes.now)) }
     ensures within { OnTrue result (at + 4 ≤ length bytes.now) }
