@@ -1,14 +1,11 @@
 -- No symbols are written as two documents, and no text is two documents.
-use Rattle.std.proofs.Common.{ℕ, ◌≡◌, List, [], map, Ok, refl, sym, ap, ◌∙◌, append-nil}
+use Rattle.std.proofs.Common.{ℕ, ◌≡◌, List, map, sym, ap, ◌∙◌, append-nil}
 use Rattle.gql_base.specs.Symbols.{symbols_from}
-use Rattle.gql_base.specs.Grammar.{Nested, plain, Within}
-use Rattle.gql_base.specs.Answers.{level_limit}
-use Rattle.gql_base.proofs.ReadingLaws.{ok_same}
+use Rattle.gql_base.specs.Grammar.{Nested, plain}
 use Rattle.gql_base.proofs.OneTree.{one_tree}
 use Rattle.gql_base.proofs.OneDivision.{lexes_once}
 use Rattle.document_reader.specs.declared.trees.Document.{Document}
 use Rattle.document_reader.specs.Documents.{DefinitionTree, IsDocument}
-use Rattle.document_reader.specs.DocumentReading.{document_at}
 use Rattle.document_reader.specs.DocumentAnswers.{IsDocumentOf}
 use Rattle.document_reader.specs.Trees.{definition_tree}
 use Rattle.document_reader.proofs.DocumentLaws.{document_family}

@@ -19,7 +19,7 @@ mod trees;
 pub use document::{DocFault, read_document};
 pub use picking::{PickFault, pick};
 pub use printing::print_document;
-pub use reading_back::what_is_printed_reads_back_as_the_same_document;
 pub use printing_laws::what_is_printed_is_written_as_the_same_document;
+pub use reading_back::what_is_printed_reads_back_as_the_same_document;
 pub use tree_laws::{a_text_is_one_document, offsets_change_no_document};
 pub use trees::{Definition, Document, Field, Fragment, Operation, Selection, VariableDef};
