@@ -1,6 +1,6 @@
 //! The lines that commands write, and the statuses that they end with.
 
-ghost use Rattle.std.specs.Prelude.{◌≡◌, ◌≤◌, ◌++◌, ◌∷◌, ◌⊎◌, OnOk, OnErr, IfOk, IfSome, codes, string_bytes};
+ghost use Rattle.std.specs.Prelude.{◌≡◌, ◌≤◌, ◌++◌, ◌∷◌, ◌⊎◌, OnOk, OnErr, IfOk, IfSome, IfNone, codes, string_bytes};
 ghost use Rattle.std.specs.Fmt.{decimal};
 ghost use Rattle.std.specs.Io.KnownBytes.{Appends, Keeps};
 ghost use Rattle.outside.specs.Faults.{Rose};
@@ -84,7 +84,8 @@ fn write_refused<E: Sink>(text: &[u8], err: &mut E) -> u8
 
 // What stands before the place of a document's fault, and the place; nothing where the fault is want of memory.
 fn document_place(fault: DocFault) -> Option<(&'static str, usize)>
-    ensures { IfSome result (λ told. placed told.0.now told.1 ≡ document_text fault) }
+    ensures text { IfSome result (λ told. placed told.0.now told.1 ≡ document_text fault) }
+    ensures none { IfNone result ((fault ≡ DocFault.Memory) ⊎ (fault ≡ DocFault.Lex LexFault.Memory)) }
 {
     match fault {
         DocFault::Lex(LexFault::BadChar { at }) => Some(("document 1 Lex 1 BadChar", at)),
