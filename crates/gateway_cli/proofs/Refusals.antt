@@ -1,37 +1,60 @@
 -- Why an operation of two files is refused.
-use Rattle.std.proofs.Common.{◌≡◌, refl, sym, subst, ℕ, List}
-use Rattle.first_form.specs.Schemas.{TypeTree, HasFirstSchema}
-use Rattle.first_form.specs.Documents.{HasFirstDocument, IsRefusedDocument}
-use Rattle.first_form.specs.declared.first.FirstPart.TheVariants.{Schema, Document}
-use Rattle.first_form.specs.declared.first.FirstFault.{FirstFault}
-use Rattle.first_form.specs.declared.first.FirstFault.TheVariants.{NotBuilt, Memory}
+use Rattle.std.proofs.Common.{◌≡◌, inr, sym, subst, ℕ, List, Option, None, Some, IfSome, IfNone, Result, IfOk, IfErr, Vec}
+use Rattle.std.specs.Option.{ok_or}
+use Rattle.std.specs.declared.alloc.Global.{Global}
+use Rattle.document_reader.specs.declared.trees.Document.{Document}
+use Rattle.document_reader.specs.DocumentAnswers.{IsDocumentOf}
+use Rattle.first_form.specs.Documents.{HaveFirstForm, IsRefusedDocument}
 use Rattle.first_form.proofs.Fitting.{document_fits}
 use Rattle.static_cost.specs.declared.first.FirstNode.{FirstNode}
-use Rattle.gateway_cli.specs.declared.operation.TheConstants.{SCHEMA_LIMIT}
+use Rattle.static_cost.specs.Nodes.{firsts_of}
+use Rattle.gateway_cli.specs.declared.operation.TheConstants.{SCHEMA_LIMIT, DOCUMENT_LIMIT}
 use Rattle.gateway_cli.specs.declared.operation.Refusal.{Refusal}
-use Rattle.gateway_cli.specs.declared.operation.Refusal.TheVariants.{SchemaNotBuilt, DocumentNotBuilt, TypesTooCostly, FieldsTooCostly, BothTooCostly}
+use Rattle.gateway_cli.specs.declared.operation.Refusal.TheVariants.{SchemaNotBuilt, NoDocument, DocumentNotBuilt, TypesTooCostly, FieldsTooCostly, BothTooCostly}
+use Rattle.gateway_cli.specs.declared.operation.OperationFault.{OperationFault}
+use Rattle.gateway_cli.specs.declared.operation.OperationFault.TheVariants.{Refused}
 use Rattle.gateway_cli.specs.Reading.{IsText}
 use Rattle.gateway_cli.specs.Operations.{HoldOperation, IsTooCostly, IsRefused}
-use Rattle.gateway_cli.specs.Faults.{IfRefusedAs, fault_from}
+use Rattle.gateway_cli.specs.Faults.{IfRefusedAs}
 
--- what reading two texts refuses is refused of the files that hold them
-pub refused_reading : (schema document s d : List ℕ) (fault : FirstFault) → s ≡ schema → d ≡ document → IsText SCHEMA_LIMIT schema
-    → (fault ≡ NotBuilt Schema → (types : List TypeTree) → HasFirstSchema s types → ⊥) → (fault ≡ NotBuilt Document → IsRefusedDocument s d) → IfRefusedAs (fault_from fault) (IsRefused schema document)
-refused_reading schema document s d (NotBuilt Schema) same_schema same_document text no_schema no_document =
-    λ types held. no_schema refl types (subst (λ x. HasFirstSchema x types) (sym same_schema) held.form)
-refused_reading schema document s d (NotBuilt Document) same_schema same_document text no_schema no_document =
-    let r = no_document refl in record {
-      types = r.types;
-      of_schema = record { text = text; form = subst (λ x. HasFirstSchema x r.types) same_schema r.of_schema };
-      refused = λ nodes held.
-          let fitting = document_fits r.types d nodes (subst (λ x. HasFirstDocument r.types x nodes) (sym same_document) held.form) in
-          r.refused fitting.0 fitting.1 fitting.2;
-    }
-refused_reading schema document s d Memory same_schema same_document text no_schema no_document = tt
+-- texts of the first form of which the document is read are an operation
+held_operation : (schema document : List ℕ) (read : Document) (operation : List FirstNode) → IsText SCHEMA_LIMIT schema → IsText DOCUMENT_LIMIT document → IsDocumentOf document read
+    → HaveFirstForm schema document (firsts_of operation) → HoldOperation schema document operation
+held_operation schema document read operation s d is f = record {
+  types = f.types;
+  of_schema = record { text = s; form = f.of_schema };
+  of_document = record { text = d; document = read; is_document = is; form = f.of_document };
+}
+
+-- a document that hasn't the first form is refused
+refused_form : (schema document : List ℕ) (read : Document) → IsText SCHEMA_LIMIT schema → IsText DOCUMENT_LIMIT document → IsDocumentOf document read → IsRefusedDocument schema document
+    → IsRefused schema document DocumentNotBuilt
+refused_form schema document read s d is r = (
+  r.types,
+  record { text = s; form = r.of_schema },
+  inr (record {
+    text = d;
+    document = read;
+    is_document = is;
+    refused = λ nodes held. let fitting = document_fits r.types document nodes held in r.refused fitting.0 fitting.1 fitting.2;
+  }),
+)
+
+-- what was read of both texts, or nothing where the document hasn't the first form, is an operation, or is refused
+pub held_nodes : (schema document : List ℕ) (read : Document) (nodes : Option (Vec FirstNode Global)) (result : Result (Vec FirstNode Global) OperationFault) → IsText SCHEMA_LIMIT schema → IsText DOCUMENT_LIMIT document
+    → IsDocumentOf document read → IfSome nodes (λ v. HaveFirstForm schema document (firsts_of v.items)) → result ≡ ok_or nodes (Refused DocumentNotBuilt) → IfOk result (λ v. HoldOperation schema document v.items)
+held_nodes schema document read (Some v) result s d is form same = subst (λ r. IfOk r (λ v. HoldOperation schema document v.items)) (sym same) (held_operation schema document read v.items s d is form)
+held_nodes schema document read None result s d is form same = subst (λ r. IfOk r (λ v. HoldOperation schema document v.items)) (sym same) tt
+
+pub refused_nodes : (schema document : List ℕ) (read : Document) (nodes : Option (Vec FirstNode Global)) (result : Result (Vec FirstNode Global) OperationFault) → IsText SCHEMA_LIMIT schema → IsText DOCUMENT_LIMIT document
+    → IsDocumentOf document read → IfNone nodes (IsRefusedDocument schema document) → result ≡ ok_or nodes (Refused DocumentNotBuilt) → IfErr result (λ fault. IfRefusedAs fault (IsRefused schema document))
+refused_nodes schema document read (Some v) result s d is none same = subst (λ r. IfErr r (λ fault. IfRefusedAs fault (IsRefused schema document))) (sym same) tt
+refused_nodes schema document read None result s d is none same = subst (λ r. IfErr r (λ fault. IfRefusedAs fault (IsRefused schema document))) (sym same) (refused_form schema document read s d is none)
 
 -- an operation that is too costly is refused of the files that hold it
 pub refused_cost : (schema document : List ℕ) (operation : List FirstNode) (refusal : Refusal) → HoldOperation schema document operation → IsTooCostly operation refusal → IsRefused schema document refusal
 refused_cost schema document operation SchemaNotBuilt held costly = absurd costly
+refused_cost schema document operation (NoDocument fault) held costly = absurd costly
 refused_cost schema document operation DocumentNotBuilt held costly = absurd costly
 refused_cost schema document operation TypesTooCostly held costly = (operation, held, costly)
 refused_cost schema document operation FieldsTooCostly held costly = (operation, held, costly)

@@ -1,12 +1,10 @@
 -- What the faults of operations say.
-use Rattle.std.specs.Prelude.{ℕ, List, Bool, true, false}
-use Rattle.first_form.specs.Schemas.{TypeTree, HasFirstSchema}
-use Rattle.first_form.specs.declared.first.FirstPart.TheVariants.{Schema, Document}
-use Rattle.first_form.specs.declared.first.FirstFault.{FirstFault}
-use Rattle.first_form.specs.declared.first.FirstFault.TheVariants.{NotBuilt, Memory as FirstMemory}
+use Rattle.std.specs.Prelude.{Bool, true, false}
+use Rattle.document_reader.specs.declared.document.DocFault.{DocFault}
+use Rattle.document_reader.specs.declared.document.DocFault.TheVariants.{Lex, Unexpected, TooDeep, Memory as DocumentMemory}
 use Rattle.static_cost.specs.declared.bound.TooCostly.{TooCostly}
 use Rattle.gateway_cli.specs.declared.operation.Refusal.{Refusal}
-use Rattle.gateway_cli.specs.declared.operation.Refusal.TheVariants.{SchemaNotBuilt, DocumentNotBuilt, TypesTooCostly, FieldsTooCostly, BothTooCostly}
+use Rattle.gateway_cli.specs.declared.operation.Refusal.TheVariants.{NoDocument, TypesTooCostly, FieldsTooCostly, BothTooCostly}
 use Rattle.gateway_cli.specs.declared.operation.OperationFault.{OperationFault}
 use Rattle.gateway_cli.specs.declared.operation.OperationFault.TheVariants.{Refused, Memory}
 
@@ -15,19 +13,12 @@ abbrev pub IfRefusedAs : OperationFault → (Refusal → Type 0) → Type 0
 IfRefusedAs (Refused refusal) P = P refusal
 IfRefusedAs Memory P = Unit {0}
 
--- the fault of an operation that a fault of reading is
-abbrev pub fault_from : FirstFault → OperationFault
-fault_from (NotBuilt Schema) = Refused SchemaNotBuilt
-fault_from (NotBuilt Document) = Refused DocumentNotBuilt
-fault_from FirstMemory = Memory
-
--- Why an operation is refused whose document file is no text: the schema is named where it is none.
-abbrev pub IsWithoutDocument : List ℕ → Refusal → Type 0
-IsWithoutDocument schema SchemaNotBuilt = (types : List TypeTree) → HasFirstSchema schema types → ⊥
-IsWithoutDocument schema DocumentNotBuilt = (types : List TypeTree) × HasFirstSchema schema types
-IsWithoutDocument schema TypesTooCostly = ⊥
-IsWithoutDocument schema FieldsTooCostly = ⊥
-IsWithoutDocument schema BothTooCostly = ⊥
+-- the fault of an operation that the fault of its document is
+abbrev pub document_fault_from : DocFault → OperationFault
+document_fault_from (Lex fault) = Refused (NoDocument (Lex fault))
+document_fault_from (Unexpected at) = Refused (NoDocument (Unexpected at))
+document_fault_from (TooDeep at) = Refused (NoDocument (TooDeep at))
+document_fault_from DocumentMemory = Memory
 
 abbrev pub costly : Bool → Bool → Refusal
 costly true true = BothTooCostly

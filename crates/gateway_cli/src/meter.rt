@@ -170,7 +170,7 @@ pub fn meter<F: Files, K: Sink, E: Sink>(
 {
     match measure_files(alloc, schema, document, reply, files) {
         Ok(metered) => report::write_measure(&metered, out),
-        Err(MeterStop::Refused(refusal)) => report::write_refusal(refusal, err),
+        Err(MeterStop::Refused(refusal)) => report::write_refusal(alloc, refusal, err),
         Err(MeterStop::TooLarge) => report::write_too_large(reply.as_bytes(), err),
         Err(MeterStop::SchemaFailed) => report::write_failed_file(schema.as_bytes(), err),
         Err(MeterStop::DocumentFailed) => report::write_failed_file(document.as_bytes(), err),

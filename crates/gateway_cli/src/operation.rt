@@ -1,14 +1,17 @@
 //! The operation that a schema file and a document file hold, and its bound.
 
-ghost use Rattle.std.specs.Prelude.{◌≡◌, List, length, IfOk, IfErr, IfSome, IfNone};
+ghost use Rattle.std.specs.Prelude.{◌≡◌, ℕ, List, length, IfOk, IfErr, IfSome, IfNone};
+ghost use Rattle.first_form.specs.Schemas.{TypeTree, HasFirstSchema};
+ghost use Rattle.first_form.specs.Documents.{HaveFirstForm, IsRefusedDocument};
 ghost use Rattle.static_cost.specs.Nodes.{Firsts, firsts_of};
 ghost use Rattle.static_cost.specs.FirstPlan.{AllSized};
 ghost use Rattle.static_cost.specs.FirstBound.{IsBoundOf, IsWithinCap, NamesExceeding};
 ghost use Rattle.gateway_cli.specs.Reading.{IsText};
 ghost use Rattle.gateway_cli.specs.Operations.{HoldOperation, IsRefused, IsTooCostly};
-ghost use Rattle.gateway_cli.specs.Faults.{IfRefusedAs, fault_from, IsWithoutDocument, refusal_for};
+ghost use Rattle.gateway_cli.specs.Faults.{IfRefusedAs, document_fault_from, refusal_for};
 
 use cost_num::Cost;
+use document_reader::{DocFault, read_document};
 use first_form::{FirstFault, FirstPart, read_first};
 use gql_base::Text;
 use static_cost::{FirstNode, TooCostly, first_bound};
@@ -24,6 +27,8 @@ pub const DOCUMENT_LIMIT: usize = 262_144;
 pub enum Refusal {
     /// The schema hasn't the form that can be priced.
     SchemaNotBuilt,
+    /// The document's text is no document of GraphQL. The fault is not want of memory.
+    NoDocument(DocFault),
     /// The document hasn't the form that can be priced.
     DocumentNotBuilt,
     /// The greatest type cost exceeds the cap.
@@ -52,29 +57,74 @@ fn text_of(read: Vec<u8>, limit: usize) -> Option<Text>
     Text::from_utf8(read).ok()
 }
 
-// The refusal that a fault of reading is.
-fn fault_of(fault: FirstFault) -> OperationFault
-    ensures { result ≡ fault_from fault }
+// The refusal that a fault of the document is.
+fn document_fault(fault: DocFault) -> OperationFault
+    ensures { result ≡ document_fault_from fault }
 {
     match fault {
-        FirstFault::NotBuilt {
-            which: FirstPart::Schema,
-        } => OperationFault::Refused(Refusal::SchemaNotBuilt),
-        FirstFault::NotBuilt {
-            which: FirstPart::Document,
-        } => OperationFault::Refused(Refusal::DocumentNotBuilt),
-        FirstFault::Memory => OperationFault::Memory,
+        DocFault::Memory => OperationFault::Memory,
+        fault => OperationFault::Refused(Refusal::NoDocument(fault)),
+    }
+}
+
+// The nodes that two texts stand for; nothing where the document hasn't the first form for the schema.
+fn first_of(
+    alloc: Global,
+    schema: &str,
+    document: &str,
+) -> Result<Option<Vec<FirstNode>>, OperationFault>
+    ensures schema { IfOk result (λ _. (types : List TypeTree) × HasFirstSchema schema.now types) }
+    ensures found { IfOk result (λ nodes. IfSome nodes (λ nodes. HaveFirstForm schema.now document.now (firsts_of nodes.items))) }
+    ensures sized { IfOk result (λ nodes. IfSome nodes (λ nodes. AllSized nodes.items)) }
+    ensures none { IfOk result (λ nodes. IfNone nodes (IsRefusedDocument schema.now document.now)) }
+    // Whatever the document is.
+    ensures refused { IfErr result (λ fault. (bytes : List ℕ) → IfRefusedAs fault (IsRefused schema.now bytes)) }
+{
+    match read_first(alloc, schema, document) {
+        Ok(nodes) => Ok(Some(nodes)),
+        Err(
+            FirstFault::NotBuilt {
+                which: FirstPart::Schema,
+            },
+        ) => Err(OperationFault::Refused(Refusal::SchemaNotBuilt)),
+        Err(
+            FirstFault::NotBuilt {
+                which: FirstPart::Document,
+            },
+        ) => Ok(None),
+        Err(FirstFault::Memory) => Err(OperationFault::Memory),
     }
 }
 
 // Why nothing is read where the document file is no text: the schema is looked at first.
 fn refused_document(alloc: Global, schema: &str) -> OperationFault
-    ensures { IfRefusedAs result (IsWithoutDocument schema.now) }
+    requires schema_text { IsText SCHEMA_LIMIT schema.now }
+    ensures refused { (bytes : List ℕ) → ¬ IsText DOCUMENT_LIMIT bytes → IfRefusedAs result (IsRefused schema.now bytes) }
 {
-    match read_first(alloc, schema, "") {
-        Ok(_) => OperationFault::Refused(Refusal::DocumentNotBuilt),
-        Err(fault) => fault_of(fault),
+    if let Err(fault) = first_of(alloc, schema, "") {
+        return fault;
     }
+    OperationFault::Refused(Refusal::DocumentNotBuilt)
+}
+
+// The operation that the texts of two files are. Where they are none, the schema is named first, then the document's
+// own fault, and last that the document hasn't the first form.
+fn operation_in(
+    alloc: Global,
+    schema: &str,
+    document: &str,
+) -> Result<Vec<FirstNode>, OperationFault>
+    requires schema_text { IsText SCHEMA_LIMIT schema.now }
+    requires document_text { IsText DOCUMENT_LIMIT document.now }
+    ensures held { IfOk result (λ nodes. HoldOperation schema.now document.now nodes.items) }
+    ensures sized { IfOk result (λ nodes. AllSized nodes.items) }
+    ensures refused { IfErr result (λ fault. IfRefusedAs fault (IsRefused schema.now document.now)) }
+{
+    let nodes = first_of(alloc, schema, document)?;
+    if let Err(fault) = read_document(alloc, document) {
+        return Err(document_fault(fault));
+    }
+    nodes.ok_or(OperationFault::Refused(Refusal::DocumentNotBuilt))
 }
 
 /// The operation that the bytes of a schema file and of a document file hold.
@@ -93,10 +143,7 @@ pub fn operation_of(
     let Some(document) = text_of(document, DOCUMENT_LIMIT) else {
         return Err(refused_document(alloc, schema.as_str()));
     };
-    match read_first(alloc, schema.as_str(), document.as_str()) {
-        Ok(nodes) => Ok(nodes),
-        Err(fault) => Err(fault_of(fault)),
-    }
+    operation_in(alloc, schema.as_str(), document.as_str())
 }
 
 // The refusal of an operation that is too costly.

@@ -99,7 +99,7 @@ pub fn price<F: Files, K: Sink, E: Sink>(
 {
     match price_files(alloc, schema, document, files) {
         Ok(cost) => report::write_price(cost, out),
-        Err(PriceFault::Refused(refusal)) => report::write_refusal(refusal, err),
+        Err(PriceFault::Refused(refusal)) => report::write_refusal(alloc, refusal, err),
         Err(PriceFault::SchemaFailed) => report::write_failed_file(schema.as_bytes(), err),
         Err(PriceFault::DocumentFailed) => report::write_failed_file(document.as_bytes(), err),
         Err(PriceFault::Memory) => NO_MEMORY,

@@ -1,15 +1,17 @@
 //! The lines that commands write, and the statuses that they end with.
 
-ghost use Rattle.std.specs.Prelude.{◌≡◌, ◌≤◌, ◌++◌, ◌∷◌, ◌⊎◌, OnOk, OnErr, IfOk, codes, string_bytes};
+ghost use Rattle.std.specs.Prelude.{◌≡◌, ◌≤◌, ◌++◌, ◌∷◌, ◌⊎◌, OnOk, OnErr, IfOk, IfSome, IfNone, codes, string_bytes};
 ghost use Rattle.std.specs.Fmt.{decimal};
 ghost use Rattle.std.specs.Io.KnownBytes.{Appends, Keeps};
 ghost use Rattle.outside.specs.Faults.{Rose};
 ghost use Rattle.cost_num.specs.CostText.{cost_text};
 ghost use Rattle.static_cost.specs.FirstBound.{IsWithinCap};
-ghost use Rattle.gateway_cli.specs.Texts.{line, refusal_text, file_text, why_text, meter_text, SaysTooLarge, IsStatusOf};
+ghost use Rattle.gateway_cli.specs.Texts.{line, placed, document_text, refusal_text, file_text, why_text, meter_text, SaysTooLarge, IsStatusOf};
 
 use crate::operation::Refusal;
 use cost_num::{CAP, Cost, cost_bytes};
+use document_reader::DocFault;
+use gql_base::LexFault;
 use outside::{Sink, WriteFault, write_whole};
 use response_meter::{FirstMetered, MeterFault, Why};
 use std::alloc::{AllocError, Global};
@@ -68,28 +70,72 @@ pub fn write_price<K: Sink>(cost: Cost, out: &mut K) -> u8
     }
 }
 
-// The text of a refusal.
-fn refusal_bytes(refusal: Refusal) -> &'static [u8]
-    ensures { result.now ≡ refusal_text refusal }
+// Writes the line of why an input is refused, and gives `REFUSED`, or `STREAM_FAILED`.
+fn write_refused<E: Sink>(text: &[u8], err: &mut E) -> u8
+    ensures known { (result ≡ REFUSED) ⊎ (result ≡ STREAM_FAILED) }
+    ensures whole { result ≡ REFUSED → Appends (E.written err.old) (E.written err.new) (line text.now) }
+    ensures cause { result ≡ STREAM_FAILED → Rose (E.faults err.old) (E.faults err.new) }
 {
-    match refusal {
-        Refusal::SchemaNotBuilt => b"first 1 NotBuilt schema",
-        Refusal::DocumentNotBuilt => b"first 1 NotBuilt document",
-        Refusal::TypesTooCostly => b"bound 1 TooCostly types",
-        Refusal::FieldsTooCostly => b"bound 1 TooCostly fields",
-        Refusal::BothTooCostly => b"bound 1 TooCostly both",
+    match write_line(err, text) {
+        Ok(()) => REFUSED,
+        Err(WriteFault) => STREAM_FAILED,
     }
 }
 
-/// Writes the line of a refusal, and gives `REFUSED`, or `STREAM_FAILED`.
-pub fn write_refusal<E: Sink>(refusal: Refusal, err: &mut E) -> u8
-    ensures known { (result ≡ REFUSED) ⊎ (result ≡ STREAM_FAILED) }
+// What stands before the place of a document's fault, and the place; nothing where the fault is want of memory.
+fn document_place(fault: DocFault) -> Option<(&'static str, usize)>
+    ensures text { IfSome result (λ told. placed told.0.now told.1 ≡ document_text fault) }
+    ensures none { IfNone result ((fault ≡ DocFault.Memory) ⊎ (fault ≡ DocFault.Lex LexFault.Memory)) }
+{
+    match fault {
+        DocFault::Lex(LexFault::BadChar { at }) => Some(("document 1 Lex 1 BadChar", at)),
+        DocFault::Lex(LexFault::BadNumber { at }) => Some(("document 1 Lex 2 BadNumber", at)),
+        DocFault::Lex(LexFault::OpenText { at }) => Some(("document 1 Lex 3 OpenText", at)),
+        DocFault::Lex(LexFault::BadEscape { at }) => Some(("document 1 Lex 4 BadEscape", at)),
+        DocFault::Lex(LexFault::FloatValue { at }) => Some(("document 1 Lex 5 FloatValue", at)),
+        DocFault::Unexpected { at } => Some(("document 2 Unexpected", at)),
+        DocFault::TooDeep { at } => Some(("document 3 TooDeep", at)),
+        DocFault::Lex(LexFault::Memory) | DocFault::Memory => None,
+    }
+}
+
+// A text and a place after it.
+fn placed(alloc: Global, text: &str, at: usize) -> Result<String, AllocError>
+    ensures { IfOk result (λ told. string_bytes told ≡ placed text.now at) }
+{
+    format!(in alloc; "{text} {at}")
+}
+
+// Writes the line of a document's fault, and gives `REFUSED`, `STREAM_FAILED` or `NO_MEMORY`.
+fn write_document_fault<E: Sink>(alloc: Global, fault: DocFault, err: &mut E) -> u8
+    ensures known { (result ≡ REFUSED) ⊎ (result ≡ STREAM_FAILED) ⊎ (result ≡ NO_MEMORY) }
+    ensures whole { result ≡ REFUSED → Appends (E.written err.old) (E.written err.new) (line (document_text fault)) }
+    ensures cause { result ≡ STREAM_FAILED → Rose (E.faults err.old) (E.faults err.new) }
+    ensures memory { result ≡ NO_MEMORY → Keeps (E.written err.old) (E.written err.new) }
+{
+    let Some((text, at)) = document_place(fault) else {
+        return NO_MEMORY;
+    };
+    let Ok(text) = placed(alloc, text, at) else {
+        return NO_MEMORY;
+    };
+    write_refused(text.as_bytes(), err)
+}
+
+/// Writes the line of a refusal, and gives `REFUSED`, or `STREAM_FAILED` or `NO_MEMORY`.
+pub fn write_refusal<E: Sink>(alloc: Global, refusal: Refusal, err: &mut E) -> u8
+    ensures known { (result ≡ REFUSED) ⊎ (result ≡ STREAM_FAILED) ⊎ (result ≡ NO_MEMORY) }
     ensures whole { result ≡ REFUSED → Appends (E.written err.old) (E.written err.new) (line (refusal_text refusal)) }
     ensures cause { result ≡ STREAM_FAILED → Rose (E.faults err.old) (E.faults err.new) }
+    ensures memory { result ≡ NO_MEMORY → Keeps (E.written err.old) (E.written err.new) }
 {
-    match write_line(err, refusal_bytes(refusal)) {
-        Ok(()) => REFUSED,
-        Err(WriteFault) => STREAM_FAILED,
+    match refusal {
+        Refusal::SchemaNotBuilt => write_refused(b"first 1 NotBuilt schema", err),
+        Refusal::NoDocument(fault) => write_document_fault(alloc, fault, err),
+        Refusal::DocumentNotBuilt => write_refused(b"first 1 NotBuilt document", err),
+        Refusal::TypesTooCostly => write_refused(b"bound 1 TooCostly types", err),
+        Refusal::FieldsTooCostly => write_refused(b"bound 1 TooCostly fields", err),
+        Refusal::BothTooCostly => write_refused(b"bound 1 TooCostly both", err),
     }
 }
 

@@ -139,7 +139,16 @@ fn operations_without_a_price_are_refused(rt: HostRuntime) -> Result<(), Fail> {
     for (schema, document, line) in [
         (USERS, "{ b: user { id } }", "first 1 NotBuilt document\n"),
         (USERS, "{ nobody }", "first 1 NotBuilt document\n"),
-        (USERS, "", "first 1 NotBuilt document\n"),
+        (
+            USERS,
+            "{ user(x: 1) { id } }",
+            "first 1 NotBuilt document\n",
+        ),
+        (
+            USERS,
+            "query Q { user { id } }",
+            "first 1 NotBuilt document\n",
+        ),
         (
             "type User { id: ID }",
             "{ user { id } }",
@@ -153,6 +162,67 @@ fn operations_without_a_price_are_refused(rt: HostRuntime) -> Result<(), Fail> {
         assert_eq!(rt; ended.status, 1, "{document}");
         assert!(rt; ended.out.is_empty(), "{document}");
         assert_eq!(rt; ended.err.as_slice(), line.as_bytes(), "{document}");
+    }
+    Ok(())
+}
+
+/// A text that is written so many times.
+fn repeated(alloc: Global, text: &str, times: usize) -> Result<String, Fail> {
+    let mut whole = String::new(alloc);
+    for _ in 0..times {
+        whole.push_str(text)?;
+    }
+    Ok(whole)
+}
+
+#[test]
+fn texts_that_are_no_documents_are_refused(rt: HostRuntime) -> Result<(), Fail> {
+    for (schema, document, line) in [
+        (USERS, "?", "document 1 Lex 1 BadChar 0\n"),
+        (
+            USERS,
+            "{ user(x: 01) { id } }",
+            "document 1 Lex 2 BadNumber 10\n",
+        ),
+        (
+            USERS,
+            "{ user(x: \"1) { id } }",
+            "document 1 Lex 3 OpenText 10\n",
+        ),
+        (
+            USERS,
+            "{ a: \"\\uD83D\" }",
+            "document 1 Lex 4 BadEscape 6\n",
+        ),
+        (
+            USERS,
+            "{ user(x: 1.5) { id } }",
+            "document 1 Lex 5 FloatValue 10\n",
+        ),
+        (USERS, "", "document 2 Unexpected 0\n"),
+        (USERS, " { user { id }", "document 2 Unexpected 14\n"),
+        (USERS, "{ user { } }", "document 2 Unexpected 9\n"),
+        ("type User { id: ID }", "?", "first 1 NotBuilt schema\n"),
+        ("", "{ user { } }", "first 1 NotBuilt schema\n"),
+    ] {
+        let ended = priced(&rt, schema.as_bytes(), document.as_bytes())?;
+        assert_eq!(rt; ended.status, 1, "{document}");
+        assert!(rt; ended.out.is_empty(), "{document}");
+        assert_eq!(rt; ended.err.as_slice(), line.as_bytes(), "{document}");
+    }
+    Ok(())
+}
+
+#[test]
+fn documents_have_a_limit_of_levels(rt: HostRuntime) -> Result<(), Fail> {
+    for (levels, line) in [
+        (50, "document 2 Unexpected 100\n"),
+        (51, "document 3 TooDeep 100\n"),
+    ] {
+        let document = repeated(rt.alloc(), "{a", levels)?;
+        let ended = priced(&rt, USERS.as_bytes(), document.as_bytes())?;
+        assert_eq!(rt; ended.status, 1, "{line}");
+        assert_eq!(rt; ended.err.as_slice(), line.as_bytes(), "{line}");
     }
     Ok(())
 }
@@ -178,15 +248,16 @@ fn files_that_are_no_texts_are_refused(rt: HostRuntime) -> Result<(), Fail> {
 fn files_have_limits(rt: HostRuntime) -> Result<(), Fail> {
     let alloc = rt.alloc();
     let document = "{ user { id } }";
-    for (schema_length, document_length, status) in [
-        (USERS.len(), 262_144, 0),
-        (USERS.len(), 262_145, 1),
-        (4_194_305, 262_144, 1),
+    for (schema_length, document_length, status, line) in [
+        (USERS.len(), 262_144, 0, ""),
+        (USERS.len(), 262_145, 1, "first 1 NotBuilt document\n"),
+        (4_194_305, 262_144, 1, "first 1 NotBuilt schema\n"),
     ] {
         let schema = filled(alloc, USERS, schema_length)?;
         let document = filled(alloc, document, document_length)?;
         let ended = priced(&rt, &schema, &document)?;
         assert_eq!(rt; ended.status, status, "{schema_length} {document_length}");
+        assert_eq!(rt; ended.err.as_slice(), line.as_bytes(), "{line}");
     }
     Ok(())
 }
@@ -199,6 +270,8 @@ fn streams_that_fail_are_told(rt: HostRuntime) -> Result<(), Fail> {
         (PRICE, price, 9, 1, 4),
         (PRICE, "{ b: user { id } }", 9, 0, 4),
         (PRICE, "{ b: user { id } }", 9, 1, 4),
+        (PRICE, "?", 9, 0, 4),
+        (PRICE, "?", 9, 1, 4),
         (PRICE, price, 0, 0, 3),
         (["prices", "schema", "document"], price, 9, 0, 2),
     ] {
@@ -305,6 +378,9 @@ fn faulty_replies_are_told(rt: HostRuntime) -> Result<(), Fail> {
         ),
         (USERS, FRIENDS, "[", 7, "meter 1 NotResponse data NotJson\n"),
         (USERS, "{ nobody }", "[]", 1, "first 1 NotBuilt document\n"),
+        (USERS, "?", "[]", 1, "document 1 Lex 1 BadChar 0\n"),
+        (USERS, "{ user", "[]", 1, "document 2 Unexpected 6\n"),
+        ("", "?", "[]", 1, "first 1 NotBuilt schema\n"),
         (
             HUGE,
             "{ a { a { id } } }",
