@@ -23,6 +23,7 @@ use Rattle.gql_base.proofs.ReadingLaws.{plain_append}
 use Rattle.gql_base.proofs.PrintedSymbols.{bare, bare_bracketed, value_is_bare, type_is_bare}
 use Rattle.document_reader.specs.Documents.{SelectionTree, field_selection, fragment_spread, inline_fragment, SelectionTrees, no_selection, selection_then, DefinitionTree, kind_word, some_second, IsArgument, AreArguments, IsDirective, AreDirectives, AreFieldNames, IsFieldHead, IsTypeCondition, IsSpreadEnd, IsInlineHead, IsSelection, IsSelectionSet, AreSelections, IsDefault, variable_of, IsVariable, IsOperationHead, operation_of, head_of_fragment, IsFragmentHead, fragment_of, IsDefinition, IsDocument}
 use Rattle.document_reader.specs.PrintedDocuments.{argument_symbols, arguments_symbols, directive_symbols, directives_symbols, names_symbols, condition_symbols, selection_symbols, set_symbols, selections_symbols, default_symbols, variable_symbols, variables_symbols, kind_name, maybe_name_symbols, definition_symbols, document_symbols}
+use Rattle.document_reader.proofs.PrintedDocumentLaws.{regrouped}
 use Rattle.document_reader.proofs.BareWays.{Bare, joined_bare, bare_single, bare_mark, bare_name, bare_word, bare_fragment_name, bare_pair, bare_image, optional_bare, bare_optional, bare_repeated, bare_parentheses}
 
 -- arguments and directives
@@ -67,15 +68,12 @@ inline_head_bare {d = d} = bare_pair (bare_optional None condition refl) (direct
     condition : Bare (IsTypeCondition d) condition_symbols
     condition = bare_image some_second (bare_pair (bare_word (codes "on")) bare_name) (λ p ws is. refl)
 
-head_first : (first second third rest : Symbols) → first ++ (second ++ (third ++ rest)) ≡ (first ++ (second ++ third)) ++ rest
-head_first first second third rest = sym (append_assoc first (second ++ third) rest ∙ ap (λ (l : Symbols). first ++ l) (append_assoc second third rest))
-
 mutual
   unfolding IsSelection selection_symbols
 
   selection_is_bare : (d : ℕ) (s : SelectionTree) (ws : Nested) → IsSelection d s ws → selection_symbols s ≡ bare ws
   selection_is_bare d (field_selection names arguments directives below) ws is =
-      head_first (names_symbols names) (arguments_symbols arguments) (directives_symbols directives) (set_symbols below)
+      sym (regrouped (names_symbols names) (arguments_symbols arguments) (directives_symbols directives) (set_symbols below))
       ∙ joined_bare is.0 is.1 ws (field_head_bare.says (names, (arguments, directives)) is.0 is.3) (optional_bare (IsSelectionSet d) set_symbols no_selection refl below is.1 (λ set. set_is_bare d below is.1 set) is.4) is.2
   selection_is_bare d (fragment_spread name directives) ws is = joined_bare is.0 is.1 ws ((bare_mark Spread tt).says tt is.0 is.3) (spread_end_bare.says (name, directives) is.1 is.4) is.2
   selection_is_bare d (inline_fragment on directives below) ws is =
@@ -133,7 +131,7 @@ operation_head_bare {d = d} = bare_pair (bare_optional None name refl) (bare_pai
 
 operation_bare : {d : ℕ} → Bare (Image operation_of (Pair (Single kind_word d) (Pair (IsOperationHead d) (IsSelectionSet d)))) definition_symbols
 operation_bare {d = d} = bare_image operation_of (bare_pair kind_bare (bare_pair operation_head_bare (set_bare d)))
-    (λ p ws is. ap (λ (l : Symbols). printed_name (kind_name p.0) ∷ l) (head_first (maybe_name_symbols p.1.0.0) (variables_symbols p.1.0.1.0) (directives_symbols p.1.0.1.1) (set_symbols p.1.1)))
+    (λ p ws is. ap (λ (l : Symbols). printed_name (kind_name p.0) ∷ l) (sym (regrouped (maybe_name_symbols p.1.0.0) (variables_symbols p.1.0.1.0) (directives_symbols p.1.0.1.1) (set_symbols p.1.1))))
 
 fragment_bare : {d : ℕ} → Bare (Image fragment_of (Pair (IsFragmentHead d) (IsSelectionSet d))) definition_symbols
 fragment_bare {d = d} = bare_image fragment_of (bare_pair head (set_bare d)) (λ p ws is. refl)

@@ -7,11 +7,11 @@ use Rattle.std.proofs.lemmas.Slice.Eq.{bytes_eq-Decides}
 use Rattle.gql_base.specs.declared.token.TokenKind.{TokenKind}
 use Rattle.gql_base.specs.declared.token.TokenKind.TheVariants.{OpenParen, CloseParen}
 use Rattle.gql_base.specs.Symbols.{Symbol, punctuator, identifier, integer, string, Symbols}
-use Rattle.gql_base.specs.Reading.{Taking, when, exact, Identifier, any_name, listed}
+use Rattle.gql_base.specs.Reading.{Taking, exact, Identifier, any_name, listed}
 use Rattle.gql_base.specs.Grammar.{Nested, Single, Pair, Image, Optional, Repeated, OneOrMore}
 use Rattle.gql_base.specs.PrintedTrees.{printed_name}
 use Rattle.gql_base.specs.PlacelessSymbols.{placeless_symbol}
-use Rattle.gql_base.proofs.SymbolTests.{IsPunctuator, exact_is, name_is}
+use Rattle.gql_base.proofs.SymbolTests.{when_true, IsPunctuator, exact_is, name_is}
 use Rattle.gql_base.proofs.PrintedSymbols.{bare, bare_append}
 use Rattle.document_reader.specs.Documents.{keyword, unless, fragment_name, inside}
 use Rattle.document_reader.specs.PrintedDocuments.{in_parentheses}
@@ -34,10 +34,6 @@ bare_name = bare_single any_name (λ name. printed_name name.0) (λ w a e. sym (
 pub bare_word : {d : ℕ} (bytes : List ℕ) → Bare (Single (keyword bytes) d) (λ a. printed_name bytes ∷ [])
 bare_word bytes = bare_single (keyword bytes) (λ a. printed_name bytes) same
   where
-    when_true : (b : Bool) (a : Unit {0}) → when b ≡ Some a → b ≡ true
-    when_true true a e = refl
-    when_true false a e = cc
-
     same : (w : Symbol) (a : Unit {0}) → keyword bytes w ≡ Some a → printed_name bytes ≡ placeless_symbol w
     same (punctuator kind) a e = cc
     same (identifier name at) a e = sym (ap printed_name ((bytes_eq-Decides name bytes).0 (when_true (bytes_eq name bytes) a e)))

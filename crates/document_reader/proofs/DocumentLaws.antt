@@ -83,10 +83,6 @@ fragment_law left more d n le e = image_law fragment_of (then_law (fragment_head
 
 -- what words a test is asked of
 
-when_true : (b : Bool) (a : Unit {0}) → when b ≡ Some a → b ≡ true
-when_true true a e = refl
-when_true false a e = cc
-
 heads_bare : {b : Bool} {test : Test} (d : ℕ) → test (Some (punctuator OpenBrace)) ≡ b → Heads b test (Image bare_operation (IsSelectionSet d))
 heads_bare d e = heads_image (heads_set d e)
 

@@ -11,11 +11,12 @@ use Rattle.gql_base.specs.Grammar.{Nested, Within, Single, Pair, Image, Optional
 use Rattle.gql_base.specs.Values.{NamedValue, named_value_of}
 use Rattle.gql_base.specs.PrintedTrees.{printed_name}
 use Rattle.gql_base.proofs.ReadingLaws.{within_front, within_back}
-use Rattle.gql_base.proofs.PrintedLaws.{Rewritten, value_rewritten, type_rewritten}
+use Rattle.gql_base.proofs.PrintedLaws.{Rewritten, bracketed_rewritten, value_rewritten, type_rewritten}
 use Rattle.document_reader.specs.Documents.{DirectiveTree, FieldNames, SelectionTree, field_selection, fragment_spread, inline_fragment, SelectionTrees, no_selection, selection_then, DefinitionTree, on_word, fragment_word, kind_word, unless, fragment_name, some_second, IsArgument, AreArguments, IsDirective, AreDirectives, AreFieldNames, IsFieldHead, IsTypeCondition, IsSpreadEnd, IsInlineHead, IsSelection, IsSelectionSet, AreSelections, IsDefault, variable_of, IsVariable, IsOperationHead, bare_operation, operation_of, head_of_fragment, IsFragmentHead, fragment_of, IsDefinition, IsDocument}
 use Rattle.document_reader.specs.PrintedDocuments.{argument_symbols, arguments_symbols, directive_symbols, directives_symbols, names_symbols, condition_symbols, selection_symbols, set_symbols, selections_symbols, default_symbols, variable_symbols, variables_symbols, kind_name, maybe_name_symbols, definition_symbols, document_symbols}
-use Rattle.document_reader.specs.PlacelessDocuments.{name_placeless, maybe_name_placeless, names_placeless, argument_placeless, directive_placeless, selection_placeless, selections_placeless, default_placeless, variable_placeless, definition_placeless, document_placeless}
-use Rattle.document_reader.proofs.Rewriting.{Rewrites, joined_rewritten, same_symbols, braces_rewritten, three_parts, optional_rewritten, rewrites_single, rewrites_mark, rewrites_pair, rewrites_image, rewrites_optional, rewrites_repeated, rewrites_one_or_more, rewrites_parentheses}
+use Rattle.gql_base.specs.PlacelessSymbols.{name_placeless}
+use Rattle.document_reader.specs.PlacelessDocuments.{maybe_name_placeless, names_placeless, argument_placeless, directive_placeless, selection_placeless, selections_placeless, default_placeless, variable_placeless, definition_placeless, document_placeless}
+use Rattle.document_reader.proofs.Rewriting.{Rewrites, joined_rewritten, same_symbols, three_parts, optional_rewritten, rewrites_single, rewrites_mark, rewrites_pair, rewrites_image, rewrites_optional, rewrites_repeated, rewrites_one_or_more, rewrites_parentheses}
 
 -- names, arguments and directives
 
@@ -89,7 +90,7 @@ inline_head_rewrites {n = n} {d = d} = rewrites_pair (rewrites_optional None con
     condition : Rewrites n (IsTypeCondition d) maybe_name_placeless condition_symbols
     condition = rewrites_image some_second (rewrites_pair on_word_rewrites name_rewrites) (λ p. refl) (λ p ws is. refl)
 
-regrouped : (first second third rest : Symbols) → (first ++ (second ++ third)) ++ rest ≡ first ++ (second ++ (third ++ rest))
+pub regrouped : (first second third rest : Symbols) → (first ++ (second ++ third)) ++ rest ≡ first ++ (second ++ (third ++ rest))
 regrouped first second third rest = append_assoc first (second ++ third) rest ∙ ap (λ l. first ++ l) (append_assoc second third rest)
 
 mutual
@@ -117,7 +118,7 @@ mutual
 
   set_rewritten : (n d : ℕ) (ss : SelectionTrees) (ws : Nested) → IsSelectionSet d ss ws → Within n ws → Rewritten n (IsSelectionSet d (selections_placeless ss)) (set_symbols ss)
   set_rewritten n d no_selection ws is b = absurd is
-  set_rewritten n d (selection_then s others) ws is b = braces_rewritten n d _ _ ws (selection_symbols s ++ selections_symbols others) is b
+  set_rewritten n d (selection_then s others) ws is b = bracketed_rewritten n d OpenBrace CloseBrace _ _ ws (selection_symbols s ++ selections_symbols others) is b
       (λ inner are w. let h : Within n (are.0 ++ are.1) = subst (Within n) are.2 w in
       joined_rewritten (selection_rewritten n (suc d) s are.0 are.3 (within_front n are.0 are.1 h)) (selections_rewritten n (suc d) others are.1 are.4 (within_back n are.0 are.1 h)))
 

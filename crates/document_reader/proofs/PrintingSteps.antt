@@ -8,7 +8,7 @@ use Rattle.gql_base.specs.declared.trees.Directive.{Directive}
 use Rattle.gql_base.specs.Symbols.{Symbol, punctuator, Symbols}
 use Rattle.gql_base.specs.Reading.{Identifier}
 use Rattle.gql_base.specs.Values.{NamedValue, fields_from}
-use Rattle.gql_base.specs.Trees.{named_value}
+use Rattle.gql_base.specs.Trees.{identifier_of, named_value}
 use Rattle.gql_base.specs.Printing.{Printed, put, put_all}
 use Rattle.gql_base.specs.PrintedTrees.{printed_name, value_symbols, fields_symbols}
 use Rattle.gql_base.proofs.PrintSteps.{put_all_append}
@@ -19,7 +19,7 @@ use Rattle.document_reader.specs.declared.trees.Selection.TheOpen.{Selection-F}
 use Rattle.document_reader.specs.declared.trees.Selection.TheFolds.{fold-roll-Selection, fold_out-Field}
 use Rattle.document_reader.specs.Documents.{DirectiveTree, FieldNames, SelectionTree, field_selection, fragment_spread, inline_fragment, SelectionTrees}
 use Rattle.document_reader.specs.DocumentReading.{selections_from}
-use Rattle.document_reader.specs.Trees.{identifier_of, names_of, selection_tree, field_tree, selection_step, field_step, directive_tree, set_tree}
+use Rattle.document_reader.specs.Trees.{names_of, selection_tree, field_tree, selection_step, field_step, directive_tree, set_tree}
 use Rattle.document_reader.specs.PrintedDocuments.{in_parentheses, argument_symbols, arguments_symbols, directives_symbols, names_symbols, condition_symbols, selection_symbols, set_symbols, selections_symbols}
 use Rattle.document_reader.proofs.ReadingSteps.{tree_of_field, tree_of_inline}
 

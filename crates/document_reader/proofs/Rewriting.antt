@@ -1,12 +1,12 @@
 -- What is printed of things is written as the same things without offsets, for each of the ways of which grammars are
 -- put together.
-use Rattle.std.proofs.Common.{ℕ, suc, ◌≡◌, inl, inr, List, [], ◌∷◌, ◌++◌, map, Some, refl, sym, ap, ◌∙◌, subst}
+use Rattle.std.proofs.Common.{ℕ, ◌≡◌, inl, inr, List, [], ◌∷◌, ◌++◌, map, Some, refl, sym, ap, ◌∙◌, subst}
 use Rattle.std.specs.List.{flat_map}
 use Rattle.gql_base.specs.declared.token.TokenKind.{TokenKind}
-use Rattle.gql_base.specs.declared.token.TokenKind.TheVariants.{OpenParen, CloseParen, OpenBrace, CloseBrace}
+use Rattle.gql_base.specs.declared.token.TokenKind.TheVariants.{OpenParen, CloseParen}
 use Rattle.gql_base.specs.Symbols.{Symbol, punctuator, Symbols}
 use Rattle.gql_base.specs.Reading.{Taking, exact, listed}
-use Rattle.gql_base.specs.Grammar.{Nested, plain, Within, Single, Pair, Image, Optional, Repeated, OneOrMore, Bracketed}
+use Rattle.gql_base.specs.Grammar.{Nested, plain, Within, Single, Pair, Image, Optional, Repeated, OneOrMore}
 use Rattle.gql_base.proofs.ReadingLaws.{plain_append, within_append, within_front, within_back}
 use Rattle.gql_base.proofs.SymbolTests.{exact_itself}
 use Rattle.gql_base.proofs.PrintedLaws.{Rewritten}
@@ -33,19 +33,6 @@ three_parts ws w = (w.0, w.4.0, w.4.1, w.2 ∙ ap (λ (l : Nested). w.0 ++ l) w.
 
 pub same_symbols : {n : ℕ} {P : Nested → Type 0} {xs ys : Symbols} → Rewritten n P xs → xs ≡ ys → Rewritten n P ys
 same_symbols r e = record { front = r.front; same = r.same ∙ e; within = r.within; written = r.written }
-
-pub braces_rewritten : (n d : ℕ) (P Q : Nested → Type 0) (ws : Nested) (symbols : Symbols) → Bracketed OpenBrace CloseBrace d P ws → Within n ws
-    → ((inner : Nested) → P inner → Within n inner → Rewritten n Q symbols) → Rewritten n (Bracketed OpenBrace CloseBrace d Q) (punctuator OpenBrace ∷ (symbols ++ (punctuator CloseBrace ∷ [])))
-braces_rewritten n d P Q ws symbols is b within =
-    let close : Nested = (punctuator CloseBrace, suc d) ∷ [] in
-    let h : Within n ((punctuator OpenBrace, suc d) ∷ (is.0 ++ close)) = subst (Within n) is.1 b in
-    let r = within is.0 is.2 (within_front n is.0 close h.1) in
-    record {
-      front = (punctuator OpenBrace, suc d) ∷ (r.front ++ close);
-      same = ap (λ (l : Symbols). punctuator OpenBrace ∷ l) (plain_append r.front close ∙ ap (λ (l : Symbols). l ++ (punctuator CloseBrace ∷ [])) r.same);
-      within = (h.0, within_append n r.front close r.within (within_back n is.0 close h.1));
-      written = (r.front, refl, r.written);
-    }
 
 pub rewrites_single : {A : Type 0} {n d : ℕ} {f : A → A} (taking : Taking A) (symbol : A → Symbol) → ((w : Symbol) (a : A) → taking w ≡ Some a → taking (symbol a) ≡ Some (f a)) → Rewrites n (Single taking d) f (λ a. symbol a ∷ [])
 rewrites_single {n = n} {d = d} taking symbol again = record {

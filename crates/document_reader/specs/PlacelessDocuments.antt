@@ -2,12 +2,9 @@
 use Rattle.std.specs.Prelude.{List, map, Option, None, Some}
 use Rattle.gql_base.specs.Reading.{Identifier}
 use Rattle.gql_base.specs.Values.{ValueTree, NamedValue}
+use Rattle.gql_base.specs.PlacelessSymbols.{name_placeless}
 use Rattle.gql_base.specs.PrintedTrees.{placeless, type_placeless}
 use Rattle.document_reader.specs.Documents.{DirectiveTree, FieldNames, SelectionTree, field_selection, fragment_spread, inline_fragment, SelectionTrees, no_selection, selection_then, VariableTree, DefinitionTree, operation_tree, fragment_tree}
-
--- a name at offset 0
-abbrev pub name_placeless : Identifier → Identifier
-name_placeless name = (name.0, 0)
 
 abbrev pub maybe_name_placeless : Option Identifier → Option Identifier
 maybe_name_placeless None = None

@@ -5,7 +5,7 @@ use Rattle.gql_base.specs.declared.trees.Directive.{Directive}
 use Rattle.gql_base.specs.declared.trees.Value.{Value}
 use Rattle.gql_base.specs.Reading.{Identifier}
 use Rattle.gql_base.specs.Values.{ValueTree}
-use Rattle.gql_base.specs.Trees.{named_value, value_tree, type_tree}
+use Rattle.gql_base.specs.Trees.{identifier_of, named_value, value_tree, type_tree}
 use Rattle.document_reader.specs.declared.trees.Selection.{Selection}
 use Rattle.document_reader.specs.declared.trees.Selection.TheOpen.{Selection-F, Field-F}
 use Rattle.document_reader.specs.declared.trees.Selection.TheFolds.{fold-Selection, fold-Field}
@@ -17,9 +17,6 @@ use Rattle.document_reader.specs.declared.trees.Definition.{Definition}
 use Rattle.document_reader.specs.declared.trees.Definition.TheVariants.{Op, Frag}
 use Rattle.document_reader.specs.Documents.{DirectiveTree, FieldNames, SelectionTree, field_selection, fragment_spread, inline_fragment, SelectionTrees, VariableTree, DefinitionTree, operation_tree, fragment_tree}
 use Rattle.document_reader.specs.DocumentReading.{selections_from}
-
-abbrev pub identifier_of : Name → Identifier
-identifier_of n = (n.text, n.at)
 
 abbrev pub maybe_identifier : Option Name → Option Identifier
 maybe_identifier None = None

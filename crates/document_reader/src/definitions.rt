@@ -4,10 +4,10 @@ ghost use Rattle.std.specs.Prelude.{◌≡◌, ◌<◌, ◌≤◌, length, map, 
 ghost use Rattle.gql_base.specs.declared.token.TokenKind.TheVariants.{CloseParen};
 ghost use Rattle.gql_base.specs.Reading.{single, one_or_more, up_to};
 ghost use Rattle.gql_base.specs.Sources.{ahead, Reads, offset_of};
-ghost use Rattle.gql_base.specs.Trees.{value_tree};
+ghost use Rattle.gql_base.specs.Trees.{identifier_of, value_tree};
 ghost use Rattle.document_reader.specs.Documents.{kind_word, kind_named};
 ghost use Rattle.document_reader.specs.DocumentReading.{default_at, maybe_default_at, variable_at, variables_at, maybe_variables_at, maybe_name_at, operation_head_at, bare_at, operation_at, fragment_head_at, fragment_at, definition_at};
-ghost use Rattle.document_reader.specs.Trees.{identifier_of, maybe_identifier, maybe_value, variable_tree, directive_tree, tree_of_operation, tree_of_fragment, definition_tree};
+ghost use Rattle.document_reader.specs.Trees.{maybe_identifier, maybe_value, variable_tree, directive_tree, tree_of_operation, tree_of_fragment, definition_tree};
 ghost use Rattle.document_reader.specs.Places.{BeginsAt};
 
 use crate::arguments::directives;

@@ -5,9 +5,9 @@ use Rattle.std.specs.Prelude.{map}
 use Rattle.std.specs.Option.{option_map}
 use Rattle.gql_base.specs.declared.token.TokenKind.{TokenKind}
 use Rattle.gql_base.specs.Symbols.{Symbol, punctuator, identifier, integer, string}
-use Rattle.gql_base.specs.Reading.{Taking, exact, Identifier, any_name, listed, second}
+use Rattle.gql_base.specs.Reading.{Taking, exact, any_name, listed, second}
 use Rattle.gql_base.specs.Grammar.{Nested, Single, Pair, Image, Choice, Empty, Optional, Repeated, OneOrMore, Level, Bracketed}
-use Rattle.gql_base.specs.PlacelessSymbols.{placeless_symbol}
+use Rattle.gql_base.specs.PlacelessSymbols.{placeless_symbol, name_placeless}
 use Rattle.gql_base.specs.Alike.{AreAlike}
 use Rattle.gql_base.proofs.AlikeSymbols.{none_alike, split_alike, one_alike, punctuator_alike}
 
@@ -59,10 +59,10 @@ mark_alike kind = single_alike (exact kind) whole same
     same (integer value) = whole_option _
     same (string value) = whole_option _
 
-pub name_alike : {d : ℕ} → Alike (Single any_name d) (λ (n : Identifier). (n.0, 0))
-name_alike = single_alike any_name (λ (n : Identifier). (n.0, 0)) same
+pub name_alike : {d : ℕ} → Alike (Single any_name d) name_placeless
+name_alike = single_alike any_name name_placeless same
   where
-    same : TakesPlaceless any_name (λ (n : Identifier). (n.0, 0))
+    same : TakesPlaceless any_name name_placeless
     same (punctuator kind) = refl
     same (identifier bytes at) = refl
     same (integer value) = refl

@@ -45,9 +45,9 @@ enum_literal (identifier bytes place) name at e =
     let p = enum_anywhere bytes name place at (bytes_eq bytes (codes "true")) (bytes_eq bytes (codes "false")) (bytes_eq bytes (codes "null")) e in
     subst (λ (m : List ℕ). literal (identifier m 0) ≡ Some (enum_value m 0)) p.1 p.0
 
-bracketed : (n d : ℕ) (o c : TokenKind) (P Q : Nested → Type 0) (ws : Nested) (symbols : Symbols) → Bracketed o c d P ws → Within n ws
+pub bracketed_rewritten : (n d : ℕ) (o c : TokenKind) (P Q : Nested → Type 0) (ws : Nested) (symbols : Symbols) → Bracketed o c d P ws → Within n ws
     → ((inner : Nested) → P inner → Within n inner → Rewritten n Q symbols) → Rewritten n (Bracketed o c d Q) (punctuator o ∷ (symbols ++ (punctuator c ∷ [])))
-bracketed n d o c P Q ws symbols is b inside =
+bracketed_rewritten n d o c P Q ws symbols is b inside =
     let h : Within n ((punctuator o, suc d) ∷ (is.0 ++ ((punctuator c, suc d) ∷ []))) = subst (Within n) is.1 b in
     let r = inside is.0 is.2 (within_front n is.0 ((punctuator c, suc d) ∷ []) h.1) in
     record {
@@ -67,8 +67,8 @@ mutual
   value_rewritten n c d (boolean_value v) ws is b = record { front = (identifier (boolean_name v) 0, d) ∷ []; same = refl; within = one_within n d is.0 (identifier (boolean_name v) 0) ws is.1 b; written = (identifier (boolean_name v) 0, refl, boolean_literal v) }
   value_rewritten n c d null_value ws is b = record { front = (identifier (codes "null") 0, d) ∷ []; same = refl; within = one_within n d is.0 (identifier (codes "null") 0) ws is.1 b; written = (identifier (codes "null") 0, refl, refl) }
   value_rewritten n c d (enum_value name at) ws is b = record { front = (identifier name 0, d) ∷ []; same = refl; within = one_within n d is.0 (identifier name 0) ws is.1 b; written = (identifier name 0, refl, enum_literal is.0 name at is.2) }
-  value_rewritten n c d (list_value values) ws is b = bracketed n d OpenBracket CloseBracket (AreValues c (suc d) values) (AreValues c (suc d) (all_placeless values)) ws (values_symbols values) is b (λ inner are w. values_rewritten n c (suc d) values inner are w)
-  value_rewritten n c d (object_value fields) ws is b = bracketed n d OpenBrace CloseBrace (AreFields c (suc d) fields) (AreFields c (suc d) (fields_placeless fields)) ws (fields_symbols fields) is b (λ inner are w. fields_rewritten n c (suc d) fields inner are w)
+  value_rewritten n c d (list_value values) ws is b = bracketed_rewritten n d OpenBracket CloseBracket (AreValues c (suc d) values) (AreValues c (suc d) (all_placeless values)) ws (values_symbols values) is b (λ inner are w. values_rewritten n c (suc d) values inner are w)
+  value_rewritten n c d (object_value fields) ws is b = bracketed_rewritten n d OpenBrace CloseBrace (AreFields c (suc d) fields) (AreFields c (suc d) (fields_placeless fields)) ws (fields_symbols fields) is b (λ inner are w. fields_rewritten n c (suc d) fields inner are w)
 
   values_rewritten : (n : ℕ) (c : Bool) (d : ℕ) (ts : ValueTrees) (ws : Nested) → AreValues c d ts ws → Within n ws → Rewritten n (AreValues c d (all_placeless ts)) (values_symbols ts)
   values_rewritten n c d no_value ws are b = record { front = []; same = refl; within = tt; written = refl }
@@ -100,7 +100,7 @@ nullable_placeless (non_null_type t) is = absurd is
 pub type_rewritten : (n d : ℕ) (t : TypeTree) (ws : Nested) → IsType d t ws → Within n ws → Rewritten n (IsType d (type_placeless t)) (type_symbols t)
 unfolding IsType type_symbols type_placeless
 type_rewritten n d (named_type name at) ws is b = record { front = (identifier name 0, d) ∷ []; same = refl; within = one_within n d (identifier name at) (identifier name 0) ws is b; written = refl }
-type_rewritten n d (list_type t) ws is b = bracketed n d OpenBracket CloseBracket (IsType (suc d) t) (IsType (suc d) (type_placeless t)) ws (type_symbols t) is b (λ inner of w. type_rewritten n (suc d) t inner of w)
+type_rewritten n d (list_type t) ws is b = bracketed_rewritten n d OpenBracket CloseBracket (IsType (suc d) t) (IsType (suc d) (type_placeless t)) ws (type_symbols t) is b (λ inner of w. type_rewritten n (suc d) t inner of w)
 type_rewritten n d (non_null_type t) ws is b =
     let h : Within n (is.1 ++ ((punctuator Bang, d) ∷ [])) = subst (Within n) is.2 b in
     let r = type_rewritten n d t is.1 is.3 (within_front n is.1 ((punctuator Bang, d) ∷ []) h) in

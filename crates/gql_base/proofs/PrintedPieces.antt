@@ -9,7 +9,7 @@ use Rattle.gql_base.specs.declared.token.TokenKind.TheVariants.{Name, Int, Str, 
 use Rattle.gql_base.specs.Pieces.{Lexeme, word, number, string as text_lexeme, mark, mark_bytes, Piece, token, blank, lexeme_bytes, IsLexeme, EndsBefore, Divides, tokens_from}
 use Rattle.gql_base.specs.Tokens.{Lexes}
 use Rattle.gql_base.specs.Symbols.{Symbol, punctuator, identifier, integer, string, Symbols, symbols_from}
-use Rattle.gql_base.specs.Printing.{mark_text, all_escaped, symbol_text, symbol_is_tight, Printed, with_space, put, put_all, printed}
+use Rattle.gql_base.specs.Printing.{all_escaped, symbol_text, symbol_is_tight, Printed, with_space, put, put_all, printed}
 use Rattle.gql_base.specs.PlacelessSymbols.{placeless_symbol}
 use Rattle.gql_base.specs.PrintableSymbols.{IsTextual, IsPrintable}
 use Rattle.gql_base.proofs.EscapedTexts.{utf8_ascii, escaped_sound, escaped_closed, escaped_single, escaped_value, escaped_utf8}
@@ -54,36 +54,16 @@ lexeme_for (identifier bytes at) = word bytes
 lexeme_for (integer value) = number (signed_decimal value)
 lexeme_for (string value) = text_lexeme (all_escaped value)
 
-pub same_mark : (kind : TokenKind) → mark_text kind ≡ mark_bytes kind
-same_mark Bang = refl
-same_mark Dollar = refl
-same_mark Amp = refl
-same_mark OpenParen = refl
-same_mark CloseParen = refl
-same_mark Spread = refl
-same_mark Colon = refl
-same_mark Equals = refl
-same_mark At = refl
-same_mark OpenBracket = refl
-same_mark CloseBracket = refl
-same_mark OpenBrace = refl
-same_mark Pipe = refl
-same_mark CloseBrace = refl
-same_mark Name = refl
-same_mark Int = refl
-same_mark Str = refl
-same_mark BlockStr = refl
-
 lexeme_text : (w : Symbol) → symbol_text w ≡ lexeme_bytes (lexeme_for w)
 unfolding lexeme_for
-lexeme_text (punctuator kind) = same_mark kind
+lexeme_text (punctuator kind) = refl
 lexeme_text (identifier bytes at) = refl
 lexeme_text (integer value) = refl
 lexeme_text (string value) = refl
 
 is_lexeme : (w : Symbol) → IsPrintable w → IsLexeme (lexeme_for w)
 unfolding lexeme_for
-is_lexeme (punctuator kind) is = subst (λ xs. 0 < length xs) (same_mark kind) is.0
+is_lexeme (punctuator kind) is = is.0
 is_lexeme (identifier bytes at) is = is.0
 is_lexeme (integer value) is = printed_integer value is.0
 is_lexeme (string value) is = escaped_sound value is.0 is.1
@@ -150,7 +130,7 @@ same_symbols false (w ∷ ws) at all =
 one_utf8 : (c : ℕ) → c < 128 → IsUtf8 (c ∷ [])
 one_utf8 c low = utf8_ascii c [] low IsUtf8-nil
 
-mark_utf8 : (kind : TokenKind) → IsUtf8 (mark_text kind)
+mark_utf8 : (kind : TokenKind) → IsUtf8 (mark_bytes kind)
 mark_utf8 Bang = one_utf8 33 (omega arith)
 mark_utf8 Dollar = one_utf8 36 (omega arith)
 mark_utf8 Amp = one_utf8 38 (omega arith)

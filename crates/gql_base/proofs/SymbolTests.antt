@@ -89,7 +89,7 @@ same_kind kind other is e =
       | inr h ↦ absurd (subst IsPunctuator (sym one ∙ h) is)
     ]
 
-when_true : (b : Bool) (a : Unit {0}) → when b ≡ Some a → b ≡ true
+pub when_true : (b : Bool) (a : Unit {0}) → when b ≡ Some a → b ≡ true
 when_true true a e = refl
 when_true false a e = cc
 

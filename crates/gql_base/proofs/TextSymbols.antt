@@ -22,7 +22,6 @@ use Rattle.gql_base.proofs.Borders.{after_ascii, after_piece}
 use Rattle.gql_base.proofs.BlockUtf8.{block_text_is_utf8}
 use Rattle.gql_base.proofs.EscapedTexts.{utf8_ascii, all_from, own_byte}
 use Rattle.gql_base.proofs.DecimalTexts.{integer_fits_128}
-use Rattle.gql_base.proofs.PrintedPieces.{same_mark}
 use Rattle.gql_base.proofs.TokenSymbols.{symbol_at, symbol_in, symbols_in, symbols_are}
 
 -- ---- values of strings
@@ -125,7 +124,7 @@ lexeme_textual (text_lexeme body) text after at is cut utf8 =
     string_value_utf8 body (body_utf8 text (34 ∷ []) body after (cut ∙ ap (λ xs. 34 ∷ xs) (append_assoc body (34 ∷ []) after)) (omega arith) (omega arith, omega arith) utf8)
 lexeme_textual (block body) text after at is cut utf8 =
     block_text_is_utf8 body (body_utf8 text (34 ∷ 34 ∷ 34 ∷ []) body after (cut ∙ ap (λ xs. 34 ∷ 34 ∷ 34 ∷ xs) (append_assoc body (34 ∷ 34 ∷ 34 ∷ []) after)) (omega arith) (omega arith, omega arith) utf8)
-lexeme_textual (mark kind) text after at is cut utf8 = subst (λ xs. 0 < length xs) (sym (same_mark kind)) is
+lexeme_textual (mark kind) text after at is cut utf8 = is
 
 pieces_textual : (ps : List Piece) (text : List ℕ) (at : ℕ) → IsUtf8 text → Divides ps text [] → All IsTextual (symbols_in at ps)
 unfolding Divides symbols_in symbol_in

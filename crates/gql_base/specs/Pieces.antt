@@ -1,5 +1,5 @@
 -- How a text is divided into tokens and what is ignored between them (GraphQL October 2021, 2.1).
-use Rattle.std.specs.Prelude.{◌≡◌, ℕ, ◌+◌, ◌^◌, ◌<◌, ◌≤◌, Bool, true, false, List, [], ◌∷◌, ◌++◌, length, IsTrue, None, Some}
+use Rattle.std.specs.Prelude.{◌≡◌, ℕ, ◌+◌, ◌^◌, ◌<◌, ◌≤◌, Bool, true, false, List, [], ◌∷◌, ◌++◌, length, IsTrue, None, Some, codes}
 use Rattle.std.specs.List.{AllPass}
 use Rattle.std.specs.Str.Parse.{digits_value}
 use Rattle.gql_base.specs.declared.token.Token.{Token}
@@ -28,24 +28,24 @@ pub data Piece : Type 0 where
 
 -- the bytes of a punctuator; a kind without bytes is none
 abbrev pub mark_bytes : TokenKind → List ℕ
-mark_bytes Bang = 33 ∷ []
-mark_bytes OpenParen = 40 ∷ []
-mark_bytes CloseParen = 41 ∷ []
-mark_bytes Colon = 58 ∷ []
-mark_bytes At = 64 ∷ []
-mark_bytes OpenBracket = 91 ∷ []
-mark_bytes CloseBracket = 93 ∷ []
-mark_bytes OpenBrace = 123 ∷ []
-mark_bytes CloseBrace = 125 ∷ []
 mark_bytes Name = []
 mark_bytes Int = []
 mark_bytes Str = []
 mark_bytes BlockStr = []
-mark_bytes Dollar = 36 ∷ []
-mark_bytes Amp = 38 ∷ []
-mark_bytes Spread = 46 ∷ 46 ∷ 46 ∷ []
-mark_bytes Equals = 61 ∷ []
-mark_bytes Pipe = 124 ∷ []
+mark_bytes Bang = codes "!"
+mark_bytes Dollar = codes "$"
+mark_bytes Amp = codes "&"
+mark_bytes OpenParen = codes "("
+mark_bytes CloseParen = codes ")"
+mark_bytes Spread = codes "..."
+mark_bytes Colon = codes ":"
+mark_bytes Equals = codes "="
+mark_bytes At = codes "@"
+mark_bytes OpenBracket = codes "["
+mark_bytes CloseBracket = codes "]"
+mark_bytes OpenBrace = codes "{"
+mark_bytes Pipe = codes "|"
+mark_bytes CloseBrace = codes "}"
 
 abbrev pub lexeme_bytes : Lexeme → List ℕ
 lexeme_bytes (word bytes) = bytes

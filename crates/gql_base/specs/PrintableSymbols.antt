@@ -3,14 +3,13 @@ use Rattle.std.specs.Prelude.{ℕ, ◌<◌, Bool, ◌==◌, ◌||◌, length, Is
 use Rattle.std.specs.List.{AllPass}
 use Rattle.std.specs.Int.{w128}
 use Rattle.gql_base.specs.Characters.{is_block_byte}
-use Rattle.gql_base.specs.Pieces.{IsName}
+use Rattle.gql_base.specs.Pieces.{IsName, mark_bytes}
 use Rattle.gql_base.specs.Symbols.{Symbol, punctuator, identifier, integer, string}
-use Rattle.gql_base.specs.Printing.{mark_text}
 
 -- What the symbols of every UTF-8 text are: punctuators that have a text, names, integers of 128 bits, and strings
 -- in UTF-8.
 abbrev pub IsTextual : Symbol → Type 0
-IsTextual (punctuator kind) = 0 < length (mark_text kind)
+IsTextual (punctuator kind) = 0 < length (mark_bytes kind)
 IsTextual (identifier bytes at) = IsName bytes
 IsTextual (integer value) = FitsSigned w128 value
 IsTextual (string value) = IsUtf8 value

@@ -1,30 +1,12 @@
 -- The one form in which symbols are printed: one space between two of them, but none after `$` and `@`.
-use Rattle.std.specs.Prelude.{ℕ, ◌==◌, not, ◌||◌, Bool, false, List, [], ◌∷◌, ◌++◌, codes, if◌then◌else◌}
+use Rattle.std.specs.Prelude.{ℕ, ◌==◌, not, ◌||◌, Bool, false, List, [], ◌∷◌, ◌++◌, if◌then◌else◌}
 use Rattle.std.specs.List.{flat_map}
 use Rattle.std.specs.Char.{encode_utf8}
 use Rattle.std.specs.Str.{chars}
 use Rattle.std.specs.Fmt.{signed_decimal}
 use Rattle.gql_base.specs.declared.token.TokenKind.{TokenKind}
-use Rattle.gql_base.specs.declared.token.TokenKind.TheVariants.{Bang, Dollar, Amp, OpenParen, CloseParen, Spread, Colon, Equals, At, OpenBracket, CloseBracket, OpenBrace, Pipe, CloseBrace}
+use Rattle.gql_base.specs.Pieces.{mark_bytes}
 use Rattle.gql_base.specs.Symbols.{Symbol, punctuator, identifier, integer, string, Symbols, kind_number}
-
--- the text of a punctuator
-abbrev pub mark_text : TokenKind → List ℕ
-mark_text Bang = codes "!"
-mark_text Dollar = codes "$"
-mark_text Amp = codes "&"
-mark_text OpenParen = codes "("
-mark_text CloseParen = codes ")"
-mark_text Spread = codes "..."
-mark_text Colon = codes ":"
-mark_text Equals = codes "="
-mark_text At = codes "@"
-mark_text OpenBracket = codes "["
-mark_text CloseBracket = codes "]"
-mark_text OpenBrace = codes "{"
-mark_text Pipe = codes "|"
-mark_text CloseBrace = codes "}"
-mark_text kind = []
 
 -- a character in a string, with its escape if it has one here: `"`, `\`, a line feed, a carriage return, a tab, a
 -- backspace and a form feed
@@ -45,7 +27,7 @@ all_escaped text = flat_map escaped (chars text)
 
 -- the text of a symbol
 abbrev pub symbol_text : Symbol → List ℕ
-symbol_text (punctuator kind) = mark_text kind
+symbol_text (punctuator kind) = mark_bytes kind
 symbol_text (identifier bytes at) = bytes
 symbol_text (integer value) = signed_decimal value
 symbol_text (string value) = (34 ∷ []) ++ (all_escaped value ++ (34 ∷ []))

@@ -1,8 +1,9 @@
 //! Printing of symbols in their one form: one space between two of them, but none after `$` and `@`.
 
 ghost use Rattle.std.specs.Prelude.{◌≡◌, ◌++◌, ◌∷◌, [], ℕ, IfOk, OnOk, IsUtf8, string_bytes, false};
+ghost use Rattle.gql_base.specs.Pieces.{mark_bytes};
 ghost use Rattle.gql_base.specs.Symbols.{punctuator, integer, string, identifier};
-ghost use Rattle.gql_base.specs.Printing.{mark_text, escaped, all_escaped, is_tight, put, put_text, with_space};
+ghost use Rattle.gql_base.specs.Printing.{escaped, all_escaped, is_tight, put, put_text, with_space};
 ghost use Rattle.gql_base.specs.Printers.{printed_by};
 
 use crate::text::Text;
@@ -18,7 +19,7 @@ pub struct Printer {
 
 /// The text of a punctuator.
 fn mark_text(kind: TokenKind) -> &'static str
-    ensures { result.now ≡ mark_text kind }
+    ensures { result.now ≡ mark_bytes kind }
 {
     match kind {
         TokenKind::Bang => "!",
