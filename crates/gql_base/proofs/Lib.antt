@@ -29,6 +29,9 @@ pub mod AlikeLaws
 pub mod AlikeTrees
 pub mod PrintedSymbols
 pub mod OneTree
+pub mod CountedLevels
+pub mod FirstPlace
+pub mod OneFault
 pub mod EscapedTexts
 pub mod DecimalTexts
 pub mod TokenSymbols

@@ -1,0 +1,38 @@
+-- The first fault from a token on tells the same offset, however it is found.
+use Rattle.std.proofs.Common.{ℕ, ◌≡◌, inl, inr, List, [], ◌∷◌, length, refl, sym, ap, ◌∙◌, arith}
+use Rattle.std.specs.Prelude.{drop}
+use Rattle.std.proofs.lemmas.Bool.{cases_lt}
+use Rattle.std.proofs.lemmas.List.{length-drop, length-map}
+use Rattle.gql_base.specs.declared.token.Token.{Token}
+use Rattle.gql_base.specs.declared.readers.ValueFault.{ValueFault}
+use Rattle.gql_base.specs.declared.readers.ValueFault.TheVariants.{Unexpected, TooDeep, Memory}
+use Rattle.gql_base.specs.Symbols.{symbol_of, symbols_from}
+use Rattle.gql_base.specs.Grammar.{Nested}
+use Rattle.gql_base.specs.Answers.{level_limit, IsFault}
+use Rattle.gql_base.specs.Sources.{offset_of, first_offset}
+use Rattle.gql_base.proofs.CountedLevels.{Counted}
+use Rattle.gql_base.proofs.FirstPlace.{one_unexpected, unexpected_or_too_deep, one_too_deep}
+
+none_of_length : (ts : List Token) → length ts ≡ 0 → ts ≡ []
+none_of_length [] e = refl
+none_of_length (t ∷ ts) e = absurd (omega (arith, e))
+
+same_drop : (ts : List Token) (p q : ℕ) → length (drop p ts) ≡ length (drop q ts) → drop p ts ≡ drop q ts
+same_drop ts p q e = elim (cases_lt p (length ts)) [
+  | inl h ↦ let is : p ≡ q = omega (arith, e, h, length-drop p ts, length-drop q ts) in ap (λ (k : ℕ). drop k ts) is
+  | inr h ↦ none_of_length (drop p ts) (omega (arith, h, length-drop p ts)) ∙ sym (none_of_length (drop q ts) (omega (arith, e, h, length-drop p ts)))
+]
+
+-- where the same symbols are left, the same offset comes next
+pub same_offset : (text : List ℕ) (tokens : List Token) (p q : ℕ) → symbols_from text tokens p ≡ symbols_from text tokens q → offset_of text tokens p ≡ offset_of text tokens q
+unfolding symbols_from
+same_offset text tokens p q e = ap (first_offset (length text)) (same_drop tokens p q (sym (length-map (drop p tokens) (symbol_of text)) ∙ (ap length e ∙ length-map (drop q tokens) (symbol_of text))))
+
+pub one_fault : {A : Type 0} {S : A → Nested → Type 0} {d : ℕ} → Counted S d → (text : List ℕ) (tokens : List Token) (from : ℕ) (fault other : ValueFault) → IsFault S text tokens from fault → IsFault S text tokens from other → (fault ≡ Memory → ⊥) → (other ≡ Memory → ⊥) → fault ≡ other
+one_fault s text tokens from (Unexpected at) (Unexpected place) is it a b = ap Unexpected (is.1 ∙ (same_offset text tokens is.0 it.0 (one_unexpected level_limit _ _ _ is.2 it.2) ∙ sym it.1))
+one_fault s text tokens from (Unexpected at) (TooDeep place) is it a b = absurd (unexpected_or_too_deep s level_limit _ _ _ is.2 it.2)
+one_fault s text tokens from (TooDeep at) (Unexpected place) is it a b = absurd (unexpected_or_too_deep s level_limit _ _ _ it.2 is.2)
+one_fault s text tokens from (TooDeep at) (TooDeep place) is it a b = ap TooDeep (is.1 ∙ (same_offset text tokens is.0 it.0 (one_too_deep s level_limit _ _ _ is.2 it.2) ∙ sym it.1))
+one_fault s text tokens from (Unexpected at) Memory is it a b = absurd (b refl)
+one_fault s text tokens from (TooDeep at) Memory is it a b = absurd (b refl)
+one_fault s text tokens from Memory other is it a b = absurd (a refl)
