@@ -7,6 +7,7 @@ pub mod FrontPieces
 pub mod FrontFaults
 pub mod Divisions
 pub mod OneDivision
+pub mod TextFaults
 pub mod Places
 pub mod ReadingLaws
 pub mod RepeatingLaws

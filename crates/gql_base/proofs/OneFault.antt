@@ -1,12 +1,12 @@
 -- The first fault from a token on tells the same offset, however it is found.
-use Rattle.std.proofs.Common.{ℕ, ◌≡◌, inl, inr, List, [], ◌∷◌, length, refl, sym, ap, ◌∙◌, arith}
+use Rattle.std.proofs.Common.{ℕ, ◌+◌, ◌≡◌, inl, inr, List, [], ◌∷◌, ◌++◌, length, map, refl, sym, ap, ◌∙◌, arith}
 use Rattle.std.specs.Prelude.{drop}
 use Rattle.std.proofs.lemmas.Bool.{cases_lt}
-use Rattle.std.proofs.lemmas.List.{length-drop, length-map}
+use Rattle.std.proofs.lemmas.List.{length-drop, length-map, drop-drop}
 use Rattle.gql_base.specs.declared.token.Token.{Token}
 use Rattle.gql_base.specs.declared.readers.ValueFault.{ValueFault}
 use Rattle.gql_base.specs.declared.readers.ValueFault.TheVariants.{Unexpected, TooDeep, Memory}
-use Rattle.gql_base.specs.Symbols.{symbol_of, symbols_from}
+use Rattle.gql_base.specs.Symbols.{Symbol, Symbols, symbol_of, symbols_from}
 use Rattle.gql_base.specs.Grammar.{Nested}
 use Rattle.gql_base.specs.Answers.{level_limit, IsFault}
 use Rattle.gql_base.specs.Sources.{offset_of, first_offset}
@@ -27,6 +27,22 @@ same_drop ts p q e = elim (cases_lt p (length ts)) [
 pub same_offset : (text : List ℕ) (tokens : List Token) (p q : ℕ) → symbols_from text tokens p ≡ symbols_from text tokens q → offset_of text tokens p ≡ offset_of text tokens q
 unfolding symbols_from
 same_offset text tokens p q e = ap (first_offset (length text)) (same_drop tokens p q (sym (length-map (drop p tokens) (symbol_of text)) ∙ (ap length e ∙ length-map (drop q tokens) (symbol_of text))))
+
+-- the symbols after some of those from a token on are those from another token on
+
+after_some : (text : List ℕ) (ts : List Token) (xs rest : Symbols) → map (symbol_of text) ts ≡ xs ++ rest → map (symbol_of text) (drop (length xs) ts) ≡ rest
+after_some text ts [] rest e = e
+after_some text [] (x ∷ xs) rest e = cc
+after_some text (t ∷ ts) (x ∷ xs) rest e = after_some text ts xs rest (same_tail (symbol_of text t) x (map (symbol_of text) ts) (xs ++ rest) e)
+  where
+    same_tail : (w v : Symbol) (ws vs : Symbols) → w ∷ ws ≡ v ∷ vs → ws ≡ vs
+    same_tail w v ws vs e = cc
+
+pub rest_from : (text : List ℕ) (tokens : List Token) (from : ℕ) (xs rest : Symbols) → symbols_from text tokens from ≡ xs ++ rest → symbols_from text tokens (from + length xs) ≡ rest
+unfolding symbols_from
+rest_from text tokens from xs rest e = ap (map (symbol_of text)) (sym (drop-drop (length xs) from tokens)) ∙ after_some text (drop from tokens) xs rest e
+
+-- one fault
 
 pub one_fault : {A : Type 0} {S : A → Nested → Type 0} {d : ℕ} → Counted S d → (text : List ℕ) (tokens : List Token) (from : ℕ) (fault other : ValueFault) → IsFault S text tokens from fault → IsFault S text tokens from other → (fault ≡ Memory → ⊥) → (other ≡ Memory → ⊥) → fault ≡ other
 one_fault s text tokens from (Unexpected at) (Unexpected place) is it a b = ap Unexpected (is.1 ∙ (same_offset text tokens is.0 it.0 (one_unexpected level_limit _ _ _ is.2 it.2) ∙ sym it.1))
