@@ -7,7 +7,7 @@ use Rattle.gql_base.specs.Reading.{exact, second}
 use Rattle.gql_base.specs.Grammar.{Nested, Single, Pair, Image, Optional, OneOrMore}
 use Rattle.gql_base.specs.Values.{named_value_of}
 use Rattle.gql_base.proofs.CountedLevels.{Counts, Counted, TakesFlat, joined_counts, single_counted, mark_counted, name_counted, pair_counted, image_counted, choice_counted, optional_counted, repeated_counted, one_or_more_counted, bracketed_counts, value_counted, type_counted}
-use Rattle.document_reader.specs.Documents.{SelectionTree, field_selection, fragment_spread, inline_fragment, SelectionTrees, no_selection, selection_then, keyword, kind_word, fragment_name, inside, some_second, IsArgument, AreArguments, IsDirective, AreDirectives, AreFieldNames, IsFieldHead, IsTypeCondition, IsSpreadEnd, IsInlineHead, IsSelection, IsSelectionSet, AreSelections, IsDefault, variable_of, IsVariable, AreVariables, IsOperationHead, bare_operation, operation_of, head_of_fragment, IsFragmentHead, fragment_of, IsDefinition, IsDocument}
+use Rattle.document_reader.specs.Documents.{SelectionTree, field_selection, fragment_spread, inline_fragment, SelectionTrees, no_selection, selection_then, keyword, kind_word, fragment_name, inside, some_second, IsArgument, AreArguments, AreDirectives, AreFieldNames, IsFieldHead, IsTypeCondition, IsSpreadEnd, IsInlineHead, IsSelection, IsSelectionSet, AreSelections, IsDefault, variable_of, IsVariable, IsOperationHead, bare_operation, operation_of, head_of_fragment, IsFragmentHead, fragment_of, IsDefinition, IsDocument}
 
 -- words
 

@@ -1,5 +1,5 @@
 -- The first fault from a token on tells the same offset, however it is found.
-use Rattle.std.proofs.Common.{ℕ, ◌+◌, ◌≡◌, inl, inr, List, [], ◌∷◌, ◌++◌, length, map, refl, sym, ap, ◌∙◌, arith}
+use Rattle.std.proofs.Common.{ℕ, ◌+◌, ◌≡◌, inl, inr, List, [], ◌∷◌, ◌++◌, length, map, refl, sym, ap, ◌∙◌, subst, arith}
 use Rattle.std.specs.Prelude.{drop}
 use Rattle.std.proofs.lemmas.Bool.{cases_lt}
 use Rattle.std.proofs.lemmas.List.{length-drop, length-map, drop-drop}
@@ -7,7 +7,8 @@ use Rattle.gql_base.specs.declared.token.Token.{Token}
 use Rattle.gql_base.specs.declared.readers.ValueFault.{ValueFault}
 use Rattle.gql_base.specs.declared.readers.ValueFault.TheVariants.{Unexpected, TooDeep, Memory}
 use Rattle.gql_base.specs.Symbols.{Symbol, Symbols, symbol_of, symbols_from}
-use Rattle.gql_base.specs.Grammar.{Nested}
+use Rattle.gql_base.specs.Grammar.{Nested, plain}
+use Rattle.gql_base.specs.FirstFaults.{IsUnexpected, IsTooDeep}
 use Rattle.gql_base.specs.Answers.{level_limit, IsFault}
 use Rattle.gql_base.specs.Sources.{offset_of, first_offset}
 use Rattle.gql_base.proofs.CountedLevels.{Counted}
@@ -38,9 +39,17 @@ after_some text (t ∷ ts) (x ∷ xs) rest e = after_some text ts xs rest (same_
     same_tail : (w v : Symbol) (ws vs : Symbols) → w ∷ ws ≡ v ∷ vs → ws ≡ vs
     same_tail w v ws vs e = cc
 
-pub rest_from : (text : List ℕ) (tokens : List Token) (from : ℕ) (xs rest : Symbols) → symbols_from text tokens from ≡ xs ++ rest → symbols_from text tokens (from + length xs) ≡ rest
+rest_from : (text : List ℕ) (tokens : List Token) (from : ℕ) (xs rest : Symbols) → symbols_from text tokens from ≡ xs ++ rest → symbols_from text tokens (from + length xs) ≡ rest
 unfolding symbols_from
 rest_from text tokens from xs rest e = ap (map (symbol_of text)) (sym (drop-drop (length xs) from tokens)) ∙ after_some text (drop from tokens) xs rest e
+
+-- Where reading from a token on stops, there is a token or the end.
+
+pub unexpected_place : {A : Type 0} {S : A → Nested → Type 0} (n : ℕ) (text : List ℕ) (tokens : List Token) (from : ℕ) (rest : Symbols) → IsUnexpected S n (symbols_from text tokens from) rest → (place : ℕ) × IsUnexpected S n (symbols_from text tokens from) (symbols_from text tokens place)
+unexpected_place {S = S} n text tokens from rest u = (from + length (plain u.front), subst (IsUnexpected S n (symbols_from text tokens from)) (sym (rest_from text tokens from (plain u.front) rest u.cut)) u)
+
+pub too_deep_place : {A : Type 0} {S : A → Nested → Type 0} (n : ℕ) (text : List ℕ) (tokens : List Token) (from : ℕ) (rest : Symbols) → IsTooDeep S n (symbols_from text tokens from) rest → (place : ℕ) × IsTooDeep S n (symbols_from text tokens from) (symbols_from text tokens place)
+too_deep_place {S = S} n text tokens from rest t = (from + length (plain t.front), subst (IsTooDeep S n (symbols_from text tokens from)) (sym (rest_from text tokens from (plain t.front) rest t.cut)) t)
 
 -- one fault
 
