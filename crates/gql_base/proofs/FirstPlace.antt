@@ -4,13 +4,12 @@ use Rattle.gql_base.specs.Symbols.{Symbol, Symbols, kind_of}
 use Rattle.gql_base.specs.Grammar.{Nested, plain, Within}
 use Rattle.gql_base.specs.FirstFaults.{NoneGoesOn, IsUnexpected, IsTooDeep, IsWritten}
 use Rattle.gql_base.proofs.ReadingLaws.{plain_append, within_front, within_back}
+use Rattle.gql_base.proofs.AlikeSymbols.{first_same}
 use Rattle.gql_base.proofs.CountedLevels.{nesting, levels_after, nested, Counted}
 
 -- two cuts of the same symbols
 
-same_head : (w v : Symbol) (ws vs : Symbols) → w ∷ ws ≡ v ∷ vs → (w ≡ v) × (ws ≡ vs)
-same_head w v ws vs e = (cc, cc)
-
+-- g is f and the first symbols of the rest, and leaves the other ones
 abbrev Further : Symbols → Symbols → Symbols → Symbols → Type 0
 Further f rest g other = (m : Symbols) × (g ≡ f ++ m) × (rest ≡ m ++ other)
 
@@ -18,7 +17,7 @@ two_cuts : (f rest g other : Symbols) → f ++ rest ≡ g ++ other → Further f
 two_cuts [] rest g other e = inl (g, refl, e)
 two_cuts (w ∷ f) rest [] other e = inr (w ∷ f, refl, sym e)
 two_cuts (w ∷ f) rest (v ∷ g) other e =
-    let h = same_head w v (f ++ rest) (g ++ other) e in
+    let h = first_same w v (f ++ rest) (g ++ other) e in
     elim (two_cuts f rest g other h.1) [
       | inl m ↦ inl (m.0, cc (h.0, m.1), m.2)
       | inr m ↦ inr (m.0, cc (h.0, m.1), m.2)
@@ -26,15 +25,12 @@ two_cuts (w ∷ f) rest (v ∷ g) other e =
 
 -- counting
 
-same_front : (w v : Symbol × ℕ) (ws vs : Nested) → w ∷ ws ≡ v ∷ vs → (w ≡ v) × (ws ≡ vs)
-same_front w v ws vs e = (cc, cc)
-
 -- what is counted of more symbols is counted of the first ones
 front_counted : (d : ℕ) (f more : Nested) → nested d (plain (f ++ more)) ≡ f ++ more → nested d (plain f) ≡ f
 unfolding nested
 front_counted d [] more e = refl
 front_counted d (w ∷ f) more e =
-    let h = same_front (w.0, nesting d (kind_of w.0)) w (nested (levels_after d (kind_of w.0)) (plain (f ++ more))) (f ++ more) e in
+    let h = first_same (w.0, nesting d (kind_of w.0)) w (nested (levels_after d (kind_of w.0)) (plain (f ++ more))) (f ++ more) e in
     let t = front_counted (levels_after d (kind_of w.0)) f more h.1 in
     cc (h.0, t)
 
@@ -115,7 +111,7 @@ unexpected_or_too_deep {S = S} s n ws rest other u t =
 reaches : {A : Type 0} {S : A → Nested → Type 0} {d : ℕ} → Counted S d → (n : ℕ) (ws rest : Symbols) (t : IsTooDeep S n ws rest) (a : A) (f more : Nested) (m left : Symbols) → S a (f ++ more) → Within n f → plain f ≡ plain t.front ++ m → rest ≡ m ++ left → rest ≡ left
 reaches s n ws rest t a f more [] left is within e h = h
 reaches s n ws rest t a f more (v ∷ m) left is within e h =
-    let same = same_head t.opens.0 v t.opens.1 (m ++ left) (sym t.opens.4 ∙ h) in
+    let same = first_same t.opens.0 v t.opens.1 (m ++ left) (sym t.opens.4 ∙ h) in
     absurd (never_deeper s n a t.opens.2 f more t.front t.opens.3 t.opens.0 m is within t.opens.5 (e ∙ ap (λ (l : Symbol). plain t.front ++ (l ∷ m)) (sym same.0)))
 
 pub one_too_deep : {A : Type 0} {S : A → Nested → Type 0} {d : ℕ} → Counted S d → (n : ℕ) (ws rest other : Symbols) → IsTooDeep S n ws rest → IsTooDeep S n ws other → rest ≡ other

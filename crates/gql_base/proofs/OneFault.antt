@@ -6,11 +6,12 @@ use Rattle.std.proofs.lemmas.List.{length-drop, length-map, drop-drop}
 use Rattle.gql_base.specs.declared.token.Token.{Token}
 use Rattle.gql_base.specs.declared.readers.ValueFault.{ValueFault}
 use Rattle.gql_base.specs.declared.readers.ValueFault.TheVariants.{Unexpected, TooDeep, Memory}
-use Rattle.gql_base.specs.Symbols.{Symbol, Symbols, symbol_of, symbols_from}
+use Rattle.gql_base.specs.Symbols.{Symbols, symbol_of, symbols_from}
 use Rattle.gql_base.specs.Grammar.{Nested, plain}
 use Rattle.gql_base.specs.FirstFaults.{IsUnexpected, IsTooDeep}
 use Rattle.gql_base.specs.Answers.{level_limit, IsFault}
 use Rattle.gql_base.specs.Sources.{offset_of, first_offset}
+use Rattle.gql_base.proofs.AlikeSymbols.{first_same}
 use Rattle.gql_base.proofs.CountedLevels.{Counted}
 use Rattle.gql_base.proofs.FirstPlace.{one_unexpected, unexpected_or_too_deep, one_too_deep}
 
@@ -34,10 +35,7 @@ same_offset text tokens p q e = ap (first_offset (length text)) (same_drop token
 after_some : (text : List ℕ) (ts : List Token) (xs rest : Symbols) → map (symbol_of text) ts ≡ xs ++ rest → map (symbol_of text) (drop (length xs) ts) ≡ rest
 after_some text ts [] rest e = e
 after_some text [] (x ∷ xs) rest e = cc
-after_some text (t ∷ ts) (x ∷ xs) rest e = after_some text ts xs rest (same_tail (symbol_of text t) x (map (symbol_of text) ts) (xs ++ rest) e)
-  where
-    same_tail : (w v : Symbol) (ws vs : Symbols) → w ∷ ws ≡ v ∷ vs → ws ≡ vs
-    same_tail w v ws vs e = cc
+after_some text (t ∷ ts) (x ∷ xs) rest e = after_some text ts xs rest (first_same (symbol_of text t) x (map (symbol_of text) ts) (xs ++ rest) e).1
 
 rest_from : (text : List ℕ) (tokens : List Token) (from : ℕ) (xs rest : Symbols) → symbols_from text tokens from ≡ xs ++ rest → symbols_from text tokens (from + length xs) ≡ rest
 unfolding symbols_from
