@@ -14,3 +14,5 @@ pub mod BareWays
 pub mod BareDocuments
 pub mod ReadingBackLaws
 pub mod OneDocument
+pub mod CountedDocuments
+pub mod OneDocumentFault

@@ -64,3 +64,11 @@ abbrev pub IsLexicalFault : LexFault → DocFault → Type 0
 IsLexicalFault fault (Lex other) = (other ≡ fault) × (fault ≡ lexical.Memory → ⊥)
 IsLexicalFault fault Memory = fault ≡ lexical.Memory
 IsLexicalFault fault other = ⊥
+
+-- The text is a document with these trees, however much memory there is for it.
+abbrev pub HasDocument : List ℕ → List DefinitionTree → Type 0
+HasDocument text trees = (tokens : List Token) × Lexes text tokens × IsWritten IsDocument level_limit (symbols_from text tokens 0) trees []
+
+-- The text has this fault; want of memory is none of its own.
+abbrev pub HasDocumentFault : List ℕ → DocFault → Type 0
+HasDocumentFault text fault = IsDocumentFault text fault × (fault ≡ Memory → ⊥)

@@ -4,6 +4,7 @@
 mod arguments;
 mod definitions;
 mod document;
+mod fault_laws;
 mod picking;
 mod printing;
 mod printing_laws;
@@ -17,6 +18,7 @@ mod tree_laws;
 mod trees;
 
 pub use document::{DocFault, read_document};
+pub use fault_laws::a_text_is_a_document_or_has_one_fault;
 pub use picking::{PickFault, pick};
 pub use printing::print_document;
 pub use printing_laws::what_is_printed_is_written_as_the_same_document;

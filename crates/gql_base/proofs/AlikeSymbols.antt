@@ -70,7 +70,7 @@ within_alike n [] (v ∷ vs) a b = absurd a
 within_alike n (w ∷ ws) [] a b = absurd a
 within_alike n (w ∷ ws) (v ∷ vs) a b = (subst (λ (d : ℕ). d ≤ n) a.1 b.0, within_alike n ws vs a.2 b.1)
 
-first_same : (x y : Symbol) (xs ys : Symbols) → x ∷ xs ≡ y ∷ ys → (x ≡ y) × (xs ≡ ys)
+pub first_same : {A : Type 0} (x y : A) (xs ys : List A) → x ∷ xs ≡ y ∷ ys → (x ≡ y) × (xs ≡ ys)
 first_same x y xs ys e = (cc, cc)
 
 -- symbols that are the same but for the offsets of names have the same nestings

@@ -7,6 +7,7 @@ pub mod FrontPieces
 pub mod FrontFaults
 pub mod Divisions
 pub mod OneDivision
+pub mod TextFaults
 pub mod Places
 pub mod ReadingLaws
 pub mod RepeatingLaws
@@ -29,6 +30,9 @@ pub mod AlikeLaws
 pub mod AlikeTrees
 pub mod PrintedSymbols
 pub mod OneTree
+pub mod CountedLevels
+pub mod FirstPlace
+pub mod OneFault
 pub mod EscapedTexts
 pub mod DecimalTexts
 pub mod TokenSymbols

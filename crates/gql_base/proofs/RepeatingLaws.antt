@@ -61,6 +61,37 @@ no_other test r p ws t = one_step test r p ws ∙ chose_second test (image liste
 pub another : {A : Type 0} (test : Test) (r : Reader A) → Repeats test r → (ws : Symbols) → test (next ws) ≡ true → repeated test r ws ≡ image listed (pair r (repeated test r)) ws
 another test r p ws t = one_step test r p ws ∙ chose_first test (image listed (pair r (repeated test r))) (empty []) ws t
 
+-- Reading things one after the other ends where the test fails.
+
+fails_after : {A : Type 0} (test : Test) (x y : List A × Symbols) → x ≡ y → test (next x.1) ≡ false → test (next y.1) ≡ false
+fails_after test x y e is = subst (λ z. test (next z.1) ≡ false) e is
+
+others_ok : {A : Type 0} (r : Reader A) (m : Reader (List A)) (ws : Symbols) (x : List A × Symbols) → image listed (pair r m) ws ≡ Ok x → (y : A × Symbols) × (z : List A × Symbols) × (r ws ≡ Ok y) × (m y.1 ≡ Ok z) × ((y.0 ∷ z.0, z.1) ≡ x)
+others_ok r m ws x e =
+    let two = then_ok (pair r m ws) _ x e in
+    let first = then_ok (r ws) _ two.0 two.1 in
+    let others = then_ok (m first.0.1) _ two.0 first.2 in
+    (first.0, others.0, first.1, others.1, ok_same (first.0.0 ∷ others.0.0, others.0.1) x (ap (λ p. Ok (listed p.0, p.1)) (ok_same ((first.0.0, others.0.0), others.0.1) two.0 others.2) ∙ two.2))
+
+up_to_ends : {A : Type 0} (test : Test) (r : Reader A) → Repeats test r → (k : ℕ) (ws : Symbols) (x : List A × Symbols) → length ws ≤ k → repeat_up_to k test r ws ≡ Ok x → test (next x.1) ≡ false
+unfolding repeat_up_to
+up_to_ends test r p zero [] x le e = fails_after test ([], []) x (ok_same ([], []) x e) p.at_end
+up_to_ends test r p zero (w ∷ ws) x le e = absurd (omega arith)
+up_to_ends {A = A} test r p (suc k) ws x le e = elim (cases_Bool (test (next ws))) [
+  | inl t ↦ let o = others_ok r others ws x (sym (chose_first test (image listed (pair r others)) (empty []) ws t) ∙ e) in
+      fails_after test (o.0.0 ∷ o.1.0, o.1.1) x o.4 (up_to_ends test r p k o.0.1 o.1 (omega (arith, le, p.less ws o.0 o.2)) o.3)
+  | inr t ↦ fails_after test ([], ws) x (ok_same ([], ws) x (sym (chose_second test (image listed (pair r others)) (empty []) ws t) ∙ e)) t
+]
+  where
+    others : Reader (List A)
+    others = repeat_up_to k test r
+
+pub one_or_more_ends : {A : Type 0} (test : Test) (r : Reader A) → Repeats test r → (ws : Symbols) (x : List A × Symbols) → one_or_more test r ws ≡ Ok x → test (next x.1) ≡ false
+unfolding repeated
+one_or_more_ends test r p ws x e =
+    let o = others_ok r (repeated test r) ws x e in
+    fails_after test (o.0.0 ∷ o.1.0, o.1.1) x o.4 (up_to_ends test r p (length o.0.1) o.0.1 o.1 (omega arith) o.3)
+
 -- the law of things one after the other
 
 abbrev Step : {A : Type 0} → (A → Nested → Type 0) → List A → Nested → Type 0

@@ -4,6 +4,7 @@ ghost use Rattle.std.specs.Prelude.{◌≡◌, ◌⊎◌, ℕ, ◌<◌, ◌≤�
 ghost use Rattle.gql_base.specs.declared.token.Token.{Token};
 ghost use Rattle.gql_base.specs.Pieces.{Lexeme};
 ghost use Rattle.gql_base.specs.declared.lexing.LexFault.{LexFault};
+ghost use Rattle.gql_base.specs.declared.lexing.LexFault.TheVariants.{Memory};
 ghost use Rattle.gql_base.specs.Faults.{HasFault};
 ghost use Rattle.gql_base.specs.Tokens.{Lexes, HasLexemes, AreInOrder, lexeme_of};
 
@@ -13,11 +14,12 @@ pub fn a_text_lexes_in_one_way()
     ensures lexemes { (text : List ℕ) (lexemes others : List Lexeme) → HasLexemes text lexemes → HasLexemes text others → lexemes ≡ others }
 {}
 
-/// Each text lexes or has a fault, and not both. It has one fault at most, which is its first.
+/// Each text lexes or has a fault, and not both. It has one fault at most, which is its first. Want of memory is none.
 pub fn a_text_lexes_or_has_one_fault()
     ensures either { (text : List ℕ) → ((tokens : List Token) × Lexes text tokens) ⊎ ((fault : LexFault) × HasFault text fault) }
     ensures not_both { (text : List ℕ) (tokens : List Token) (fault : LexFault) → Lexes text tokens → HasFault text fault → ⊥ }
     ensures one_fault { (text : List ℕ) (fault other : LexFault) → HasFault text fault → HasFault text other → fault ≡ other }
+    ensures memory { (text : List ℕ) → HasFault text Memory → ⊥ }
 {}
 
 /// The lexemes of a UTF-8 text are those that its tokens are without their places.

@@ -5,6 +5,7 @@ mod blocks;
 #[cfg(test)]
 mod blocks_tests;
 mod characters;
+mod fault_laws;
 mod laws;
 mod lexing;
 #[cfg(test)]
@@ -35,6 +36,7 @@ mod types;
 mod values;
 
 pub use blocks::block_value;
+pub use fault_laws::a_value_has_one_fault;
 pub use laws::{
     a_text_lexes_in_one_way, a_text_lexes_or_has_one_fault, lexemes_are_tokens_without_places,
     tokens_lie_in_their_text,
