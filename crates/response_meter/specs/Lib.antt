@@ -1,8 +1,6 @@
 pub mod Faults
 pub mod FirstFault
-pub mod Errors
 pub mod Reply
-pub mod Answer
 pub mod Trees
 pub mod FirstForm
 pub mod Walks

@@ -9,7 +9,6 @@ mod metered;
 #[cfg(test)]
 mod tests;
 mod walk;
-mod writing;
 
 pub use fault::{MeterFault, Why};
 pub use meter::first_meter;

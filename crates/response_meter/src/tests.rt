@@ -170,7 +170,7 @@ fn replies_to_friends(rt: HostRuntime) -> Result<(), Fail> {
     for (reply, line) in [
         (
             r#"{"data":{"user":{"friends":[{"id":"1"},{"id":"1"}]}}}"#,
-            r#"4000 2000 {"data":{"user":{"friends":[{"id":"1"},{"id":"1"}]}}}"#,
+            r#"4000000 2000000 {"data":{"user":{"friends":[{"id":"1"},{"id":"1"}]}}}"#,
         ),
         (
             r#"{"data":{"user":{"friends":[{"id":"1"},{"id":"1"},{"id":"1"},{"id":"1"}]}}}"#,
@@ -178,7 +178,7 @@ fn replies_to_friends(rt: HostRuntime) -> Result<(), Fail> {
         ),
         (
             r#"{"data":{"user":null}}"#,
-            r#"1000 1000 {"data":{"user":null}}"#,
+            r#"1000000 1000000 {"data":{"user":null}}"#,
         ),
         (
             r#"{"data":{"user":{"friends":[null]}}}"#,
@@ -228,7 +228,7 @@ fn replies_to_friends(rt: HostRuntime) -> Result<(), Fail> {
         // other top keys, and two of one name, of which the last counts
         (
             r#"{"extensions":{"cost":1},"data":[],"data":{"user":null}}"#,
-            r#"1000 1000 {"data":{"user":null}}"#,
+            r#"1000000 1000000 {"data":{"user":null}}"#,
         ),
         // keys, lists and objects
         (r#"{"data":{}}"#, "data.user MissingKey"),
@@ -239,11 +239,11 @@ fn replies_to_friends(rt: HostRuntime) -> Result<(), Fail> {
         ),
         (
             r#"{"data":{"user":{"friends":null}}}"#,
-            r#"2000 2000 {"data":{"user":{"friends":null}}}"#,
+            r#"2000000 2000000 {"data":{"user":{"friends":null}}}"#,
         ),
         (
             r#"{"data":{"user":{"friends":[]}}}"#,
-            r#"2000 2000 {"data":{"user":{"friends":[]}}}"#,
+            r#"2000000 2000000 {"data":{"user":{"friends":[]}}}"#,
         ),
         (
             r#"{"data":{"user":{"friends":{}}}}"#,
@@ -277,7 +277,7 @@ fn replies_of_scalars(rt: HostRuntime) -> Result<(), Fail> {
         // in plan order, whatever the order of the keys
         (
             r#"{"o":{"s":""},"l":[1,null,-2147483648],"i":7,"b":true,"s":"x","n":2147483647}"#,
-            r#"2000 1000 {"data":{"n":2147483647,"s":"x","b":true,"i":7,"l":[1,null,-2147483648],"o":{"s":""}}}"#,
+            r#"2000000 1000000 {"data":{"n":2147483647,"s":"x","b":true,"i":7,"l":[1,null,-2147483648],"o":{"s":""}}}"#,
         ),
         // strings with every escape
         (
@@ -286,7 +286,7 @@ fn replies_of_scalars(rt: HostRuntime) -> Result<(), Fail> {
         ),
         (
             r#"{"n":0,"s":"\"\\\/\b\f\n\r\t\u0001\u00e9\ud83d\ude00","b":false,"i":"","l":[],"o":null}"#,
-            "1000 1000 {\"data\":{\"n\":0,\"s\":\"\\\"\\\\/\\b\\f\\n\\r\\t\\u0001é😀\",\"b\":false,\"i\":\"\",\"l\":[],\"o\":null}}",
+            "1000000 1000000 {\"data\":{\"n\":0,\"s\":\"\\\"\\\\/\\b\\f\\n\\r\\t\\u0001é😀\",\"b\":false,\"i\":\"\",\"l\":[],\"o\":null}}",
         ),
         // a wrong leaf of each kind, and numbers that are not whole
         (
