@@ -5,3 +5,4 @@ pub mod Trees
 pub mod FirstForm
 pub mod Walks
 pub mod Metered
+pub mod Examples

@@ -2,6 +2,7 @@
 #![tactic(auto)]
 
 mod errors;
+pub mod examples;
 mod fault;
 pub mod laws;
 mod meter;
