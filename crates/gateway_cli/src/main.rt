@@ -1,14 +1,7 @@
 //! The command line tool: it prices GraphQL operations.
 #![tactic(auto)]
 
-mod command;
-mod inputs;
-mod meter;
-mod operation;
-mod price;
-mod report;
-#[cfg(test)]
-mod tests;
+pub use gateway_run::run;
 
 use gql_base::Text;
 use outside::{StdFiles, StdSink};
@@ -24,6 +17,6 @@ fn main(rt: HostRuntime) -> io::Result<ExitCode> {
     let mut files = StdFiles::new(rt.clone()?);
     let mut out = StdSink::new(rt.stdout());
     let mut err = StdSink::new(rt.stderr());
-    let status = command::run(&rt, alloc, &words, &mut files, &mut out, &mut err);
+    let status = run(&rt, alloc, &words, &mut files, &mut out, &mut err);
     Ok(ExitCode::from(status))
 }

@@ -1,0 +1,84 @@
+-- The lines that the commands write.
+use Rattle.std.specs.Prelude.{◌≡◌, ℕ, List, Option, [], ◌∷◌, ◌++◌, codes}
+use Rattle.std.specs.Fmt.{decimal}
+use Rattle.std.specs.Io.KnownBytes.{Appends}
+use Rattle.gql_base.specs.declared.lexing.LexFault.TheVariants as lexical
+use Rattle.document_reader.specs.declared.document.DocFault.{DocFault}
+use Rattle.document_reader.specs.declared.document.DocFault.TheVariants.{Lex, Unexpected, TooDeep, Memory as DocumentMemory}
+use Rattle.response_meter.specs.declared.fault.Why.{Why}
+use Rattle.response_meter.specs.declared.fault.Why.TheVariants.{NotJson, NotObject, NoData, BadErrors, MissingKey, ExtraKey, NullHere, NotList, BadLeaf, BadType, BadObject}
+use Rattle.response_meter.specs.declared.fault.MeterFault.{MeterFault}
+use Rattle.response_meter.specs.declared.fault.MeterFault.TheVariants.{NotResponse, SizeBroken, Memory}
+use Rattle.gateway_run.specs.declared.report.TheConstants.{SIZE_BROKEN, NOT_RESPONSE}
+use Rattle.gateway_run.specs.declared.operation.Refusal.{Refusal}
+use Rattle.gateway_run.specs.declared.operation.Refusal.TheVariants.{SchemaNotBuilt, NoDocument, DocumentNotBuilt, TypesTooCostly, FieldsTooCostly, BothTooCostly}
+
+-- a text and its line end
+abbrev pub line : List ℕ → List ℕ
+line text = text ++ (10 ∷ [])
+
+-- a text, a space, and a place
+abbrev pub placed : List ℕ → ℕ → List ℕ
+placed text at = text ++ (32 ∷ decimal at)
+
+-- a fault of a document with its place, where a fault of its tokens is the fault's field; want of memory has no text
+abbrev pub document_text : DocFault → List ℕ
+document_text (Lex (lexical.BadChar at)) = placed (codes "document 1 Lex 1 BadChar") at
+document_text (Lex (lexical.BadNumber at)) = placed (codes "document 1 Lex 2 BadNumber") at
+document_text (Lex (lexical.OpenText at)) = placed (codes "document 1 Lex 3 OpenText") at
+document_text (Lex (lexical.BadEscape at)) = placed (codes "document 1 Lex 4 BadEscape") at
+document_text (Lex (lexical.FloatValue at)) = placed (codes "document 1 Lex 5 FloatValue") at
+document_text (Lex lexical.Memory) = []
+document_text (Unexpected at) = placed (codes "document 2 Unexpected") at
+document_text (TooDeep at) = placed (codes "document 3 TooDeep") at
+document_text DocumentMemory = []
+
+-- the stage, the number of the fault, its name and its fields
+abbrev pub refusal_text : Refusal → List ℕ
+refusal_text SchemaNotBuilt = codes "first 1 NotBuilt schema"
+refusal_text (NoDocument fault) = document_text fault
+refusal_text DocumentNotBuilt = codes "first 1 NotBuilt document"
+refusal_text TypesTooCostly = codes "bound 1 TooCostly types"
+refusal_text FieldsTooCostly = codes "bound 1 TooCostly fields"
+refusal_text BothTooCostly = codes "bound 1 TooCostly both"
+
+-- what is written where a file was not read
+abbrev pub file_text : List ℕ → List ℕ
+file_text name = codes "file " ++ name
+
+-- the line of a file that was not read was written
+abbrev pub SaysFile : List ℕ → Option (List ℕ) → Option (List ℕ) → Type 0
+SaysFile name before after = Appends before after (line (file_text name))
+
+-- a file is longer than its limit
+abbrev pub too_large_text : List ℕ → List ℕ
+too_large_text name = codes "input 1 TooLarge " ++ name
+
+abbrev pub why_text : Why → List ℕ
+why_text NotJson = codes "NotJson"
+why_text NotObject = codes "NotObject"
+why_text NoData = codes "NoData"
+why_text BadErrors = codes "BadErrors"
+why_text MissingKey = codes "MissingKey"
+why_text ExtraKey = codes "ExtraKey"
+why_text NullHere = codes "NullHere"
+why_text NotList = codes "NotList"
+why_text BadLeaf = codes "BadLeaf"
+why_text BadType = codes "BadType"
+why_text BadObject = codes "BadObject"
+
+-- a fault of a reply, with its path; want of memory has no text
+abbrev pub meter_text : MeterFault → List ℕ
+meter_text (NotResponse path why) = codes "meter 1 NotResponse " ++ path ++ (32 ∷ why_text why)
+meter_text (SizeBroken path size length) = codes "meter 2 SizeBroken " ++ path ++ (32 ∷ (decimal size ++ (32 ∷ decimal length)))
+meter_text Memory = []
+
+-- the line of a file that is too large was written
+abbrev pub SaysTooLarge : List ℕ → Option (List ℕ) → Option (List ℕ) → Type 0
+SaysTooLarge name before after = Appends before after (line (too_large_text name))
+
+-- the status that a fault of a reply ends with
+abbrev pub IsStatusOf : MeterFault → ℕ → Type 0
+IsStatusOf (NotResponse path why) status = status ≡ NOT_RESPONSE
+IsStatusOf (SizeBroken path size length) status = status ≡ SIZE_BROKEN
+IsStatusOf Memory status = ⊥
