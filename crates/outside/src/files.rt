@@ -11,7 +11,7 @@ use std::alloc::Global;
 /// Why a file was not read.
 #[derive(Clone, Copy, Debug, Drop, PartialEq, Eq)]
 pub enum FileFault {
-    /// It could not be read. The count of faults rose.
+    /// It could not be read. The count of its name's faults rose.
     Failed,
     /// There was no memory for its content.
     Memory,
@@ -21,8 +21,8 @@ pub enum FileFault {
 pub trait Files {
     /// The content of the file of a name, where the object tells it.
     ghost content: { Self → List ℕ → Option (List ℕ) };
-    /// The count of faults, which never falls.
-    ghost faults: { Self → ℕ };
+    /// The count of faults of the file of a name, which never falls. One count may stand for several names.
+    ghost faults: { Self → List ℕ → ℕ };
 
     /// The content of the file `name`, or its first `limit` + 1 bytes where it is longer.
     fn read(&mut self, alloc: Global, name: &str, limit: usize) -> Result<Vec<u8>, FileFault>
@@ -30,8 +30,8 @@ pub trait Files {
             (λ whole. read.items ≡ take (limit + 1) whole)) }
         ensures most { IfOk result (λ read. vec_len read ≤ limit + 1) }
         ensures same { content self.new ≡ content self.old }
-        ensures count { faults self.old ≤ faults self.new }
-        ensures cause { IsErrOf result FileFault.Failed → Rose (faults self.old) (faults self.new) };
+        ensures count { (other : List ℕ) → faults self.old other ≤ faults self.new other }
+        ensures cause { IsErrOf result FileFault.Failed → Rose (faults self.old name.now) (faults self.new name.now) };
 }
 
 /// A file in memory.
@@ -41,7 +41,7 @@ pub struct MemFile {
     pub content: Vec<u8>,
 }
 
-/// Files in memory. They tell what they hold.
+/// Files in memory. They tell what they hold, and have one count of faults for all names.
 #[derive(Drop)]
 pub struct MemFiles {
     pub files: Vec<MemFile>,
@@ -88,7 +88,7 @@ fn first_bytes(alloc: Global, content: &[u8], limit: usize) -> Result<Vec<u8>, F
 impl Files for MemFiles {
     ghost content = { λ files. content_of files.files.items };
 
-    ghost faults = { λ files. files.faults };
+    ghost faults = { λ files name. files.faults };
 
     // It fails exactly where this call was to fail, or no file has the name.
     fn read(&mut self, alloc: Global, name: &str, limit: usize) -> Result<Vec<u8>, FileFault>

@@ -10,7 +10,8 @@ use std::{fs, rt};
 // How many bytes one call of the system is asked for at most.
 const PIECE: usize = 4096;
 
-/// The files of the system, which `rt` reaches. They do not tell what they hold.
+/// The files of the system, which `rt` reaches. They do not tell what they hold, and have one count of
+/// faults for all names.
 #[derive(Drop)]
 pub struct StdFiles<R: rt::Files + Drop> {
     rt: R,
@@ -70,7 +71,7 @@ impl<R: rt::Files + Drop> Files for StdFiles<R> {
 
     ghost content = { λ _ _. None };
 
-    ghost faults = { λ files. files.faults };
+    ghost faults = { λ files _. files.faults };
 
     fn read(&mut self, alloc: Global, name: &str, limit: usize) -> Result<Vec<u8>, FileFault> {
         let read = match fs::open(&self.rt, name) {

@@ -13,15 +13,10 @@ use Rattle.std.specs.Option.{option_or}
 use Rattle.response_meter.specs.Faults.{Tells, at_step, item_step}
 use Rattle.response_meter.specs.FirstFault.{null_fault, items_fault}
 use Rattle.response_meter.specs.Trees.{null_tree, items_tree}
-use Rattle.response_meter.specs.Answer.{comma, elements_text}
+use Rattle.response_model.specs.ResponseText.{comma, elements_text}
 use Rattle.response_meter.specs.Walks.{value_fault, value_tree, MeasuresTree, MeasuresElements}
+use Rattle.response_model.proofs.Pieces.{items_from}
 use Rattle.response_meter.proofs.Left.{Left, left_step, left_ends, tells_same, tells_first}
-
--- the items from the i-th on
-pub items_from : (items : List Value) (i : ℕ) (v : Value) → i < length items → v ≡ get_or items i v → items_view (drop i items) ≡ item (view v) (items_view (drop (i + 1) items))
-items_from items i v less is =
-    let one_more : suc i ≡ i + 1 = omega arith in
-    ap items_view (drop-cons items i v less ∙ ap (λ (x : Value). x ∷ drop (suc i) items) (sym is) ∙ ap (λ (j : ℕ). v ∷ drop j items) one_more)
 
 -- what is left of the elements, from the n-th on
 abbrev pub ElementsLeft : List ℕ → List ℕ → Cost → List ℕ → Bool → ℕ → Plan → Items → Items → Type 0

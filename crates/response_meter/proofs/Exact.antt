@@ -9,7 +9,7 @@ use Rattle.response_meter.specs.declared.fault.Why.{Why}
 use Rattle.response_meter.specs.declared.fault.Why.TheVariants.{NotJson, NotObject, BadErrors}
 use Rattle.response_meter.specs.Faults.{Fault, at_step, given}
 use Rattle.response_meter.specs.FirstFault.{NamesFilled}
-use Rattle.response_meter.specs.Errors.{ReplyError, errors_of}
+use Rattle.response_model.specs.Errors.{ResponseError, errors_of}
 use Rattle.response_meter.specs.Reply.{json_of, errors_entry, data_entry, DataReads, ReplyReads, IsResponseOrNone, IsReadable, content_fault, reply_fault, first_fault}
 use Rattle.response_meter.proofs.Passing.{some_none, step_none, content_reads}
 use Rattle.response_meter.proofs.Reading.{place_passes, value_passes}
@@ -41,7 +41,7 @@ module _ (holds : ℕ → Data → Bool) (name : ℕ → List ℕ) (alias : List
       (_, c.0, record { members = b.0; is_json = a.1 ∙ ap Some (object_same a.0 b.0 b.1); errors_read = c.1; data_read = d.0 }, d.1)
 
   module _ (names_differ : (T U : ℕ) → name T ≡ name U → T ≡ U) where
-    content_passes : (plan : Plan) → NamesFilled plan → (errors : List ReplyError) (o : Option Data) (t : Option Tree) → DataReads name alias plan errors o t → IsResponseOrNone holds plan t → content_fault holds name alias plan errors o ≡ None
+    content_passes : (plan : Plan) → NamesFilled plan → (errors : List ResponseError) (o : Option Data) (t : Option Tree) → DataReads name alias plan errors o t → IsResponseOrNone holds plan t → content_fault holds name alias plan errors o ≡ None
     content_passes plan filled [] None None r k = absurd (none_less r)
       where
         none_less : 0 < 0 → ⊥
@@ -83,12 +83,12 @@ members_of (string s) = no_members
 members_of (array ds) = no_members
 members_of (json_object ms) = ms
 
-abbrev errors_from : Option (List ReplyError) → List ReplyError
+abbrev errors_from : Option (List ResponseError) → List ResponseError
 errors_from None = []
 errors_from (Some es) = es
 
 module _ (name : ℕ → List ℕ) (alias : List ℕ) (names_differ : (T U : ℕ) → name T ≡ name U → T ≡ U) where
-  one_data : (plan : Plan) (es fs : List ReplyError) (o : Option Data) (t s : Option Tree) → DataReads name alias plan es o t → DataReads name alias plan fs o s → t ≡ s
+  one_data : (plan : Plan) (es fs : List ResponseError) (o : Option Data) (t s : Option Tree) → DataReads name alias plan es o t → DataReads name alias plan fs o s → t ≡ s
   one_data plan es fs None None None p q = refl
   one_data plan es fs None None (Some s) p q = absurd q
   one_data plan es fs None (Some t) s p q = absurd p
@@ -96,7 +96,7 @@ module _ (name : ℕ → List ℕ) (alias : List ℕ) (names_differ : (T U : ℕ
   one_data plan es fs (Some d) (Some t) None p q = absurd q
   one_data plan es fs (Some d) (Some t) (Some s) p q = ap Some (one_tree name alias names_differ (single true) false plan d t s p q)
 
-  pub one_reply_read : (plan : Plan) (bytes : List ℕ) (t s : Option Tree) (es fs : List ReplyError) → ReplyReads name alias plan bytes t es → ReplyReads name alias plan bytes s fs → (t ≡ s) × (es ≡ fs)
+  pub one_reply_read : (plan : Plan) (bytes : List ℕ) (t s : Option Tree) (es fs : List ResponseError) → ReplyReads name alias plan bytes t es → ReplyReads name alias plan bytes s fs → (t ≡ s) × (es ≡ fs)
   one_reply_read plan bytes t s es fs p q =
       let same : p.members ≡ q.members = ap (λ (o : Option Data). members_of (data_in o)) (sym p.is_json ∙ q.is_json) in (
         one_data plan es fs (data_entry q.members) t s (subst (λ (ms : Members). DataReads name alias plan es (data_entry ms) t) same p.data_read) q.data_read,

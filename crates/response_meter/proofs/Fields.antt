@@ -12,16 +12,12 @@ use Rattle.static_cost.specs.declared.first.FirstNode.TheViews.{out-FirstNode}
 use Rattle.static_cost.specs.declared.first.FirstNode.TheFolds.{fold_out-FirstNode}
 use Rattle.static_cost.specs.Nodes.{First, first, first_step, first_of, firsts_of}
 use Rattle.static_cost.specs.FirstPlan.{node_then}
+use Rattle.static_cost.proofs.OneField.{open_node}
 use Rattle.response_meter.specs.declared.fault.MeterFault.{MeterFault}
 use Rattle.response_meter.specs.Faults.{Tells}
-use Rattle.response_meter.specs.Answer.{comma, entries_text}
+use Rattle.response_model.specs.ResponseText.{comma, entries_text}
 use Rattle.response_meter.specs.Walks.{nodes_of, entries_fault, member_entries, key_of, entry_fault, entry_tree, MeasuresEntry}
 use Rattle.response_meter.proofs.Left.{Left, left_step, tells_same, tells_first}
-
--- a node that is read
-pub open_node : (n : FirstNode) → first_of n ≡ first (out-FirstNode n).key (out-FirstNode n).kind (out-FirstNode n).nullable (out-FirstNode n).list (firsts_of (out-FirstNode n).below.items)
-unfolding first_of
-open_node n = fold_out-FirstNode First first_step n
 
 -- the nodes from the i-th on
 pub nodes_from : (nodes : List FirstNode) (i : ℕ) (n : FirstNode) → i < length nodes → n ≡ get_or nodes i n → nodes_of (drop i nodes) ≡ node_then (first_of n) (nodes_of (drop (i + 1) nodes))

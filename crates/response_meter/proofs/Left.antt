@@ -9,6 +9,7 @@ use Rattle.response_meter.specs.declared.fault.MeterFault.{MeterFault}
 use Rattle.response_meter.specs.declared.fault.MeterFault.TheVariants.{NotResponse, SizeBroken, Memory}
 use Rattle.response_meter.specs.Faults.{Fault, Tells}
 use Rattle.response_meter.specs.Walks.{Measures}
+use Rattle.response_model.proofs.Pieces.{text_left}
 
 pub record Left (before now : List ℕ) (c : Cost) (fault whole_fault : Option Fault) (costs whole_costs : Part → ℕ) (text whole_text : List ℕ) : Type 0 where
   pub same : fault ≡ whole_fault
@@ -23,10 +24,6 @@ sum_left c d s a k w l m e = omega arith
 
 sum_within : (x s : ℕ) → s ≡ capped x → s ≤ CAP + 1
 sum_within x s e = omega arith
-
-pub text_left : (before now mid after front t u whole : List ℕ) → now ++ (front ++ (t ++ u)) ≡ before ++ whole → mid ≡ now ++ front → after ≡ mid ++ t → after ++ u ≡ before ++ whole
-text_left before now mid after front t u whole l m e =
-    ap (λ x. x ++ u) (e ∙ ap (λ x. x ++ t) m) ∙ append_assoc (now ++ front) t u ∙ append_assoc now front (t ++ u) ∙ l
 
 -- a part that was measured
 pub left_step : (before now mid after : List ℕ) (c d s : Cost) (f g whole_fault : Option Fault) (a k whole_costs : Part → ℕ) (front t u whole_text : List ℕ)

@@ -2,7 +2,7 @@ pub mod Left
 pub mod Fields
 pub mod Elements
 pub mod Places
-pub mod ErrorTexts
+pub mod ErrorFaults
 pub mod Passing
 pub mod Replies
 pub mod Reading

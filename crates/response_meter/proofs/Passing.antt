@@ -1,5 +1,6 @@
 -- A value that passes every test reads as its tree, which fits and keeps the declared sizes.
 use Rattle.std.proofs.Common.{◌≡◌, ◌≤◌, ℕ, suc, List, [], ◌∷◌, ◌<◌, length, option_map, Bool, true, false, true≢false, cond, ◌||◌, ◌&&◌, eqb, leb, bytes_eq, Option, Some, None, refl, sym, ap, ◌∙◌, arith, leb-true, eq-eqb}
+use Rattle.std.proofs.lemmas.Bool.{and_parts}
 use Rattle.std.proofs.lemmas.Slice.Eq.{bytes_eq-Decides}
 use Rattle.std.specs.Option.{option_or}
 use Rattle.serde_json.specs.Data.{Data, null as json_null, boolean, number, string, array, object as json_object, Items, no_items, item, Members, no_members, member}
@@ -12,7 +13,7 @@ use Rattle.response_meter.specs.declared.fault.Why.{Why}
 use Rattle.response_meter.specs.declared.fault.Why.TheVariants.{MissingKey, ExtraKey, NullHere, BadLeaf, BadType}
 use Rattle.response_meter.specs.Faults.{Fault, size_broken, key_step, item_step, at_step, tested, given}
 use Rattle.response_meter.specs.FirstFault.{null_fault, size_fault, items_fault, list_fault, place_fault, only_type, is_text, keys_known, is_leaf, type_named, type_told, value_fault, object_fault, entries_fault}
-use Rattle.response_meter.specs.Errors.{ReplyError}
+use Rattle.response_model.specs.Errors.{ResponseError}
 use Rattle.response_meter.specs.Reply.{content_fault, DataReads, IsResponseOrNone}
 use Rattle.response_meter.specs.Trees.{data_tree, tree_of, items_tree, list_tree, place_tree, value_tree, object_entries, member_entries}
 
@@ -34,10 +35,6 @@ both_none (Some x) g h = some_none h
 pub step_none : (step : List ℕ) (f : Option Fault) → at_step step f ≡ None → f ≡ None
 step_none step None h = refl
 step_none step (Some x) h = some_none h
-
-both_true : (a b : Bool) → (a && b) ≡ true → (a ≡ true) × (b ≡ true)
-both_true true b h = (refl, h)
-both_true false b h = absurd (true≢false (sym h))
 
 is_json_null : (d : Data) → is_null d ≡ true → d ≡ json_null
 is_json_null json_null h = refl
@@ -90,7 +87,7 @@ module _ (name : ℕ → List ℕ) (alias : List ℕ) where
   known_keys : (asked : Bool) (nodes : Nodes) (ms : Members) → keys_known alias asked nodes ms ≡ true → KeysKnown name alias asked nodes ms
   known_keys asked nodes no_members h = tt
   known_keys asked nodes (member k d ms) h =
-      let both = both_true (has_key k nodes || (asked && bytes_eq k alias)) (keys_known alias asked nodes ms) h in
+      let both = and_parts (has_key k nodes || (asked && bytes_eq k alias)) (keys_known alias asked nodes ms) h in
       (both.0, known_keys asked nodes ms both.1)
 
 module _ (holds : ℕ → Data → Bool) where
@@ -240,12 +237,12 @@ module _ (holds : ℕ → Data → Bool) (name : ℕ → List ℕ) (alias : List
         record { read = (refl, (first.0, first.1, first.2.read), rest.read); fit = (refl, first.2.fit, rest.fit); kept = (first.2.kept, rest.kept) }
 
   -- so does the data of a reply
-  pub content_reads : (plan : Plan) (errors : List ReplyError) (o : Option Data) → content_fault holds name alias plan errors o ≡ None
+  pub content_reads : (plan : Plan) (errors : List ResponseError) (o : Option Data) → content_fault holds name alias plan errors o ≡ None
       → DataReads name alias plan errors o (option_map (data_tree name alias plan) o) × IsResponseOrNone holds plan (option_map (data_tree name alias plan) o)
   content_reads plan [] None h = some_none h
   content_reads plan (e ∷ es) None h = (some_length e es, tt)
     where
-      some_length : (e : ReplyError) (es : List ReplyError) → 0 < length (e ∷ es)
+      some_length : (e : ResponseError) (es : List ResponseError) → 0 < length (e ∷ es)
       some_length e es = omega arith
   content_reads plan [] (Some d) h = let v = place_reads (single true) false plan (value_reads false plan) None d h in (v.read, (v.fit, v.kept))
   content_reads plan (e ∷ es) (Some d) h = let v = place_reads (single true) false plan (value_reads false plan) None d h in (v.read, (v.fit, v.kept))

@@ -23,10 +23,10 @@ use Rattle.response_meter.specs.declared.fault.Why.TheVariants.{BadLeaf, NullHer
 use Rattle.response_meter.specs.Faults.{Fault, size_broken, tested, given, at_step, key_step}
 use Rattle.response_meter.specs.FirstFault.{size_fault, items_fault, list_fault, place_fault}
 use Rattle.response_meter.specs.Trees.{tree_of, items_tree, list_tree, place_tree}
-use Rattle.response_meter.specs.Answer.{key_text, tree_text, elements_text}
+use Rattle.response_model.specs.ResponseText.{key_text, tree_text, elements_text}
 use Rattle.response_meter.specs.Walks.{nodes_of, plan_in, value_fault, value_tree, field_fault, field_tree, key_of, entry_fault, entry_tree, own_cost, Measures, MeasuresTree, MeasuresEntry, MeasuresElements}
 use Rattle.response_meter.proofs.Left.{tells_same}
-use Rattle.response_meter.proofs.Fields.{open_node}
+use Rattle.static_cost.proofs.OneField.{open_node}
 
 -- what was measured, of the same in other words
 pub measures_as : (before after : List ℕ) (r : Result Cost MeterFault) (f g : Option Fault) (costs sums : Part → ℕ) (t u : List ℕ)

@@ -13,11 +13,11 @@ use Rattle.response_model.specs.Cost.{Part, types, fields}
 use Rattle.response_model.specs.Bound.{IsBound}
 use Rattle.static_cost.specs.Leaves.{holds}
 use Rattle.response_meter.specs.declared.metered.FirstMetered.{FirstMetered}
-use Rattle.response_meter.specs.Errors.{ReplyError, errors_of}
+use Rattle.response_model.specs.Errors.{ResponseError, errors_of, has_errors}
 use Rattle.response_meter.specs.Reply.{json_of, errors_entry, data_entry, IsResponseOrNone, reply_cost}
-use Rattle.response_meter.specs.Answer.{errors_part, data_part}
+use Rattle.response_model.specs.ResponseText.{errors_part, data_part}
 use Rattle.response_meter.specs.FirstForm.{own_name}
-use Rattle.response_meter.specs.Walks.{has_some, content_tree, MeasuresContent, Found}
+use Rattle.response_meter.specs.Walks.{content_tree, MeasuresContent, Found}
 use Rattle.response_meter.specs.Metered.{IsMetered}
 use Rattle.response_meter.proofs.Passing.{content_reads}
 
@@ -33,8 +33,8 @@ not_json bytes h = by_test (is_utf8 bytes) refl
 
 -- the parts of a reply, put together
 object_found : (bytes start first second whole : List ℕ) (plan : Plan) (m : FirstMetered) (some : Bool) (ms : Members) (o p : Option Data)
-    → json_of bytes ≡ Some (json_object ms) → start ≡ codes "{" → o ≡ errors_entry ms → (es : List ReplyError) × (errors_of o ≡ Some es) × (some ≡ has_some es) × (first ≡ start ++ errors_part es)
-    → p ≡ data_entry ms → ((es : List ReplyError) → some ≡ has_some es → MeasuresContent first second (Ok m.cost) plan es p) → whole ≡ second ++ codes "}" → m.text ≡ whole → Found plan bytes m
+    → json_of bytes ≡ Some (json_object ms) → start ≡ codes "{" → o ≡ errors_entry ms → (es : List ResponseError) × (errors_of o ≡ Some es) × (some ≡ has_errors es) × (first ≡ start ++ errors_part es)
+    → p ≡ data_entry ms → ((es : List ResponseError) → some ≡ has_errors es → MeasuresContent first second (Ok m.cost) plan es p) → whole ≡ second ++ codes "}" → m.text ≡ whole → Found plan bytes m
 object_found bytes start first second whole plan m some ms o p j s eo w ep measured t text =
     let c = subst (λ (x : Option Data). MeasuresContent first second (Ok m.cost) plan w.0 x) ep (measured w.0 w.2) in
     record {
@@ -50,8 +50,8 @@ object_found bytes start first second whole plan m some ms o p j s eo w ep measu
 
 pub reply_found : (bytes start first second whole : List ℕ) (plan : Plan) (m : FirstMetered) (some : Bool) (json : Data) (o p : Option Data)
     → json_of bytes ≡ Some json → true ≡ is_some (as_object json) → start ≡ codes "{" → o ≡ get (codes "errors") json
-    → (es : List ReplyError) × (errors_of o ≡ Some es) × (some ≡ has_some es) × (first ≡ start ++ errors_part es)
-    → p ≡ get (codes "data") json → ((es : List ReplyError) → some ≡ has_some es → MeasuresContent first second (Ok m.cost) plan es p) → whole ≡ second ++ codes "}" → m.text ≡ whole → Found plan bytes m
+    → (es : List ResponseError) × (errors_of o ≡ Some es) × (some ≡ has_errors es) × (first ≡ start ++ errors_part es)
+    → p ≡ get (codes "data") json → ((es : List ResponseError) → some ≡ has_errors es → MeasuresContent first second (Ok m.cost) plan es p) → whole ≡ second ++ codes "}" → m.text ≡ whole → Found plan bytes m
 reply_found bytes start first second whole plan m some json_null o p j h s eo w ep measured t text = absurd (true≢false h)
 reply_found bytes start first second whole plan m some (boolean b) o p j h s eo w ep measured t text = absurd (true≢false h)
 reply_found bytes start first second whole plan m some (number n) o p j h s eo w ep measured t text = absurd (true≢false h)

@@ -1,9 +1,8 @@
 pub mod Faults
 pub mod FirstFault
-pub mod Errors
 pub mod Reply
-pub mod Answer
 pub mod Trees
 pub mod FirstForm
 pub mod Walks
 pub mod Metered
+pub mod Examples

@@ -11,7 +11,7 @@ use Rattle.response_model.specs.Bound.{IsResponse}
 use Rattle.response_model.specs.Cost.{Part, cost}
 use Rattle.response_meter.specs.Faults.{Fault, not_response, at_step, given}
 use Rattle.response_meter.specs.FirstFault.{data_fault}
-use Rattle.response_meter.specs.Errors.{ReplyError, errors_of}
+use Rattle.response_model.specs.Errors.{ResponseError, errors_of}
 use Rattle.response_meter.specs.declared.fault.Why.TheVariants.{NotJson, NotObject, NoData, BadErrors}
 
 -- The JSON value that bytes are: they are UTF-8, and serde_json reads them.
@@ -27,14 +27,14 @@ data_entry ms = get_member (codes "data") ms
 
 module _ (name : ℕ → List ℕ) (alias : List ℕ) where
   -- The data of a reply reads as this tree. A reply without data reads as no tree, and has an error.
-  abbrev pub DataReads : Plan → List ReplyError → Option Data → Option Tree → Type 0
+  abbrev pub DataReads : Plan → List ResponseError → Option Data → Option Tree → Type 0
   DataReads plan errors None None = 0 < length errors
   DataReads plan errors None (Some tree) = ⊥
   DataReads plan errors (Some json) None = ⊥
   DataReads plan errors (Some json) (Some tree) = ReadsReply name alias plan json tree
 
   -- A reply reads as this tree or no data, with these errors.
-  pub record ReplyReads (plan : Plan) (bytes : List ℕ) (tree : Option Tree) (errors : List ReplyError) : Type 0 where
+  pub record ReplyReads (plan : Plan) (bytes : List ℕ) (tree : Option Tree) (errors : List ResponseError) : Type 0 where
     pub members : Members
     pub is_json : json_of bytes ≡ Some (json_object members)
     pub errors_read : errors_of (errors_entry members) ≡ Some errors
@@ -47,20 +47,22 @@ IsResponseOrNone holds plan (Some tree) = IsResponse holds plan tree
 
 -- A reply reads, and its data, if any, is a response of the plan.
 abbrev pub IsReadable : (ℕ → Data → Bool) → (ℕ → List ℕ) → List ℕ → Plan → List ℕ → Type 0
-IsReadable holds name alias plan bytes = (tree : Option Tree) × (errors : List ReplyError) × ReplyReads name alias plan bytes tree errors × IsResponseOrNone holds plan tree
+IsReadable holds name alias plan bytes = (tree : Option Tree) × (errors : List ResponseError) × ReplyReads name alias plan bytes tree errors × IsResponseOrNone holds plan tree
 
 module _ (holds : ℕ → Data → Bool) (name : ℕ → List ℕ) (alias : List ℕ) where
   -- The tests of what stands in a reply: there is data, or at least one error without data.
-  abbrev pub content_fault : Plan → List ReplyError → Option Data → Option Fault
+  abbrev pub content_fault : Plan → List ResponseError → Option Data → Option Fault
   content_fault plan [] None = Some (not_response [] NoData)
   content_fault plan (e ∷ es) None = None
   content_fault plan errors (Some json) = data_fault holds name alias plan json
 
-  -- The first test that a reply does not pass, in reading order:
-  -- it is JSON, it is an object, its errors are well formed, it has data or errors, and its data fits and keeps the sizes.
+  -- The tests of the entries of a reply: its errors are well formed, it has data or errors, and its data fits and keeps the sizes.
+  abbrev pub entries_fault : Plan → Members → Option Fault
+  entries_fault plan ms = given (errors_of (errors_entry ms)) BadErrors (λ errors. content_fault plan errors (data_entry ms))
+
+  -- The first test that a reply does not pass, in reading order: it is JSON, it is an object, and its entries pass theirs.
   abbrev pub reply_fault : Plan → List ℕ → Option Fault
-  reply_fault plan bytes = given (json_of bytes) NotJson (λ json. given (as_object json) NotObject (λ ms.
-      given (errors_of (errors_entry ms)) BadErrors (λ errors. content_fault plan errors (data_entry ms))))
+  reply_fault plan bytes = given (json_of bytes) NotJson (λ json. given (as_object json) NotObject (λ ms. entries_fault plan ms))
 
   -- Its path begins at the data.
   abbrev pub first_fault : Plan → List ℕ → Option Fault

@@ -17,11 +17,11 @@ use Rattle.response_meter.specs.Faults.{Fault, Tells, given, at_step, key_step}
 use Rattle.response_meter.specs.FirstForm.{own_name}
 use Rattle.response_meter.specs.FirstFault as tests
 use Rattle.response_meter.specs.Trees as trees
-use Rattle.response_meter.specs.Errors.{ReplyError, errors_of}
+use Rattle.response_model.specs.Errors.{ResponseError, errors_of, has_errors}
 use Rattle.response_meter.specs.Reply as reply
 use Rattle.response_meter.specs.Reply.{json_of, errors_entry, data_entry, reply_cost}
 use Rattle.response_meter.specs.declared.metered.FirstMetered.{FirstMetered}
-use Rattle.response_meter.specs.Answer.{key_text, tree_text, elements_text, entries_text, errors_part, data_part, answer_text}
+use Rattle.response_model.specs.ResponseText.{key_text, tree_text, elements_text, entries_text, errors_part, data_part, response_text}
 
 -- The tests and the trees of the first form.
 abbrev pub value_fault : Plan → Data → Option Fault
@@ -84,12 +84,8 @@ abbrev pub MeasuresElements : List ℕ → List ℕ → Result Cost MeterFault �
 MeasuresElements before after result fault plan ts = Measures before after result fault (λ part. elements_cost part plan ts) (elements_text [] ts)
 
 -- The errors are well formed, and their part of the answer was appended; the result says whether there are any.
-abbrev pub has_some : List ReplyError → Bool
-has_some [] = false
-has_some (e ∷ es) = true
-
-abbrev pub WritesErrors : List ℕ → List ℕ → Result Bool MeterFault → Option (List ReplyError) → Type 0
-WritesErrors before after (Ok some) errors = (es : List ReplyError) × (errors ≡ Some es) × (some ≡ has_some es) × (after ≡ before ++ errors_part es)
+abbrev pub WritesErrors : List ℕ → List ℕ → Result Bool MeterFault → Option (List ResponseError) → Type 0
+WritesErrors before after (Ok some) errors = (es : List ResponseError) × (errors ≡ Some es) × (some ≡ has_errors es) × (after ≡ before ++ errors_part es)
 WritesErrors before after (Err f) errors = Tells f (given errors BadErrors (λ es. None))
 
 -- What is well formed was appended as this text. Or it is told that it is not.
@@ -101,23 +97,23 @@ Writes before after (Err f) read text = Tells f (given read BadErrors (λ x. Non
 abbrev pub content_tree : Plan → Option Data → Option Tree
 content_tree plan json = option_map (trees.data_tree own_name [] plan) json
 
-abbrev pub content_fault : Plan → List ReplyError → Option Data → Option Fault
+abbrev pub content_fault : Plan → List ResponseError → Option Data → Option Fault
 content_fault plan errors json = reply.content_fault holds own_name [] plan errors json
 
-abbrev pub MeasuresContent : List ℕ → List ℕ → Result Cost MeterFault → Plan → List ReplyError → Option Data → Type 0
+abbrev pub MeasuresContent : List ℕ → List ℕ → Result Cost MeterFault → Plan → List ResponseError → Option Data → Type 0
 MeasuresContent before after result plan errors json =
     Measures before after result (content_fault plan errors json) (λ part. reply_cost part plan (content_tree plan json)) (data_part errors (content_tree plan json))
 
 -- What was found in a reply that passes every test.
 pub record Found (plan : Plan) (bytes : List ℕ) (metered : FirstMetered) : Type 0 where
   pub members : Members
-  pub errors : List ReplyError
+  pub errors : List ResponseError
   pub is_json : json_of bytes ≡ Some (object members)
   pub errors_read : errors_of (errors_entry members) ≡ Some errors
   pub no_fault : content_fault plan errors (data_entry members) ≡ None
   pub types_cost : metered.cost.types ≡ capped (reply_cost types plan (content_tree plan (data_entry members)))
   pub fields_cost : metered.cost.fields ≡ capped (reply_cost fields plan (content_tree plan (data_entry members)))
-  pub text : metered.text ≡ answer_text (content_tree plan (data_entry members)) errors
+  pub text : metered.text ≡ response_text (content_tree plan (data_entry members)) errors
 
 abbrev pub MeasuresReply : Result FirstMetered MeterFault → Plan → List ℕ → Type 0
 MeasuresReply (Ok metered) plan bytes = Found plan bytes metered

@@ -2,13 +2,13 @@
 
 ghost use Rattle.std.specs.Prelude.{◌≡◌, [], is_some, option_map, option_and_then, string_bytes};
 ghost use Rattle.serde_json.specs.View.{view, items_view};
-ghost use Rattle.response_meter.specs.Errors.{errors_of, errors_in, error_of, path_of, steps_of, step_of};
+ghost use Rattle.response_model.specs.Errors.{errors_of, errors_in, error_of, path_of, segments_of, segment_of};
 ghost use Rattle.response_meter.specs.Walks.{WritesErrors, Writes};
-ghost use Rattle.response_meter.specs.Answer.{errors_text, error_text, path_text};
+ghost use Rattle.response_model.specs.ResponseText.{errors_text, error_text, path_text};
 ghost use Rattle.serde_json.specs.Find.{as_array};
 
 use crate::fault::{MeterFault, Why, not_response};
-use crate::writing::write_value;
+use response_model::write_value;
 use serde_json::Value;
 use std::alloc::Global;
 
@@ -87,20 +87,20 @@ fn write_path(alloc: Global, path: Option<&Value>, into: &mut String) -> Result<
 
 /// Whether a value is a list of strings and whole numbers of at least 0.
 fn is_path(path: &Value) -> bool
-    ensures { result ≡ is_some (option_and_then steps_of (as_array (view path.now))) }
+    ensures { result ≡ is_some (option_and_then segments_of (as_array (view path.now))) }
 {
     match path {
-        Value::Array(steps) => are_steps(steps),
+        Value::Array(segments) => are_segments(segments),
         _ => false,
     }
 }
 
 /// Whether each value is a string or a whole number of at least 0.
-fn are_steps(steps: &[Value]) -> bool
-    ensures { result ≡ is_some (steps_of (items_view steps.now)) }
+fn are_segments(segments: &[Value]) -> bool
+    ensures { result ≡ is_some (segments_of (items_view segments.now)) }
 {
-    'steps: for step in steps {
-        if !is_step(step) {
+    'segments: for segment in segments {
+        if !is_segment(segment) {
             return false;
         }
     }
@@ -108,10 +108,10 @@ fn are_steps(steps: &[Value]) -> bool
 }
 
 /// Whether a value is a string or a whole number of at least 0.
-fn is_step(step: &Value) -> bool
-    ensures { result ≡ is_some (step_of (view step.now)) }
+fn is_segment(segment: &Value) -> bool
+    ensures { result ≡ is_some (segment_of (view segment.now)) }
 {
-    match step {
+    match segment {
         Value::String(_) => true,
         Value::Number(number) => number.is_u64(),
         _ => false,

@@ -5,31 +5,44 @@ ghost use Rattle.response_meter.specs.Faults.{Fault, not_response as refused, si
 
 use gql_base::Text;
 use std::alloc::{AllocError, Global};
+use std::fmt;
+use thiserror::Error;
 
 /// The test that a reply does not pass, by its number.
-#[derive(Clone, Copy, Debug, PartialEq, Eq)]
+#[derive(Clone, Copy, Debug, PartialEq, Eq, Error)]
 pub enum Why {
     /// The bytes are not JSON.
+    #[error("the bytes are not JSON")]
     NotJson = 1,
     /// The JSON value is not an object.
+    #[error("the JSON value is not an object")]
     NotObject = 2,
     /// There is neither data nor an error.
+    #[error("there is neither data nor an error")]
     NoData = 3,
     /// The errors are not a list of errors (GraphQL October 2021, 7.1.2).
+    #[error("the errors are not a list of errors")]
     BadErrors = 4,
     /// An object lacks the entry of a selected field.
+    #[error("the entry of a selected field is missing")]
     MissingKey = 5,
     /// An object has an entry that was not selected.
+    #[error("there is an entry that was not selected")]
     ExtraKey = 6,
     /// A null stands where the type is non-null.
+    #[error("a null stands where the type is non-null")]
     NullHere = 7,
     /// A list is due, and another value stands there.
+    #[error("a list is due")]
     NotList = 8,
     /// A leaf is due, and the value is none of its type.
+    #[error("the value is none of its type")]
     BadLeaf = 9,
     /// An object does not say by its type name which possible type it is of.
+    #[error("the object does not name a possible type")]
     BadType = 10,
     /// An object is due, and another value stands there.
+    #[error("an object is due")]
     BadObject = 11,
 }
 
@@ -37,14 +50,24 @@ pub enum Why {
 ///
 /// A path begins with `data`, and has for each step down a full stop and a response key, or a full stop
 /// and an item's number from 0.
-#[derive(Drop)]
+#[derive(Drop, Error)]
 pub enum MeterFault {
     /// The reply is no response to the operation (1).
+    #[error("at {path}: {why}", path = .path.as_str())]
     NotResponse { path: Text, why: Why },
     /// A list has more items than its declared size (2).
+    #[error("at {path}: {length} items, where at most {size} are declared", path = .path.as_str())]
     SizeBroken { path: Text, size: u64, length: u64 },
     /// There was not enough memory (3).
+    #[error("there was not enough memory")]
     Memory,
+}
+
+/// Prints the sentence of the fault, whose path is a text.
+impl fmt::Debug for MeterFault {
+    fn fmt<W: fmt::Write>(&self, f: &mut fmt::Formatter<W>) -> fmt::Result {
+        fmt::Display::fmt(self, f)
+    }
 }
 
 impl From<AllocError> for MeterFault {

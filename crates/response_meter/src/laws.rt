@@ -9,7 +9,7 @@ ghost use Rattle.static_cost.specs.FirstPlan.{plan_of};
 ghost use Rattle.static_cost.specs.Leaves.{holds};
 ghost use Rattle.response_meter.specs.Faults.{Fault};
 ghost use Rattle.response_meter.specs.FirstFault.{NamesFilled};
-ghost use Rattle.response_meter.specs.Errors.{ReplyError};
+ghost use Rattle.response_model.specs.Errors.{ResponseError};
 ghost use Rattle.response_meter.specs.Reply.{ReplyReads, IsReadable, first_fault};
 ghost use Rattle.response_meter.specs.Metered.{first_fault as first_form_fault};
 ghost use Rattle.response_meter.specs.FirstForm.{own_name};
@@ -24,7 +24,7 @@ pub fn fault_or_reading()
 
 /// A reply reads as one tree or none, and with one list of errors, where object types have different names.
 pub fn one_reply()
-    ensures { (name : ℕ → List ℕ) (alias : List ℕ) (plan : Plan) (bytes : List ℕ) (t s : Option Tree) (es fs : List ReplyError) → ((T U : ℕ) → name T ≡ name U → T ≡ U) → ReplyReads name alias plan bytes t es → ReplyReads name alias plan bytes s fs → (t ≡ s) × (es ≡ fs) }
+    ensures { (name : ℕ → List ℕ) (alias : List ℕ) (plan : Plan) (bytes : List ℕ) (t s : Option Tree) (es fs : List ResponseError) → ((T U : ℕ) → name T ≡ name U → T ≡ U) → ReplyReads name alias plan bytes t es → ReplyReads name alias plan bytes s fs → (t ≡ s) × (es ≡ fs) }
 {}
 
 /// The same of an operation of the first form: a reply passes every test exactly where it reads and its

@@ -2,6 +2,7 @@
 #![tactic(auto)]
 
 mod errors;
+pub mod examples;
 mod fault;
 pub mod laws;
 mod meter;
@@ -9,7 +10,6 @@ mod metered;
 #[cfg(test)]
 mod tests;
 mod walk;
-mod writing;
 
 pub use fault::{MeterFault, Why};
 pub use meter::first_meter;

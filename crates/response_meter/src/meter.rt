@@ -9,11 +9,11 @@ ghost use Rattle.response_meter.specs.declared.fault.Why.TheVariants.{NotJson};
 ghost use Rattle.response_meter.specs.Faults.{Tells, given};
 ghost use Rattle.response_meter.specs.FirstFault.{data_fault};
 ghost use Rattle.response_meter.specs.Trees.{data_tree};
-ghost use Rattle.response_meter.specs.Errors.{ReplyError};
+ghost use Rattle.response_model.specs.Errors.{ResponseError, has_errors};
 ghost use Rattle.response_meter.specs.Reply.{json_of};
 ghost use Rattle.response_meter.specs.Metered.{first_fault, IsMetered};
 ghost use Rattle.response_meter.specs.FirstForm.{own_name};
-ghost use Rattle.response_meter.specs.Walks.{has_some, MeasuresTree, MeasuresContent, MeasuresReply};
+ghost use Rattle.response_meter.specs.Walks.{MeasuresTree, MeasuresContent, MeasuresReply};
 ghost use Rattle.static_cost.specs.Leaves.{holds};
 
 use crate::errors::write_errors;
@@ -97,7 +97,7 @@ fn meter_content(
     content: Option<&Value>,
     into: &mut String,
 ) -> Result<Cost, MeterFault>
-    ensures { (errors : List ReplyError) → some_error ≡ has_some errors → MeasuresContent (string_bytes into.old) (string_bytes into.new) result (plan_of nodes.now) errors (option_map (λ v. view v.now) content.entry) }
+    ensures { (errors : List ResponseError) → some_error ≡ has_errors errors → MeasuresContent (string_bytes into.old) (string_bytes into.new) result (plan_of nodes.now) errors (option_map (λ v. view v.now) content.entry) }
 {
     match content {
         None => {

@@ -18,8 +18,8 @@ ghost use Rattle.response_meter.specs.Trees.{null_tree, list_tree, items_tree};
 ghost use Rattle.response_meter.specs.Walks.{nodes_of, plan_in, value_fault, value_tree, entries_fault, member_entries, field_fault, field_tree, entry_fault, entry_tree, Measures, MeasuresTree, MeasuresEntry, MeasuresEntries, MeasuresElements};
 
 use crate::fault::{MeterFault, Why, not_response, size_broken};
-use crate::writing::{write_key, write_value};
 use cost_num::{CAP, Cost, UNIT, add_capped};
+use response_model::{write_key, write_value};
 use serde_json::{Map, Value};
 use static_cost::{FirstKind, FirstList, FirstNode};
 use std::alloc::Global;
@@ -43,7 +43,7 @@ fn sum(a: Cost, b: Cost) -> Cost
     }
 }
 
-/// The weight of a type of this kind, in thousandths, and of a field whose values have it.
+/// The weight of a type of this kind, in millionths, and of a field whose values have it.
 fn weight(kind: FirstKind) -> u64
     ensures { result ≡ default_weight kind }
 {

@@ -1,8 +1,22 @@
 -- Small plans, replies and responses, by which the definitions are read aloud and computed.
-use Rattle.std.specs.Prelude.{ℕ, List, [], codes, Bool, true, false, cond, eqb, Option, Some, None}
+use Rattle.std.specs.Prelude.{ℕ, ◌+◌, ◌*◌, ◌/◌, List, [], ◌∷◌, codes, Bool, true, false, cond, eqb, Option, Some, None}
 use Rattle.serde_json.specs.Data.{Data, null as json_null, boolean, number, string, array, object as json_object, no_items, item, Members, no_members, member}
 use Rattle.response_model.specs.Plan.{Form, single, listed, Selected, type_name, numbered, Plan, leaf_plan, position, ObjectTypes, no_type, object_type, Nodes, no_node, node}
+use Rattle.response_model.specs.Errors.{key_segment, index_segment, ResponseError}
 use Rattle.response_model.specs.Response.{Tree, leaf, list_of, object, Elements, no_element, element, no_entry, entry}
+
+-- One, in the unit that the examples count in, and parts of it.
+abbrev pub one : ℕ
+one = 1000000
+
+abbrev pub half : ℕ
+half = one / 2
+
+abbrev pub quarter : ℕ
+quarter = one / 4
+
+abbrev pub tenth : ℕ
+tenth = one / 10
 
 -- The object types are Query, User and Post, told by 0, 1 and 2. The one scalar type, told by 0, holds strings.
 abbrev pub name_of_type : ℕ → List ℕ
@@ -27,38 +41,38 @@ plain name form size weight = record { key = name; field = name; asked = false; 
 abbrev pub text : Plan
 text = leaf_plan (numbered 0) 0 (string [])
 
--- Query has weight 1.000, and so has User.
+-- Query has weight 1, and so has User.
 abbrev pub query : Nodes → Plan
-query nodes = position (object_type 0 1000 nodes no_type)
+query nodes = position (object_type 0 one nodes no_type)
 
 abbrev pub user : Nodes → Plan
-user nodes = position (object_type 1 1000 nodes no_type)
+user nodes = position (object_type 1 one nodes no_type)
 
--- `id` weighs nothing, `name` 0.250 and `friends`, a list of three users, 1.000.
+-- `id` weighs nothing, `name` 0.25 and `friends`, a list of three users, 1.
 abbrev pub id_then : Nodes → Nodes
 id_then others = node (plain (codes "id") (single false) None 0) text others
 
 abbrev pub name_then : Nodes → Nodes
-name_then others = node (plain (codes "name") (single true) None 250) text others
+name_then others = node (plain (codes "name") (single true) None quarter) text others
 
 abbrev pub friends : Nodes → Nodes
-friends nodes = node (plain (codes "friends") (listed false false) (Some 3) 1000) (user nodes) no_node
+friends nodes = node (plain (codes "friends") (listed false false) (Some 3) one) (user nodes) no_node
 
 -- { user { friends { id friends { name } } } }
 abbrev pub friends_of_friends : Plan
-friends_of_friends = query (node (plain (codes "user") (single true) None 1000) (user (friends (id_then (friends (name_then no_node))))) no_node)
+friends_of_friends = query (node (plain (codes "user") (single true) None one) (user (friends (id_then (friends (name_then no_node))))) no_node)
 
 -- { search { ... on User { friends { id } } ... on Post { author { id } } } }
 -- `search` is a list of five users or posts, each of which may be null and has its type name under the added alias.
--- Post has weight 2.500, and `author` 4.000.
+-- Post has weight 2.5, and `author` 4.
 abbrev pub author : Nodes → Nodes
-author nodes = node (plain (codes "author") (single true) None 4000) (user nodes) no_node
+author nodes = node (plain (codes "author") (single true) None (4 * one)) (user nodes) no_node
 
 abbrev pub users_or_posts : ObjectTypes
-users_or_posts = object_type 1 1000 (friends (id_then no_node)) (object_type 2 2500 (author (id_then no_node)) no_type)
+users_or_posts = object_type 1 one (friends (id_then no_node)) (object_type 2 (2 * one + half) (author (id_then no_node)) no_type)
 
 abbrev pub asked_search : Selected
-asked_search = record { key = codes "search"; field = codes "search"; asked = true; form = listed true true; size = Some 5; weight = 1000; arguments = 0 }
+asked_search = record { key = codes "search"; field = codes "search"; asked = true; form = listed true true; size = Some 5; weight = one; arguments = 0 }
 
 abbrev pub search : Plan
 search = query (node asked_search (position users_or_posts) no_node)
@@ -82,7 +96,7 @@ five t = element t (element t (element t (element t (element t no_element))))
 
 -- { user { friends { name } } }, and a response with friends of this name, as many as there are items.
 abbrev pub names_of_friends : Plan
-names_of_friends = query (node (plain (codes "user") (single true) None 1000) (user (friends (name_then no_node))) no_node)
+names_of_friends = query (node (plain (codes "user") (single true) None one) (user (friends (name_then no_node))) no_node)
 
 abbrev pub befriended : Elements → Tree
 befriended ts = object 0 (entry (codes "user") (object 1 (entry (codes "friends") (list_of ts) no_entry)) no_entry)
@@ -92,7 +106,7 @@ named t = object 1 (entry (codes "name") t no_entry)
 
 -- { tags kind: __typename } of a query type with a list of texts of any length.
 abbrev pub tags_and_kind : Plan
-tags_and_kind = query (node (plain (codes "tags") (listed true false) None 500) text
+tags_and_kind = query (node (plain (codes "tags") (listed true false) None half) text
     (node (record { key = codes "kind"; field = codes "__typename"; asked = false; form = single false; size = None; weight = 0; arguments = 0 }) (leaf_plan type_name 0 (string (codes "Query"))) no_node))
 
 -- Its response with these tags and this name of the query type.
@@ -111,20 +125,34 @@ post_members more = member (codes "author") (json_object (member (codes "id") (s
 abbrev pub tags_reply : Data → Data
 tags_reply tags = json_object (member (codes "kind") (string (codes "Query")) (member (codes "tags") tags no_members))
 
--- { find(filter: { tag: "a", sub: { tag: null } }, ids: ["1", "2"]) }, where `find` weighs 2.000, and its arguments 1 + 0.5 + 1 and 2 times 0.1.
+-- { find(filter: { tag: "a", sub: { tag: null } }, ids: ["1", "2"]) }, where `find` weighs 2, and its arguments 1 + 0.5 + 1 and 2 times 0.1.
 abbrev pub find : Plan
-find = query (node (record { key = codes "find"; field = codes "find"; asked = false; form = single true; size = None; weight = 2000; arguments = 2700 }) text no_node)
+find = query (node (record { key = codes "find"; field = codes "find"; asked = false; form = single true; size = None; weight = 2 * one; arguments = 2 * one + half + 2 * tenth }) text no_node)
 
--- { node { id } }, which is a user or a post, and both weigh 1.000.
+-- { node { id } }, which is a user or a post, and both weigh 1.
 abbrev pub user_or_post : Plan
-user_or_post = query (node (plain (codes "node") (single true) None 1000) (position (object_type 1 1000 (id_then no_node) (object_type 2 1000 (id_then no_node) no_type))) no_node)
+user_or_post = query (node (plain (codes "node") (single true) None one) (position (object_type 1 one (id_then no_node) (object_type 2 one (id_then no_node) no_type))) no_node)
 
 abbrev pub one_node : Tree → Tree
 one_node t = object 0 (entry (codes "node") t no_entry)
 
+-- An error "x" at the second item of `search`, and an error "y" without a path.
+abbrev pub failed : ResponseError
+failed = record { message = codes "x"; path = Some (key_segment (codes "search") ∷ index_segment 1 ∷ []) }
+
+abbrev pub unplaced : ResponseError
+unplaced = record { message = codes "y"; path = None }
+
+-- The same as JSON, the first with a path to come and a further member, the second with a path that is null.
+abbrev pub failed_json : Data → Data
+failed_json path = json_object (member (codes "code") (string (codes "E")) (member (codes "message") (string (codes "x")) (member (codes "path") path no_members)))
+
+abbrev pub unplaced_json : Data
+unplaced_json = json_object (member (codes "message") (string (codes "y")) (member (codes "path") json_null no_members))
+
 -- { a: user { name } b: user { name } }
 abbrev pub aliased : List ℕ → Selected
-aliased key = record { key = key; field = codes "user"; asked = false; form = single true; size = None; weight = 1000; arguments = 0 }
+aliased key = record { key = key; field = codes "user"; asked = false; form = single true; size = None; weight = one; arguments = 0 }
 
 abbrev pub two_users : Plan
 two_users = query (node (aliased (codes "a")) (user (name_then no_node)) (node (aliased (codes "b")) (user (name_then no_node)) no_node))

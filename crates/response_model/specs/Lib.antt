@@ -4,5 +4,7 @@ pub mod Cost
 pub mod Bound
 pub mod Filled
 pub mod Reading
+pub mod Errors
+pub mod ResponseText
 pub mod Rows
 pub mod Examples

@@ -1,41 +1,43 @@
 //! Small operations, their bounds, responses and replies, computed by the definitions alone.
 
-ghost use Rattle.std.specs.Prelude.{true, false, List, [], ◌∷◌, codes, Some, None, ◌≡◌};
-ghost use Rattle.serde_json.specs.Data.{null as json_null, boolean, string, array, no_items, item, no_members, member};
+ghost use Rattle.std.specs.Prelude.{true, false, List, [], ◌∷◌, codes, Some, None, ◌≡◌, ◌+◌, ◌*◌, negsuc};
+ghost use Rattle.serde_json.specs.Data.{null as json_null, boolean, number, string, array, unsigned, negative, object as json_object, no_items, item, no_members, member};
 ghost use Rattle.response_model.specs.Plan.{single, listed};
 ghost use Rattle.response_model.specs.Response.{Tree, null, leaf, object, element, no_element, entry, no_entry, Fits, SizesKept};
 ghost use Rattle.response_model.specs.Reading.{Reads, ReadsReply};
 ghost use Rattle.response_model.specs.Cost.{types, fields, cost};
 ghost use Rattle.response_model.specs.Bound.{IsBound, IsResponse};
 ghost use Rattle.response_model.specs.Filled.{filled};
+ghost use Rattle.response_model.specs.Errors.{errors_of};
+ghost use Rattle.response_model.specs.ResponseText.{response_text};
 ghost use Rattle.response_model.specs.Rows.{type_row, node_row, leaf_in, rows_below};
-ghost use Rattle.response_model.specs.Examples.{name_of_type, holds_string, added_alias, plain, text, friends_of_friends, search, asked_search, of_id, user_of_three, post_of_author, found, five, names_of_friends, befriended, named, tags_and_kind, tagged, search_reply, post_members, tags_reply, find, user_or_post, one_node, aliased, two_users};
+ghost use Rattle.response_model.specs.Examples.{one, half, quarter, tenth, name_of_type, holds_string, added_alias, plain, text, friends_of_friends, search, asked_search, of_id, user_of_three, post_of_author, found, five, names_of_friends, befriended, named, tags_and_kind, tagged, search_reply, post_members, tags_reply, find, user_or_post, one_node, failed, unplaced, failed_json, unplaced_json, aliased, two_users};
 
 /// Three friends of three friends: 1 + 1 + 3 + 9 values, and as field cost 1 + 1 + 3 + 9 times 0.25.
 pub fn bound_of_friends()
-    ensures types_cost { IsBound holds_string types friends_of_friends 14000 }
-    ensures fields_cost { IsBound holds_string fields friends_of_friends 7250 }
+    ensures types_cost { IsBound holds_string types friends_of_friends (14 * one) }
+    ensures fields_cost { IsBound holds_string fields friends_of_friends (7 * one + quarter) }
 {}
 
 /// Five users have the greatest type cost, five posts the greatest field cost.
 pub fn bound_of_search()
-    ensures types_cost { IsBound holds_string types search 21000 }
+    ensures types_cost { IsBound holds_string types search (21 * one) }
     ensures types_attained { filled types search ≡ found (five user_of_three) }
-    ensures fields_cost { IsBound holds_string fields search 21000 }
+    ensures fields_cost { IsBound holds_string fields search (21 * one) }
     ensures fields_attained { filled fields search ≡ found (five post_of_author) }
-    ensures others_cost { (cost fields search (found (five user_of_three)) ≡ 6000) × (cost types search (found (five post_of_author)) ≡ 18500) }
+    ensures others_cost { (cost fields search (found (five user_of_three)) ≡ 6 * one) × (cost types search (found (five post_of_author)) ≡ 18 * one + half) }
 {}
 
 /// The cost of an entry's arguments is part of the field cost.
 pub fn bound_with_arguments()
-    ensures types_cost { IsBound holds_string types find 1000 }
-    ensures fields_cost { IsBound holds_string fields find 4700 }
+    ensures types_cost { IsBound holds_string types find one }
+    ensures fields_cost { IsBound holds_string fields find (4 * one + half + 2 * tenth) }
 {}
 
 /// A list of any length costs what its entry costs, and `__typename` nothing.
 pub fn list_of_any_length()
-    ensures types_cost { IsBound holds_string types tags_and_kind 1000 }
-    ensures fields_cost { IsBound holds_string fields tags_and_kind 500 }
+    ensures types_cost { IsBound holds_string types tags_and_kind one }
+    ensures fields_cost { IsBound holds_string fields tags_and_kind half }
     ensures allowed { IsResponse holds_string tags_and_kind (tagged (five (leaf (string (codes "a")))) (codes "Query")) }
     ensures empty { filled fields tags_and_kind ≡ tagged no_element (codes "Query") }
 {}
@@ -49,8 +51,8 @@ pub fn first_of_equals()
 /// A null adds nothing, and stands only where the plan allows it: as the whole response, and apart from that by the form of its entry.
 pub fn null_adds_nothing()
     ensures item_allowed { IsResponse holds_string search (found (element null (element post_of_author no_element))) }
-    ensures types_cost { cost types search (found (element null (element post_of_author no_element))) ≡ 4500 }
-    ensures fields_cost { cost fields search (found (element null (element post_of_author no_element))) ≡ 5000 }
+    ensures types_cost { cost types search (found (element null (element post_of_author no_element))) ≡ 4 * one + half }
+    ensures fields_cost { cost fields search (found (element null (element post_of_author no_element))) ≡ 5 * one }
     ensures root_allowed { IsResponse holds_string search null × (cost types search null ≡ 0) × (cost fields search null ≡ 0) }
     ensures list_allowed { IsResponse holds_string tags_and_kind (object 0 (entry (codes "tags") null (entry (codes "kind") (leaf (string (codes "Query"))) no_entry))) }
     ensures item_refused { IsResponse holds_string tags_and_kind (tagged (element null no_element) (codes "Query")) → ⊥ }
@@ -58,9 +60,9 @@ pub fn null_adds_nothing()
 
 /// An entry counts once, whatever the length of its list, and also where its value is null.
 pub fn entry_counts_once()
-    ensures three { cost fields names_of_friends (befriended (element (named (leaf (string []))) (element (named null) (element (named null) no_element)))) ≡ 2750 }
-    ensures none { cost fields names_of_friends (befriended no_element) ≡ 2000 }
-    ensures absent { cost fields names_of_friends (object 0 (entry (codes "user") null no_entry)) ≡ 1000 }
+    ensures three { cost fields names_of_friends (befriended (element (named (leaf (string []))) (element (named null) (element (named null) no_element)))) ≡ 2 * one + half + quarter }
+    ensures none { cost fields names_of_friends (befriended no_element) ≡ 2 * one }
+    ensures absent { cost fields names_of_friends (object 0 (entry (codes "user") null no_entry)) ≡ one }
 {}
 
 /// Four friends fit where three are declared, and don't keep the size; three keep it.
@@ -72,7 +74,7 @@ pub fn four_friends()
 
 /// A leaf holds what its type holds, and never null: a text is no truth value, and `__typename` no name but that of its object.
 pub fn leaf_holds()
-    ensures null_refused { IsResponse (λ type json. true) tags_and_kind (tagged (element (leaf json_null) no_element) (codes "Query")) → ⊥ }
+    ensures null_refused { IsResponse (λ type value. true) tags_and_kind (tagged (element (leaf json_null) no_element) (codes "Query")) → ⊥ }
     ensures truth_refused { IsResponse holds_string tags_and_kind (tagged (element (leaf (boolean true)) no_element) (codes "Query")) → ⊥ }
     ensures name_refused { IsResponse holds_string tags_and_kind (tagged no_element (codes "User")) → ⊥ }
 {}
@@ -99,10 +101,29 @@ pub fn reply_read()
 
 /// The rows of a plan in depth-first order: each type before its nodes, each node before what is below it.
 pub fn rows_in_depth_first_order()
-    ensures of_types { rows_below 0 search ≡ type_row 0 0 1000 ∷ node_row 0 asked_search None
-        ∷ type_row 1 1 1000 ∷ node_row 1 (plain (codes "friends") (listed false false) (Some 3) 1000) None ∷ type_row 2 1 1000 ∷ node_row 2 (plain (codes "id") (single false) None 0) (leaf_in text)
-        ∷ type_row 1 2 2500 ∷ node_row 1 (plain (codes "author") (single true) None 4000) None ∷ type_row 2 1 1000 ∷ node_row 2 (plain (codes "id") (single false) None 0) (leaf_in text) ∷ [] }
-    ensures of_nodes { rows_below 0 two_users ≡ type_row 0 0 1000
-        ∷ node_row 0 (aliased (codes "a")) None ∷ type_row 1 1 1000 ∷ node_row 1 (plain (codes "name") (single true) None 250) (leaf_in text)
-        ∷ node_row 0 (aliased (codes "b")) None ∷ type_row 1 1 1000 ∷ node_row 1 (plain (codes "name") (single true) None 250) (leaf_in text) ∷ [] }
+    ensures of_types { rows_below 0 search ≡ type_row 0 0 one ∷ node_row 0 asked_search None
+        ∷ type_row 1 1 one ∷ node_row 1 (plain (codes "friends") (listed false false) (Some 3) one) None ∷ type_row 2 1 one ∷ node_row 2 (plain (codes "id") (single false) None 0) (leaf_in text)
+        ∷ type_row 1 2 (2 * one + half) ∷ node_row 1 (plain (codes "author") (single true) None (4 * one)) None ∷ type_row 2 1 one ∷ node_row 2 (plain (codes "id") (single false) None 0) (leaf_in text) ∷ [] }
+    ensures of_nodes { rows_below 0 two_users ≡ type_row 0 0 one
+        ∷ node_row 0 (aliased (codes "a")) None ∷ type_row 1 1 one ∷ node_row 1 (plain (codes "name") (single true) None quarter) (leaf_in text)
+        ∷ node_row 0 (aliased (codes "b")) None ∷ type_row 1 1 one ∷ node_row 1 (plain (codes "name") (single true) None quarter) (leaf_in text) ∷ [] }
+{}
+
+/// A response has its errors first, and then its data, without spaces.
+pub fn response_texts()
+    ensures data { response_text (Some (one_node null)) [] ≡ codes "{\"data\":{\"node\":null}}" }
+    ensures list { response_text (Some (tagged (element (leaf (string (codes "a"))) (element null no_element)) (codes "Query"))) [] ≡ codes "{\"data\":{\"tags\":[\"a\",null],\"kind\":\"Query\"}}" }
+    ensures errors { response_text None (failed ∷ unplaced ∷ []) ≡ codes "{\"errors\":[{\"message\":\"x\",\"path\":[\"search\",1]},{\"message\":\"y\"}]}" }
+    ensures both { response_text (Some null) (unplaced ∷ []) ≡ codes "{\"errors\":[{\"message\":\"y\"}],\"data\":null}" }
+{}
+
+/// An error is read with its message and its path, and without its further members.
+pub fn errors_read()
+    ensures absent { errors_of None ≡ Some [] }
+    ensures null { errors_of (Some json_null) ≡ Some [] }
+    ensures empty { errors_of (Some (array no_items)) ≡ Some [] }
+    ensures read { errors_of (Some (array (item (failed_json (array (item (string (codes "search")) (item (number (unsigned 1)) no_items)))) (item unplaced_json no_items)))) ≡ Some (failed ∷ unplaced ∷ []) }
+    ensures below_zero { errors_of (Some (array (item (failed_json (array (item (number (negative (negsuc 0))) no_items))) no_items))) ≡ None }
+    ensures no_list { errors_of (Some unplaced_json) ≡ None }
+    ensures no_message { errors_of (Some (array (item (json_object no_members) no_items))) ≡ None }
 {}

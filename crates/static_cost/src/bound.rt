@@ -14,14 +14,25 @@ ghost use Rattle.static_cost.specs.Parts.{part_of, entry_weight, greatest_of_val
 
 use crate::{FirstKind, FirstList, FirstNode};
 use cost_num::{CAP, Cost, UNIT, add_capped, times_capped};
+use thiserror::Error;
 
 /// That some response costs more than `CAP`, and in which components.
-#[derive(Clone, Copy, Debug, PartialEq, Eq)]
+#[derive(Clone, Copy, Debug, PartialEq, Eq, Error)]
+#[error("{exceeded} of some response is above the greatest that is counted", exceeded = exceeded(*.types, *.fields))]
 pub struct TooCostly {
     /// Whether the type cost of some response exceeds it.
     pub types: bool,
     /// Whether the field cost of some response exceeds it.
     pub fields: bool,
+}
+
+// The components that exceed the cap, by name.
+fn exceeded(types: bool, fields: bool) -> &'static str {
+    match (types, fields) {
+        (true, true) => "the type cost and the field cost",
+        (true, false) => "the type cost",
+        (false, _) => "the field cost",
+    }
 }
 
 /// An operation in which each list of objects has a declared size stands for a sound plan.
@@ -123,7 +134,7 @@ fn value_cost(component: Component, node: &FirstNode) -> u64
 /// The bound of an operation of the first form: in each component the greatest cost that a response can
 /// have whose lists keep their declared sizes. Takes no memory.
 ///
-/// Costs follow the IBM GraphQL Cost Directives Specification, in thousandths: without `@cost` an object
+/// Costs follow the IBM GraphQL Cost Directives Specification, in millionths: without `@cost` an object
 /// and a field that returns objects weigh one, and scalars and their fields weigh nothing. The root
 /// counts as one object.
 ///

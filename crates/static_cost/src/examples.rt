@@ -1,6 +1,6 @@
 //! A small operation and the values of scalars, computed by the definitions alone.
 
-ghost use Rattle.std.specs.Prelude.{◌≡◌, ℕ, ℤ, negsuc, List, Bool, Float, IsTrue, IsFalse};
+ghost use Rattle.std.specs.Prelude.{◌≡◌, ◌*◌, ℕ, ℤ, negsuc, List, Bool, Float, IsTrue, IsFalse};
 ghost use Rattle.serde_json.specs.Data.{null, boolean, number, string, Num, unsigned, negative, float};
 ghost use Rattle.response_model.specs.Cost.{types, fields};
 ghost use Rattle.response_model.specs.Bound.{IsBound};
@@ -9,11 +9,13 @@ ghost use Rattle.static_cost.specs.Leaves.{leaf_number, holds};
 ghost use Rattle.static_cost.specs.FirstPlan.{value_plan, nodes_of_firsts};
 ghost use Rattle.static_cost.specs.Examples.{id_of_friends, plan_of_friends};
 
+use cost_num::UNIT;
+
 /// Three friends of one user: 1 + 1 + 3 values, and the fields `user` and `friends`.
 pub fn bound_of_friends()
     ensures plan { value_plan Object (nodes_of_firsts id_of_friends) ≡ plan_of_friends }
-    ensures types_cost { IsBound holds types plan_of_friends 5000 }
-    ensures fields_cost { IsBound holds fields plan_of_friends 2000 }
+    ensures types_cost { IsBound holds types plan_of_friends (5 * UNIT) }
+    ensures fields_cost { IsBound holds fields plan_of_friends (2 * UNIT) }
 {}
 
 /// Int holds the whole numbers of 32 bits with their sign, and no float.

@@ -1,13 +1,25 @@
 //! Bounds of operations that are built by hand.
 
-ghost use Rattle.std.specs.Prelude.{IfOk};
+ghost use Rattle.std.specs.Prelude.{IfOk, ◌≤◌, ◌/◌};
 ghost use Rattle.static_cost.specs.FirstPlan.{AllSized, HasSize};
 
 use crate::{FirstKind, FirstList, FirstNode, TooCostly, first_bound};
-use cost_num::{CAP, Cost};
+use cost_num::{CAP, Cost, UNIT};
 use gql_base::Text;
 use std::alloc::Global;
+use std::fmt::InlineText;
 use std::test::Fail;
+
+// A cost of whole units.
+fn whole(types: u64, fields: u64) -> Cost
+    requires types { types ≤ CAP / UNIT }
+    requires fields { fields ≤ CAP / UNIT }
+{
+    Cost {
+        types: types * UNIT,
+        fields: fields * UNIT,
+    }
+}
 
 // The selection set with one more field at its front.
 fn with(
@@ -104,54 +116,16 @@ fn lists(alloc: Global, size: u64, levels: u64) -> Result<Vec<FirstNode>, Fail>
 fn bounds_of_small_operations(rt: HostRuntime) -> Result<(), Fail> {
     let alloc = rt.alloc();
     let none = Vec::new(alloc);
-    assert_eq!(rt;
-        first_bound(&none),
-        Ok(Cost {
-            types: 1_000,
-            fields: 0
-        })
-    );
-
-    // { user { id } }
-    let user = object(alloc, "user", lists(alloc, 0, 0)?, Vec::new(alloc))?;
-    assert_eq!(rt;
-        first_bound(&user),
-        Ok(Cost {
-            types: 2_000,
-            fields: 1_000
-        })
-    );
+    assert_eq!(rt; first_bound(&none), Ok(whole(1, 0)));
 
     // { user { friends { id } } }
     let friends = object(alloc, "user", lists(alloc, 3, 1)?, Vec::new(alloc))?;
-    assert_eq!(rt;
-        first_bound(&friends),
-        Ok(Cost {
-            types: 5_000,
-            fields: 2_000
-        })
-    );
-
-    // { tags }
-    let tags = scalars(alloc, "tags", Vec::new(alloc))?;
-    assert_eq!(rt;
-        first_bound(&tags),
-        Ok(Cost {
-            types: 1_000,
-            fields: 0
-        })
-    );
+    assert_eq!(rt; first_bound(&friends), Ok(whole(5, 2)));
 
     // { tags user { id } a { a { id } } }
     let several = object(alloc, "user", lists(alloc, 0, 0)?, lists(alloc, 3, 2)?)?;
     let several = scalars(alloc, "tags", several)?;
-    assert_eq!(rt;
-        first_bound(&several),
-        Ok(Cost {
-            types: 14_000,
-            fields: 5_000
-        })
-    );
+    assert_eq!(rt; first_bound(&several), Ok(whole(14, 5)));
     Ok(())
 }
 
@@ -166,38 +140,21 @@ fn bounds_up_to_the_cap(rt: HostRuntime) -> Result<(), Fail> {
         types: true,
         fields: true,
     };
+    let most = CAP / UNIT;
     for (size, levels, bound) in [
-        (
-            2_000_000_000,
-            1,
-            Ok(Cost {
-                types: 2_000_000_001_000,
-                fields: 1_000,
-            }),
-        ),
+        (2_000_000_000, 1, Ok(whole(2_000_000_001, 1))),
         (2_000_000_000, 2, Err(types)),
         (2_000_000_000, 3, Err(both)),
-        (
-            CAP / 1_000 - 1,
-            1,
-            Ok(Cost {
-                types: CAP,
-                fields: 1_000,
-            }),
-        ),
-        (CAP / 1_000, 1, Err(types)),
+        (most - 1, 1, Ok(whole(most, 1))),
+        (most, 1, Err(types)),
         (u64::MAX, 40, Err(both)),
-        (
-            0,
-            2,
-            Ok(Cost {
-                types: 1_000,
-                fields: 1_000,
-            }),
-        ),
+        (0, 2, Ok(whole(1, 1))),
     ] {
         let nodes = lists(alloc, size, levels)?;
         assert_eq!(rt; first_bound(&nodes), bound, "{levels} lists of {size}");
     }
+    let told = InlineText::<96>::of(types);
+    let sentence = "the type cost of some response is above the greatest that is counted";
+    assert_eq!(rt; told.as_str(), sentence);
     Ok(())
 }

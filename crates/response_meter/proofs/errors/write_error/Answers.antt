@@ -1,7 +1,7 @@
 -- An error is written as its message and its path.
 use Rattle.std.proofs.Common.{sym, ◌∙◌, option_map, string_bytes}
 use Rattle.serde_json.specs.View.{view}
-use Rattle.response_meter.proofs.ErrorTexts.{error_written}
+use Rattle.response_model.proofs.ErrorTexts.{error_written}
 use Rattle.response_meter.proofs.errors.write_error.Goals as goal
 
 pub returns : goal.returns

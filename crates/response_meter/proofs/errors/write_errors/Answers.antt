@@ -3,8 +3,8 @@ use Rattle.std.proofs.Common.{Some, true≢false, option_map, sym, ap, ◌∙◌
 use Rattle.std.specs.Bool.{◌==◌}
 use Rattle.serde_json.specs.View.{view, items_view}
 use Rattle.serde_json.proofs.Views.{view-Array}
-use Rattle.response_meter.specs.Errors.{errors_of, errors_in}
-use Rattle.response_meter.proofs.ErrorTexts.{some_errors, part_written}
+use Rattle.response_model.specs.Errors.{errors_of, errors_in}
+use Rattle.response_model.proofs.ErrorTexts.{some_errors, part_written}
 use Rattle.response_meter.proofs.errors.write_errors.Goals as goal
 
 pub returns-in_ok-write_items-in-Array : goal.returns-in_ok-write_items-in-Array

@@ -2,7 +2,8 @@
 use Rattle.std.proofs.Common.{◌∷◌, [], refl, string_bytes}
 use Rattle.std.proofs.lemmas.Result.{err_from_is_err_and}
 use Rattle.serde_json.specs.View.{items_view}
-use Rattle.response_meter.proofs.ErrorTexts.{errors_begin, errors_step, errors_end, errors_refused}
+use Rattle.response_model.proofs.ErrorTexts.{errors_begin, errors_step, errors_end}
+use Rattle.response_meter.proofs.ErrorFaults.{errors_refused}
 use Rattle.response_meter.proofs.errors.write_items.Goals as goal
 
 pub loop-item-init : goal.loop-item-init

@@ -3,7 +3,7 @@ use Rattle.std.proofs.Common.{drop, string_bytes}
 use denote.Text.{Utf8}
 use denote.Shadow.{shadow}
 use Rattle.serde_json.specs.View.{items_view}
-use Rattle.response_meter.proofs.ErrorTexts.{ErrorsLeft}
+use Rattle.response_model.proofs.ErrorTexts.{ErrorsLeft}
 use Rattle.response_meter.proofs.errors.write_items.Given as goal
 
 abbrev pub invariant-loop-item : goal.invariant-loop-item

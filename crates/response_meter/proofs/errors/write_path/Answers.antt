@@ -1,8 +1,8 @@
 -- A path is written as its steps.
 use Rattle.std.proofs.Common.{option_map, sym, ap, ◌∙◌, string_bytes}
 use Rattle.serde_json.specs.View.{view}
-use Rattle.response_meter.specs.Errors.{path_of}
-use Rattle.response_meter.proofs.ErrorTexts.{path_written}
+use Rattle.response_model.specs.Errors.{path_of}
+use Rattle.response_model.proofs.ErrorTexts.{path_written}
 use Rattle.response_meter.proofs.errors.write_path.Goals as goal
 
 pub returns-in_ok-write_value-in-Some : goal.returns-in_ok-write_value-in-Some

@@ -1,4 +1,4 @@
--- The errors of a reply, read and written.
+-- The errors of a response, read and written.
 use Rattle.std.proofs.Common.{◌≡◌, ◌<◌, ◌≤◌, ◌+◌, ℕ, List, [], ◌∷◌, ◌++◌, length, drop, get_or, true, false, true≢false, ◌||◌, is_some, codes, option_map, option_and_then, Option, Some, None, refl, sym, ap, ◌∙◌, subst, append_assoc}
 use Rattle.std.proofs.lemmas.List.{drop_all}
 use Rattle.serde_json.specs.Data.{Data, null as json_null, boolean, number, string, array, object as json_object, unsigned, negative, float, Items, no_items, item}
@@ -6,51 +6,45 @@ use Rattle.serde_json.specs.Find.{get, as_str, as_array}
 use Rattle.serde_json.specs.Written.{has_float, items_have_float, compact_text}
 use Rattle.serde_json.specs.View.{view, items_view}
 use Rattle.serde_json.specs.declared.value.Value.{Value}
-use Rattle.response_meter.specs.declared.fault.MeterFault.{MeterFault}
-use Rattle.response_meter.specs.declared.fault.MeterFault.TheVariants.{NotResponse, SizeBroken, Memory}
-use Rattle.response_meter.specs.declared.fault.Why.TheVariants.{BadErrors}
-use Rattle.response_meter.specs.Faults.{Fault, Tells, given}
-use Rattle.response_meter.specs.Errors.{PathStep, key, index, ReplyError, read_then, step_of, steps_of, path_of, error_of, error_from, errors_in}
-use Rattle.response_meter.specs.Answer.{comma, steps_json, path_text, error_text, errors_text, errors_part}
-use Rattle.response_meter.specs.Walks.{has_some}
-use Rattle.response_meter.proofs.Left.{text_left}
-use Rattle.response_meter.proofs.Elements.{items_from}
+use Rattle.response_model.specs.Errors.{PathSegment, key_segment, index_segment, ResponseError, read_then, segment_of, segments_of, path_of, error_of, error_from, errors_in, has_errors}
+use Rattle.response_model.specs.ResponseText.{comma, segment_json, segments_json, path_text, error_text, errors_text, errors_part}
+use Rattle.response_model.proofs.Pieces.{text_left, items_from}
 
 -- a path that is well formed has no floats, and is written as its steps
 record Stepped (ds : Items) : Type 0 where
-  steps : List PathStep
-  read : steps_of ds ≡ Some steps
+  steps : List PathSegment
+  read : segments_of ds ≡ Some steps
   no_float : items_have_float ds ≡ false
-  same : steps_json steps ≡ ds
+  same : segments_json steps ≡ ds
 
 false_true : {A : Type 0} → true ≡ false → A
 false_true h = absurd (true≢false h)
 
-step_before : (d : Data) (s : PathStep) (ds : Items) → step_of d ≡ Some s → has_float d ≡ false → Rattle.response_meter.specs.Answer.step_json s ≡ d → Stepped ds → Stepped (item d ds)
+step_before : (d : Data) (s : PathSegment) (ds : Items) → segment_of d ≡ Some s → has_float d ≡ false → segment_json s ≡ d → Stepped ds → Stepped (item d ds)
 step_before d s ds r f e rest = record {
   steps = s ∷ rest.steps;
-  read = ap (λ o. read_then o (steps_of ds)) r ∙ ap (read_then (Some s)) rest.read;
+  read = ap (λ o. read_then o (segments_of ds)) r ∙ ap (read_then (Some s)) rest.read;
   no_float = ap (λ b. b || items_have_float ds) f ∙ rest.no_float;
-  same = ap (λ x. item x (steps_json rest.steps)) e ∙ ap (item d) rest.same;
+  same = ap (λ x. item x (segments_json rest.steps)) e ∙ ap (item d) rest.same;
 }
 
-some_later : (s : PathStep) (o : Option (List PathStep)) → true ≡ is_some (read_then (Some s) o) → true ≡ is_some o
+some_later : (s : PathSegment) (o : Option (List PathSegment)) → true ≡ is_some (read_then (Some s) o) → true ≡ is_some o
 some_later s None h = h
 some_later s (Some ss) h = refl
 
-stepped : (ds : Items) → true ≡ is_some (steps_of ds) → Stepped ds
+stepped : (ds : Items) → true ≡ is_some (segments_of ds) → Stepped ds
 stepped no_items h = record { steps = []; read = refl; no_float = refl; same = refl }
 stepped (item json_null ds) h = false_true h
 stepped (item (boolean b) ds) h = false_true h
-stepped (item (number (unsigned n)) ds) h = step_before (number (unsigned n)) (index n) ds refl refl refl (stepped ds (some_later (index n) (steps_of ds) h))
+stepped (item (number (unsigned n)) ds) h = step_before (number (unsigned n)) (index_segment n) ds refl refl refl (stepped ds (some_later (index_segment n) (segments_of ds) h))
 stepped (item (number (negative z)) ds) h = false_true h
 stepped (item (number (float x)) ds) h = false_true h
-stepped (item (string s) ds) h = step_before (string s) (key s) ds refl refl refl (stepped ds (some_later (key s) (steps_of ds) h))
+stepped (item (string s) ds) h = step_before (string s) (key_segment s) ds refl refl refl (stepped ds (some_later (key_segment s) (segments_of ds) h))
 stepped (item (array es) ds) h = false_true h
 stepped (item (json_object ms) ds) h = false_true h
 
-pub path_written : (before mid after : List ℕ) (d : Data) → true ≡ is_some (option_and_then steps_of (as_array d)) → mid ≡ before ++ codes ",\"path\":" → (has_float d ≡ false → after ≡ mid ++ compact_text d)
-    → (p : Option (List PathStep)) × (path_of (Some d) ≡ Some p) × (after ≡ before ++ path_text p)
+pub path_written : (before mid after : List ℕ) (d : Data) → true ≡ is_some (option_and_then segments_of (as_array d)) → mid ≡ before ++ codes ",\"path\":" → (has_float d ≡ false → after ≡ mid ++ compact_text d)
+    → (p : Option (List PathSegment)) × (path_of (Some d) ≡ Some p) × (after ≡ before ++ path_text p)
 path_written before mid after json_null h e w = false_true h
 path_written before mid after (boolean b) h e w = false_true h
 path_written before mid after (number n) h e w = false_true h
@@ -68,8 +62,8 @@ text_of_error a b c d e m p q r s w x y z t =
     z ∙ ap (λ u. u ++ r) (y ∙ ap (λ u. u ++ q) (x ∙ ap (λ u. u ++ p) w ∙ append_assoc a m p) ∙ append_assoc a (m ++ p) q) ∙ append_assoc a (m ++ p ++ q) r ∙ ap (λ u. a ++ u) (sym t)
 
 pub error_written : (a b c d e : List ℕ) (json m : Data) (o : Option Data) → Some m ≡ get (codes "message") json → true ≡ is_some (as_str m) → b ≡ a ++ codes "{\"message\":"
-    → (has_float m ≡ false → c ≡ b ++ compact_text m) → o ≡ get (codes "path") json → (p : Option (List PathStep)) × (path_of o ≡ Some p) × (d ≡ c ++ path_text p) → e ≡ d ++ codes "}"
-    → (x : ReplyError) × (error_of json ≡ Some x) × (e ≡ a ++ error_text x)
+    → (has_float m ≡ false → c ≡ b ++ compact_text m) → o ≡ get (codes "path") json → (p : Option (List PathSegment)) × (path_of o ≡ Some p) × (d ≡ c ++ path_text p) → e ≡ d ++ codes "}"
+    → (x : ResponseError) × (error_of json ≡ Some x) × (e ≡ a ++ error_text x)
 error_written a b c d e json json_null o f h w x q p z = false_true h
 error_written a b c d e json (boolean v) o f h w x q p z = false_true h
 error_written a b c d e json (number n) o f h w x q p z = false_true h
@@ -84,12 +78,12 @@ error_written a b c d e json (json_object ms) o f h w x q p z = false_true h
 -- what is left of the errors gives the whole
 pub record ErrorsLeft (before now front : List ℕ) (rest all : Items) : Type 0 where
   pub fails : errors_in rest ≡ None → errors_in all ≡ None
-  pub reads : (es : List ReplyError) → errors_in rest ≡ Some es → (fs : List ReplyError) × (errors_in all ≡ Some fs) × (now ++ errors_text front es ≡ before ++ errors_text [] fs)
+  pub reads : (es : List ResponseError) → errors_in rest ≡ Some es → (fs : List ResponseError) × (errors_in all ≡ Some fs) × (now ++ errors_text front es ≡ before ++ errors_text [] fs)
 
 pub errors_begin : (before : List ℕ) (all : Items) → ErrorsLeft before before [] all all
 errors_begin before all = record { fails = λ h. h; reads = λ es h. (es, h, refl) }
 
-one_more : (before now mid after front : List ℕ) (d : Data) (x : ReplyError) (ds all : Items) → ErrorsLeft before now front (item d ds) all → mid ≡ now ++ front → error_of d ≡ Some x → after ≡ mid ++ error_text x
+one_more : (before now mid after front : List ℕ) (d : Data) (x : ResponseError) (ds all : Items) → ErrorsLeft before now front (item d ds) all → mid ≡ now ++ front → error_of d ≡ Some x → after ≡ mid ++ error_text x
     → ErrorsLeft before after comma ds all
 one_more before now mid after front d x ds all l e r w = record {
   fails = λ h. l.fails (ap (λ o. read_then o (errors_in ds)) r ∙ ap (read_then (Some x)) h);
@@ -99,53 +93,33 @@ one_more before now mid after front d x ds all l e r w = record {
 }
 
 pub errors_step : (before now mid after front : List ℕ) (items : List Value) (i : ℕ) (v : Value) → i < length items → v ≡ get_or items i v
-    → ErrorsLeft before now front (items_view (drop i items)) (items_view items) → mid ≡ now ++ front → (x : ReplyError) × (error_of (view v) ≡ Some x) × (after ≡ mid ++ error_text x)
+    → ErrorsLeft before now front (items_view (drop i items)) (items_view items) → mid ≡ now ++ front → (x : ResponseError) × (error_of (view v) ≡ Some x) × (after ≡ mid ++ error_text x)
     → ErrorsLeft before after comma (items_view (drop (i + 1) items)) (items_view items)
 errors_step before now mid after front items i v less is l e w =
     one_more before now mid after front (view v) w.0 (items_view (drop (i + 1) items)) (items_view items)
     (subst (λ (rest : Items). ErrorsLeft before now front rest (items_view items)) (items_from items i v less is) l) e w.1 w.2
 
 pub errors_end : (before now after front : List ℕ) (items : List Value) (i : ℕ) → length items ≤ i → ErrorsLeft before now front (items_view (drop i items)) (items_view items) → after ≡ now ++ codes "]"
-    → (es : List ReplyError) × (errors_in (items_view items) ≡ Some es) × (after ≡ before ++ errors_text [] es)
+    → (es : List ResponseError) × (errors_in (items_view items) ≡ Some es) × (after ≡ before ++ errors_text [] es)
 errors_end before now after front items i most l e =
     let done = subst (λ (rest : List Value). ErrorsLeft before now front (items_view rest) (items_view items)) (drop_all i items most) l in
     let found = done.reads [] refl in
     (found.0, found.1, e ∙ found.2)
 
--- what is not well formed makes the whole not well formed
-none_some : {A : Type 0} {x : Fault} → None ≡ Some x → A
-none_some h = absurd (differ h)
-  where
-    differ : {x : Fault} → None ≡ Some x → ⊥
-    differ h = cc
-
-pub given_same : {A B : Type 0} (f : MeterFault) (o : Option A) (q : Option B) → (o ≡ None → q ≡ None) → Tells f (given o BadErrors (λ x. None)) → Tells f (given q BadErrors (λ x. None))
-given_same (NotResponse path why) None q h t = ap (λ z. given z BadErrors (λ x. None)) (h refl) ∙ t
-given_same (NotResponse path why) (Some x) q h t = none_some t
-given_same (SizeBroken path size length) None q h t = ap (λ z. given z BadErrors (λ x. None)) (h refl) ∙ t
-given_same (SizeBroken path size length) (Some x) q h t = none_some t
-given_same Memory o q h t = tt
-
-pub errors_refused : (before now front : List ℕ) (items : List Value) (i : ℕ) (v : Value) (f : MeterFault) → i < length items → v ≡ get_or items i v
-    → ErrorsLeft before now front (items_view (drop i items)) (items_view items) → Tells f (given (error_of (view v)) BadErrors (λ x. None)) → Tells f (given (errors_in (items_view items)) BadErrors (λ x. None))
-errors_refused before now front items i v f less is l t =
-    given_same f (error_of (view v)) (errors_in (items_view items))
-    (λ none. l.fails (ap errors_in (items_from items i v less is) ∙ ap (λ o. read_then o (errors_in (items_view (drop (i + 1) items)))) none)) t
-
 -- some items have some errors
-some_then : (o : Option ReplyError) (p : Option (List ReplyError)) (es : List ReplyError) → read_then o p ≡ Some es → true ≡ has_some es
+some_then : (o : Option ResponseError) (p : Option (List ResponseError)) (es : List ResponseError) → read_then o p ≡ Some es → true ≡ has_errors es
 some_then o p [] h = absurd (no_front o p h)
   where
-    no_front : (o : Option ReplyError) (p : Option (List ReplyError)) → read_then o p ≡ Some [] → ⊥
+    no_front : (o : Option ResponseError) (p : Option (List ResponseError)) → read_then o p ≡ Some [] → ⊥
     no_front None p h = cc
     no_front (Some x) None h = cc
     no_front (Some x) (Some xs) h = cc
 some_then o p (e ∷ es) h = refl
 
-pub some_errors : (items : List Value) (es : List ReplyError) → (length items ≡ 0 → ⊥) → errors_in (items_view items) ≡ Some es → true ≡ has_some es
+pub some_errors : (items : List Value) (es : List ResponseError) → (length items ≡ 0 → ⊥) → errors_in (items_view items) ≡ Some es → true ≡ has_errors es
 some_errors [] es h r = absurd (h refl)
 some_errors (v ∷ vs) es h r = some_then (error_of (view v)) (errors_in (items_view vs)) es r
 
-pub part_written : (before mid after : List ℕ) (es : List ReplyError) → true ≡ has_some es → mid ≡ before ++ codes "\"errors\":[" → after ≡ mid ++ errors_text [] es → after ≡ before ++ errors_part es
+pub part_written : (before mid after : List ℕ) (es : List ResponseError) → true ≡ has_errors es → mid ≡ before ++ codes "\"errors\":[" → after ≡ mid ++ errors_text [] es → after ≡ before ++ errors_part es
 part_written before mid after [] h e w = absurd (true≢false h)
 part_written before mid after (x ∷ es) h e w = w ∙ ap (λ u. u ++ errors_text [] (x ∷ es)) e ∙ append_assoc before (codes "\"errors\":[") (errors_text [] (x ∷ es))
