@@ -1,22 +1,53 @@
 //! The command line tool: it prices GraphQL operations.
 #![tactic(auto)]
 
-pub use gateway_run::run;
+ghost use Rattle.std.specs.Prelude.{◌≡◌, ◌↔◌};
 
+pub use gateway_run::run;
+use gateway_run::{WordsFault, end_without_command};
 use gql_base::Text;
 use outside::{StdFiles, StdSink};
+use std::alloc::Global;
+use std::env;
+use std::io::ErrorKind;
 use std::process::ExitCode;
-use std::{env, io};
 
-fn main(rt: HostRuntime) -> io::Result<ExitCode> {
-    let alloc = rt.alloc();
-    let mut words = Vec::new(alloc);
-    for word in env::args(&rt)?.skip(1) {
-        words.push(Text::copy_of(alloc, word.as_str())?)?;
+// Why the system's words could not be had: for want of memory, or since one is not UTF-8.
+fn words_fault(kind: ErrorKind) -> WordsFault
+    ensures { (result ≡ WordsFault.Memory) ↔ (kind ≡ ErrorKind.OutOfMemory) }
+{
+    match kind {
+        ErrorKind::OutOfMemory => WordsFault::Memory,
+        _ => WordsFault::Usage,
     }
-    let mut files = StdFiles::new(rt.clone()?);
+}
+
+// The words after the program's name.
+fn words_given(rt: &HostRuntime, alloc: Global) -> Result<Vec<Text>, WordsFault> {
+    let given = match env::args(rt) {
+        Ok(given) => given,
+        Err(error) => return Err(words_fault(error.kind())),
+    };
+    let mut words = Vec::new(alloc);
+    for word in given.skip(1) {
+        if words.push(Text::from(word)).is_err() {
+            return Err(WordsFault::Memory);
+        }
+    }
+    Ok(words)
+}
+
+fn main(rt: HostRuntime) -> ExitCode {
+    let alloc = rt.alloc();
     let mut out = StdSink::new(rt.stdout());
     let mut err = StdSink::new(rt.stderr());
-    let status = run(&rt, alloc, &words, &mut files, &mut out, &mut err);
-    Ok(ExitCode::from(status))
+    let words = match words_given(&rt, alloc) {
+        Ok(words) => words,
+        Err(fault) => return ExitCode::from(end_without_command(fault, &mut out, &mut err)),
+    };
+    let Ok(reached) = rt.clone() else {
+        return ExitCode::from(end_without_command(WordsFault::Memory, &mut out, &mut err));
+    };
+    let mut files = StdFiles::new(reached);
+    ExitCode::from(run(&rt, alloc, &words, &mut files, &mut out, &mut err))
 }

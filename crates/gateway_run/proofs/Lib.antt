@@ -1,3 +1,3 @@
-mod Commands
+mod Words
 mod Refusals
-mod FaultStatuses
+mod Replies

@@ -1,8 +1,10 @@
-pub mod Words
+pub mod Commands
 pub mod Reading
 pub mod Texts
-pub mod Statuses
-pub mod Causes
 pub mod Operations
-pub mod Outcomes
 pub mod Faults
+pub mod Outcomes
+pub mod Refusals
+pub mod Price
+pub mod Meter
+pub mod Program

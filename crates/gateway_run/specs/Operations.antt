@@ -11,9 +11,10 @@ use Rattle.first_form.specs.Documents.{HasFirstDocument}
 use Rattle.static_cost.specs.declared.first.FirstNode.{FirstNode}
 use Rattle.static_cost.specs.Nodes.{Firsts, firsts_of}
 use Rattle.static_cost.specs.FirstPlan.{plan_of}
-use Rattle.static_cost.specs.FirstBound.{IsBoundOf, ExceedsCap}
+use Rattle.static_cost.specs.FirstBound.{IsBoundOf, IsWithinCap, ExceedsCap}
 use Rattle.response_meter.specs.declared.metered.FirstMetered.{FirstMetered}
 use Rattle.response_meter.specs.declared.fault.MeterFault.{MeterFault}
+use Rattle.response_meter.specs.declared.fault.MeterFault.TheVariants.{Memory as MeterMemory}
 use Rattle.response_meter.specs.Faults.{Tells}
 use Rattle.response_meter.specs.Metered.{IsMetered, first_fault}
 use Rattle.gateway_run.specs.declared.operation.TheConstants.{SCHEMA_LIMIT, DOCUMENT_LIMIT}
@@ -61,9 +62,9 @@ pub record HoldOperation (schema document : List ℕ) (operation : List FirstNod
 abbrev pub OfOperation : List ℕ → List ℕ → (List FirstNode → Type 0) → Type 0
 OfOperation schema document P = (operation : List FirstNode) × HoldOperation schema document operation × P operation
 
--- The operation of the two files has this bound, in both components.
+-- The operation of the two files has this bound, which is within the cap, in both components.
 abbrev pub HasPrice : List ℕ → List ℕ → Cost → Type 0
-HasPrice schema document cost = OfOperation schema document (λ operation. IsBoundOf operation cost)
+HasPrice schema document cost = OfOperation schema document (λ operation. IsBoundOf operation cost × IsWithinCap cost)
 
 -- Some response of the operation costs more than the cap, in just the components that the refusal names.
 abbrev pub IsTooCostly : List FirstNode → Refusal → Type 0
@@ -85,10 +86,18 @@ IsRefused schema document TypesTooCostly = OfOperation schema document (λ opera
 IsRefused schema document FieldsTooCostly = OfOperation schema document (λ operation. IsTooCostly operation FieldsTooCostly)
 IsRefused schema document BothTooCostly = OfOperation schema document (λ operation. IsTooCostly operation BothTooCostly)
 
--- The reply to the operation of the two files is measured so.
-abbrev pub IsMeasured : List ℕ → List ℕ → List ℕ → FirstMetered → Type 0
-IsMeasured schema document reply metered = OfOperation schema document (λ operation. IsMetered (plan_of operation) reply metered)
+-- The bound of the operation is within the cap.
+abbrev pub IsAffordable : List FirstNode → Type 0
+IsAffordable operation = (bound : Cost) × IsBoundOf operation bound × IsWithinCap bound
 
--- The first test that the reply to the operation of the two files does not pass.
+-- The operation of the two files is one whose bound is within the cap, and the reply to it is measured so.
+abbrev pub IsMeasured : List ℕ → List ℕ → List ℕ → FirstMetered → Type 0
+IsMeasured schema document reply metered = OfOperation schema document (λ operation. IsAffordable operation × IsMetered (plan_of operation) reply metered)
+
+-- This is the first test that the reply does not pass; want of memory is none.
+abbrev pub IsFirstFault : List FirstNode → List ℕ → MeterFault → Type 0
+IsFirstFault operation reply fault = Tells fault (first_fault (plan_of operation) reply) × (fault ≢ MeterMemory)
+
+-- The operation of the two files is one whose bound is within the cap, and this is the first test that the reply to it does not pass.
 abbrev pub IsFaulty : List ℕ → List ℕ → List ℕ → MeterFault → Type 0
-IsFaulty schema document reply fault = OfOperation schema document (λ operation. Tells fault (first_fault (plan_of operation) reply))
+IsFaulty schema document reply fault = OfOperation schema document (λ operation. IsAffordable operation × IsFirstFault operation reply fault)

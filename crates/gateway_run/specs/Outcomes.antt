@@ -1,64 +1,94 @@
--- What the commands came to, by the contents of their files, where these are told.
-use Rattle.std.specs.Prelude.{ℕ, ◌<◌, ◌≤◌, ◌⊎◌, ◌++◌, List, Option, length}
-use Rattle.std.specs.Io.KnownBytes.{Appends}
-use Rattle.cost_num.specs.declared.Cost.{Cost}
-use Rattle.cost_num.specs.CostText.{cost_text}
-use Rattle.gateway_run.specs.declared.operation.TheConstants.{SCHEMA_LIMIT, DOCUMENT_LIMIT}
-use Rattle.gateway_run.specs.declared.operation.Refusal.{Refusal}
-use Rattle.gateway_run.specs.declared.meter.TheConstants.{REPLY_LIMIT}
-use Rattle.response_meter.specs.declared.metered.FirstMetered.{FirstMetered}
-use Rattle.response_meter.specs.declared.fault.MeterFault.{MeterFault}
-use Rattle.gateway_run.specs.Reading.{IsRead}
-use Rattle.gateway_run.specs.Operations.{HasPrice, IsRefused, IsMeasured, IsFaulty}
-use Rattle.gateway_run.specs.Texts.{line, refusal_text, meter_text, SaysTooLarge, IsStatusOf}
+-- What commands come to, and what is written of it with which status.
+use Rattle.std.specs.Prelude.{◌≡◌, ◌⊎◌, ℕ, List, Option}
+use Rattle.std.specs.Io.KnownBytes.{Appends, Keeps}
+use Rattle.outside.specs.Faults.{Rose}
+use Rattle.gateway_run.specs.declared.finish.TheConstants.{USAGE_TEXT}
+use Rattle.gateway_run.specs.declared.outcome.Outcome.{Outcome}
+use Rattle.gateway_run.specs.declared.outcome.Outcome.TheVariants.{Done, Refused, FileFailed, Faulty, Usage, Memory}
+use Rattle.gateway_run.specs.declared.outcome.TheConstants.{DONE, REFUSED, USAGE, FILE_FAILED, STREAM_FAILED, NO_MEMORY}
+use Rattle.gateway_run.specs.Texts.{line, file_text}
 
--- The bytes that were read of the two files are ones for which this holds.
-abbrev pub OfFiles : Option (List ℕ) → Option (List ℕ) → (List ℕ → List ℕ → Type 0) → Type 0
-OfFiles schema document P = (s d : List ℕ) × IsRead SCHEMA_LIMIT schema s × IsRead DOCUMENT_LIMIT document d × P s d
+-- ---- what a command comes to
 
--- The operation of the two files has this price.
-abbrev pub IsPrice : Option (List ℕ) → Option (List ℕ) → Cost → Type 0
-IsPrice schema document cost = OfFiles schema document (λ s d. HasPrice s d cost)
+-- What the files tell of a call: what the file of a name holds, and the count of its faults before and after.
+pub record FilesTold : Type 0 where
+  pub content : List ℕ → Option (List ℕ)
+  pub faults_before : List ℕ → ℕ
+  pub faults_after : List ℕ → ℕ
 
--- The operation of the two files is refused so.
-abbrev pub IsRefusal : Option (List ℕ) → Option (List ℕ) → Refusal → Type 0
-IsRefusal schema document refusal = OfFiles schema document (λ s d. IsRefused s d refusal)
+abbrev pub files_told : (List ℕ → Option (List ℕ)) → (List ℕ → ℕ) → (List ℕ → ℕ) → FilesTold
+files_told content before after = record {
+  content = content;
+  faults_before = before;
+  faults_after = after;
+}
 
--- The line of the price was written.
-abbrev pub PrintsPrice : Option (List ℕ) → Option (List ℕ) → Option (List ℕ) → Option (List ℕ) → Type 0
-PrintsPrice schema document before after = (cost : Cost) × IsPrice schema document cost × Appends before after (line (cost_text cost))
+-- The file of one of these names was not read, and the count of its faults rose; or there was no memory.
+abbrev pub IsStopped : (List ℕ → Type 0) → FilesTold → Outcome → Type 0
+IsStopped IsName files (FileFailed name) = IsName name × Rose (files.faults_before name) (files.faults_after name)
+IsStopped IsName files Memory = Unit {0}
+IsStopped IsName files other = ⊥
 
--- The line of the refusal was written.
-abbrev pub PrintsRefusal : Option (List ℕ) → Option (List ℕ) → Option (List ℕ) → Option (List ℕ) → Type 0
-PrintsRefusal schema document before after = (refusal : Refusal) × IsRefusal schema document refusal × Appends before after (line (refusal_text refusal))
+-- It was done with this output, or there was no memory.
+abbrev pub IsDone : List ℕ → Outcome → Type 0
+IsDone output (Done bytes) = bytes.items ≡ output
+IsDone output Memory = Unit {0}
+IsDone output other = ⊥
 
--- The bytes that were read of the three files are ones for which this holds, and those of the reply are within the limit.
-abbrev pub WithReply : Option (List ℕ) → Option (List ℕ) → Option (List ℕ) → (List ℕ → List ℕ → List ℕ → Type 0) → Type 0
-WithReply schema document reply P = OfFiles schema document (λ s d. (r : List ℕ) × IsRead REPLY_LIMIT reply r × (length r ≤ REPLY_LIMIT) × P s d r)
+-- It was refused with this text, or there was no memory.
+abbrev pub IsRefusedAs : List ℕ → Outcome → Type 0
+IsRefusedAs text (Refused told) = told ≡ text
+IsRefusedAs text Memory = Unit {0}
+IsRefusedAs text other = ⊥
 
--- The reply file is longer than its limit.
-abbrev pub IsTooLarge : Option (List ℕ) → Type 0
-IsTooLarge reply = (r : List ℕ) × IsRead REPLY_LIMIT reply r × (REPLY_LIMIT < length r)
+-- It has this status and text of its own, or there was no memory.
+abbrev pub IsFaultyAs : ℕ → List ℕ → Outcome → Type 0
+IsFaultyAs status text (Faulty number told) = (number ≡ status) × (told ≡ text)
+IsFaultyAs status text Memory = Unit {0}
+IsFaultyAs status text other = ⊥
 
--- The reply is measured so.
-abbrev pub IsMeasure : Option (List ℕ) → Option (List ℕ) → Option (List ℕ) → FirstMetered → Type 0
-IsMeasure schema document reply metered = WithReply schema document reply (λ s d r. IsMeasured s d r metered)
+-- ---- what is written of it
 
--- This is the first test that the reply does not pass.
-abbrev pub IsReplyFault : Option (List ℕ) → Option (List ℕ) → Option (List ℕ) → MeterFault → Type 0
-IsReplyFault schema document reply fault = WithReply schema document reply (λ s d r. IsFaulty s d r fault)
+-- What a stream tells of a call: what was written on it and the count of its faults, before and after.
+pub record StreamTold : Type 0 where
+  pub before : Option (List ℕ)
+  pub after : Option (List ℕ)
+  pub faults_before : ℕ
+  pub faults_after : ℕ
 
--- The lines of the measured cost and of the answer were written.
-abbrev pub PrintsMeasure : Option (List ℕ) → Option (List ℕ) → Option (List ℕ) → Option (List ℕ) → Option (List ℕ) → Type 0
-PrintsMeasure schema document reply before after =
-    (metered : FirstMetered) × IsMeasure schema document reply metered × Appends before after (line (cost_text metered.cost) ++ line metered.text)
+abbrev pub stream_told : Option (List ℕ) → Option (List ℕ) → ℕ → ℕ → StreamTold
+stream_told before after faults_before faults_after = record {
+  before = before;
+  after = after;
+  faults_before = faults_before;
+  faults_after = faults_after;
+}
 
--- The line of the reply's fault was written, and the status is the fault's.
-abbrev pub PrintsReplyFault : Option (List ℕ) → Option (List ℕ) → Option (List ℕ) → ℕ → Option (List ℕ) → Option (List ℕ) → Type 0
-PrintsReplyFault schema document reply status before after =
-    (fault : MeterFault) × IsReplyFault schema document reply fault × IsStatusOf fault status × Appends before after (line (meter_text fault))
+-- Just this was written on the stream.
+abbrev pub Gains : StreamTold → List ℕ → Type 0
+Gains stream text = Appends stream.before stream.after text
 
--- The line of a reply that is too large was written, or that of the refusal of the two files.
-abbrev pub PrintsMeterRefusal : List ℕ → Option (List ℕ) → Option (List ℕ) → Option (List ℕ) → Option (List ℕ) → Option (List ℕ) → Type 0
-PrintsMeterRefusal name schema document reply before after =
-    (IsTooLarge reply × SaysTooLarge name before after) ⊎ PrintsRefusal schema document before after
+-- Nothing was written on it.
+abbrev pub IsKept : StreamTold → Type 0
+IsKept stream = Keeps stream.before stream.after
+
+-- It failed.
+abbrev pub HasFailed : StreamTold → Type 0
+HasFailed stream = Rose stream.faults_before stream.faults_after
+
+-- The text was written whole and the status is this, or the stream failed and the status is that of a failed stream.
+abbrev pub Writes : List ℕ → ℕ → ℕ → StreamTold → Type 0
+Writes text status result stream = ((result ≡ status) × Gains stream text) ⊎ ((result ≡ STREAM_FAILED) × HasFailed stream)
+
+-- The status is this, and the text was written whole or the stream failed.
+abbrev pub Mentions : List ℕ → ℕ → ℕ → StreamTold → Type 0
+Mentions text status result stream = (result ≡ status) × (Gains stream text ⊎ HasFailed stream)
+
+-- What an outcome ends with: the status, and what is written on the output stream and on the error stream.
+abbrev pub Ends : Outcome → ℕ → StreamTold → StreamTold → Type 0
+Ends (Done output) result out err = Writes (line output.items) DONE result out × IsKept err
+Ends (Refused text) result out err = IsKept out × Writes (line text) REFUSED result err
+Ends (FileFailed name) result out err = IsKept out × Mentions (line (file_text name)) FILE_FAILED result err
+Ends (Faulty status text) result out err = IsKept out × Writes (line text) status result err
+Ends Usage result out err = IsKept out × Mentions USAGE_TEXT.now USAGE result err
+Ends Memory result out err = (result ≡ NO_MEMORY) × IsKept out × IsKept err

@@ -1,7 +1,6 @@
 -- The lines that the commands write.
-use Rattle.std.specs.Prelude.{◌≡◌, ℕ, List, Option, [], ◌∷◌, ◌++◌, codes}
+use Rattle.std.specs.Prelude.{ℕ, List, [], ◌∷◌, ◌++◌, codes}
 use Rattle.std.specs.Fmt.{decimal}
-use Rattle.std.specs.Io.KnownBytes.{Appends}
 use Rattle.gql_base.specs.declared.lexing.LexFault.TheVariants as lexical
 use Rattle.document_reader.specs.declared.document.DocFault.{DocFault}
 use Rattle.document_reader.specs.declared.document.DocFault.TheVariants.{Lex, Unexpected, TooDeep, Memory as DocumentMemory}
@@ -9,7 +8,6 @@ use Rattle.response_meter.specs.declared.fault.Why.{Why}
 use Rattle.response_meter.specs.declared.fault.Why.TheVariants.{NotJson, NotObject, NoData, BadErrors, MissingKey, ExtraKey, NullHere, NotList, BadLeaf, BadType, BadObject}
 use Rattle.response_meter.specs.declared.fault.MeterFault.{MeterFault}
 use Rattle.response_meter.specs.declared.fault.MeterFault.TheVariants.{NotResponse, SizeBroken, Memory}
-use Rattle.gateway_run.specs.declared.report.TheConstants.{SIZE_BROKEN, NOT_RESPONSE}
 use Rattle.gateway_run.specs.declared.operation.Refusal.{Refusal}
 use Rattle.gateway_run.specs.declared.operation.Refusal.TheVariants.{SchemaNotBuilt, NoDocument, DocumentNotBuilt, TypesTooCostly, FieldsTooCostly, BothTooCostly}
 
@@ -46,10 +44,6 @@ refusal_text BothTooCostly = codes "bound 1 TooCostly both"
 abbrev pub file_text : List ℕ → List ℕ
 file_text name = codes "file " ++ name
 
--- the line of a file that was not read was written
-abbrev pub SaysFile : List ℕ → Option (List ℕ) → Option (List ℕ) → Type 0
-SaysFile name before after = Appends before after (line (file_text name))
-
 -- a file is longer than its limit
 abbrev pub too_large_text : List ℕ → List ℕ
 too_large_text name = codes "input 1 TooLarge " ++ name
@@ -72,13 +66,3 @@ abbrev pub meter_text : MeterFault → List ℕ
 meter_text (NotResponse path why) = codes "meter 1 NotResponse " ++ path ++ (32 ∷ why_text why)
 meter_text (SizeBroken path size length) = codes "meter 2 SizeBroken " ++ path ++ (32 ∷ (decimal size ++ (32 ∷ decimal length)))
 meter_text Memory = []
-
--- the line of a file that is too large was written
-abbrev pub SaysTooLarge : List ℕ → Option (List ℕ) → Option (List ℕ) → Type 0
-SaysTooLarge name before after = Appends before after (line (too_large_text name))
-
--- the status that a fault of a reply ends with
-abbrev pub IsStatusOf : MeterFault → ℕ → Type 0
-IsStatusOf (NotResponse path why) status = status ≡ NOT_RESPONSE
-IsStatusOf (SizeBroken path size length) status = status ≡ SIZE_BROKEN
-IsStatusOf Memory status = ⊥

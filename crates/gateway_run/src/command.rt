@@ -1,112 +1,124 @@
-//! The one call that does all of the program.
+//! The commands, and the words that ask for them.
 
-ghost use Rattle.std.specs.Prelude.{◌≡◌, ◌≤◌, ◌⊎◌};
-ghost use Rattle.std.specs.Io.KnownBytes.{Keeps};
-ghost use Rattle.outside.specs.Faults.{Rose};
-ghost use Rattle.gateway_run.specs.Texts.{SaysFile};
-ghost use Rattle.gateway_run.specs.Words.{IsPriceOf, IsMeterOf, IsNoPrice, IsNoMeter, IsNoCommand};
-ghost use Rattle.gateway_run.specs.Statuses.{IsSilent, IsQuiet};
-ghost use Rattle.gateway_run.specs.Outcomes.{PrintsPrice, PrintsRefusal, PrintsMeasure, PrintsMeterRefusal, PrintsReplyFault};
+ghost use Rattle.std.specs.Prelude.{◌≡◌, ◌↔◌, IfOk, IfSome, IfNone, IsErrOf};
+ghost use Rattle.gateway_run.specs.Commands.{price_words, meter_words, IsNoPrice, IsNoMeter, Asks, IsNoCommand};
 
-use crate::meter::meter;
-use crate::price::price;
-use crate::report;
-use crate::report::{DONE, FILE_FAILED, NOT_RESPONSE, REFUSED, SIZE_BROKEN, STREAM_FAILED, USAGE};
 use gql_base::Text;
-use outside::{Files, Sink};
-use std::alloc::Global;
+use std::alloc::{AllocError, Global};
 
-// Does the command `meter`, or says how the program is used where the words are not its.
-fn meter_or_usage<F: Files, K: Sink, E: Sink>(
-    alloc: Global,
-    words: &[Text],
-    files: &mut F,
-    out: &mut K,
-    err: &mut E,
-) -> u8
-    ensures known { result ≤ NOT_RESPONSE }
-    ensures done { result ≡ DONE → IsMeterOf words.now (λ schema document reply.
-        PrintsMeasure (F.content files.old schema) (F.content files.old document) (F.content files.old reply)
-        (K.written out.old) (K.written out.new)) }
-    ensures refused { result ≡ REFUSED → IsMeterOf words.now (λ schema document reply.
-        PrintsMeterRefusal reply (F.content files.old schema) (F.content files.old document)
-        (F.content files.old reply) (E.written err.old) (E.written err.new)) }
-    ensures usage { result ≡ USAGE → IsNoMeter words.now }
-    ensures other_words { IsNoMeter words.now → result ≡ USAGE }
-    ensures file_failed { result ≡ FILE_FAILED → Rose (F.faults files.old) (F.faults files.new)
-        × IsMeterOf words.now (λ schema document reply. SaysFile schema (E.written err.old) (E.written err.new)
-        ⊎ SaysFile document (E.written err.old) (E.written err.new)
-        ⊎ SaysFile reply (E.written err.old) (E.written err.new) ⊎ Rose (E.faults err.old) (E.faults err.new)) }
-    ensures stream_failed { result ≡ STREAM_FAILED → Rose (K.faults out.old) (K.faults out.new)
-        ⊎ Rose (E.faults err.old) (E.faults err.new) }
-    ensures size_broken { result ≡ SIZE_BROKEN → IsMeterOf words.now (λ schema document reply.
-        PrintsReplyFault (F.content files.old schema) (F.content files.old document) (F.content files.old reply)
-        SIZE_BROKEN (E.written err.old) (E.written err.new)) }
-    ensures not_response { result ≡ NOT_RESPONSE → IsMeterOf words.now (λ schema document reply.
-        PrintsReplyFault (F.content files.old schema) (F.content files.old document) (F.content files.old reply)
-        NOT_RESPONSE (E.written err.old) (E.written err.new)) }
-    ensures silent { IsSilent result → Keeps (K.written out.old) (K.written out.new) }
-    ensures quiet { IsQuiet result → Keeps (E.written err.old) (E.written err.new) }
+/// A command, with the names of its files.
+#[derive(Drop)]
+pub enum Command {
+    /// Says what an operation costs at most.
+    Price {
+        schema: Text,
+        document: Text,
+    },
+    /// Says what a reply to an operation cost, and what its client is answered.
+    Meter {
+        schema: Text,
+        document: Text,
+        reply: Text,
+    },
+}
+
+/// Why words were not read into a command.
+#[derive(Clone, Copy, Debug, Drop, PartialEq, Eq)]
+pub enum WordsFault {
+    /// They are those of no command.
+    Usage,
+    /// There was no memory.
+    Memory,
+}
+
+impl From<AllocError> for WordsFault {
+    ghost use Rattle.std.specs.Prelude.{◌≡◌};
+    ghost use Rattle.gateway_run.specs.declared.command.WordsFault.TheVariants.{Memory};
+
+    ghost from_gives = { λ _ fault. fault ≡ Memory };
+
+    fn from(_error: AllocError) -> WordsFault {
+        WordsFault::Memory
+    }
+}
+
+// The names in the words of a price command.
+fn price_names(words: &[Text]) -> Option<(&Text, &Text)>
+    ensures some { IfSome result (λ names. words.now ≡ price_words names.0.now names.1.now) }
+    ensures none { IfNone result (IsNoPrice words.now) }
+{
+    if let [command, schema, document] = words {
+        if command.as_str() == "price" {
+            return Some((schema, document));
+        }
+    }
+    None
+}
+
+// The names in the words of a meter command.
+fn meter_names(words: &[Text]) -> Option<(&Text, &Text, &Text)>
+    ensures some { IfSome result (λ names. words.now ≡ meter_words names.0.now names.1.now names.2.now) }
+    ensures none { IfNone result (IsNoMeter words.now) }
 {
     if let [command, schema, document, reply] = words {
         if command.as_str() == "meter" {
-            return meter(
-                alloc,
-                schema.as_str(),
-                document.as_str(),
-                reply.as_str(),
-                files,
-                out,
-                err,
-            );
+            return Some((schema, document, reply));
         }
     }
-    report::write_usage(err)
+    None
 }
 
-/// Does what the words after the program's name say, and gives the status to end with.
-pub fn run<Rt, F: Files, K: Sink, E: Sink>(
-    rt: &Rt,
-    alloc: Global,
-    words: &[Text],
-    files: &mut F,
-    out: &mut K,
-    err: &mut E,
-) -> u8
-    ensures known { result ≤ NOT_RESPONSE }
-    ensures done { result ≡ DONE
-        → IsPriceOf words.now (λ schema document. PrintsPrice (F.content files.old schema)
-        (F.content files.old document) (K.written out.old) (K.written out.new))
-        ⊎ IsMeterOf words.now (λ schema document reply. PrintsMeasure (F.content files.old schema)
-        (F.content files.old document) (F.content files.old reply) (K.written out.old) (K.written out.new)) }
-    ensures refused { result ≡ REFUSED
-        → IsPriceOf words.now (λ schema document. PrintsRefusal (F.content files.old schema)
-        (F.content files.old document) (E.written err.old) (E.written err.new))
-        ⊎ IsMeterOf words.now (λ schema document reply. PrintsMeterRefusal reply (F.content files.old schema)
-        (F.content files.old document) (F.content files.old reply) (E.written err.old) (E.written err.new)) }
-    ensures usage { result ≡ USAGE → IsNoCommand words.now }
-    ensures other_words { IsNoCommand words.now → result ≡ USAGE }
-    ensures file_failed { result ≡ FILE_FAILED → Rose (F.faults files.old) (F.faults files.new)
-        × (IsPriceOf words.now (λ schema document. SaysFile schema (E.written err.old) (E.written err.new)
-        ⊎ SaysFile document (E.written err.old) (E.written err.new) ⊎ Rose (E.faults err.old) (E.faults err.new))
-        ⊎ IsMeterOf words.now (λ schema document reply. SaysFile schema (E.written err.old) (E.written err.new)
-        ⊎ SaysFile document (E.written err.old) (E.written err.new)
-        ⊎ SaysFile reply (E.written err.old) (E.written err.new) ⊎ Rose (E.faults err.old) (E.faults err.new))) }
-    ensures stream_failed { result ≡ STREAM_FAILED → Rose (K.faults out.old) (K.faults out.new) ⊎ Rose (E.faults err.old) (E.faults err.new) }
-    ensures size_broken { result ≡ SIZE_BROKEN → IsMeterOf words.now (λ schema document reply.
-        PrintsReplyFault (F.content files.old schema) (F.content files.old document) (F.content files.old reply)
-        SIZE_BROKEN (E.written err.old) (E.written err.new)) }
-    ensures not_response { result ≡ NOT_RESPONSE → IsMeterOf words.now (λ schema document reply.
-        PrintsReplyFault (F.content files.old schema) (F.content files.old document) (F.content files.old reply)
-        NOT_RESPONSE (E.written err.old) (E.written err.new)) }
-    ensures silent { IsSilent result → Keeps (K.written out.old) (K.written out.new) }
-    ensures quiet { IsQuiet result → Keeps (E.written err.old) (E.written err.new) }
+// A copy of a word.
+fn copied(alloc: Global, word: &Text) -> Result<Text, AllocError>
+    ensures { IfOk result (λ copy. copy ≡ word.now) }
 {
-    let _ = rt;
-    if let [command, schema, document] = words {
-        if command.as_str() == "price" {
-            return price(alloc, schema.as_str(), document.as_str(), files, out, err);
-        }
+    Text::copy_of(alloc, word.as_str())
+}
+
+// The price command for these names.
+fn price_command(alloc: Global, schema: &Text, document: &Text) -> Result<Command, AllocError>
+    ensures { IfOk result (λ command. command ≡ Command.Price schema.now document.now) }
+{
+    let schema = copied(alloc, schema)?;
+    let document = copied(alloc, document)?;
+    Ok(Command::Price { schema, document })
+}
+
+// The meter command for these names.
+fn meter_command(
+    alloc: Global,
+    schema: &Text,
+    document: &Text,
+    reply: &Text,
+) -> Result<Command, AllocError>
+    ensures { IfOk result (λ command. command ≡ Command.Meter schema.now document.now reply.now) }
+{
+    let schema = copied(alloc, schema)?;
+    let document = copied(alloc, document)?;
+    let reply = copied(alloc, reply)?;
+    Ok(Command::Meter {
+        schema,
+        document,
+        reply,
+    })
+}
+
+/// The command that words ask for.
+pub fn command_of(alloc: Global, words: &[Text]) -> Result<Command, WordsFault>
+    ensures asked { IfOk result (Asks words.now) }
+    ensures usage { IsErrOf result WordsFault.Usage ↔ IsNoCommand words.now }
+{
+    if let Some((schema, document)) = price_names(words) {
+        return match price_command(alloc, schema, document) {
+            Ok(command) => Ok(command),
+            Err(_) => Err(WordsFault::Memory),
+        };
     }
-    meter_or_usage(alloc, words, files, out, err)
+    if let Some((schema, document, reply)) = meter_names(words) {
+        return match meter_command(alloc, schema, document, reply) {
+            Ok(command) => Ok(command),
+            Err(_) => Err(WordsFault::Memory),
+        };
+    }
+    Err(WordsFault::Usage)
 }

@@ -1,13 +1,23 @@
 //! The commands of the program, and the one call that does all of it.
+//!
+//! Words are read into a command, a command comes to an outcome, and an outcome is written.
 #![tactic(auto)]
 
 mod command;
+mod finish;
 mod inputs;
 mod meter;
 mod operation;
+mod outcome;
 mod price;
-mod report;
+mod program;
+mod reply_texts;
 #[cfg(test)]
 mod tests;
+mod texts;
 
-pub use command::run;
+pub use command::WordsFault;
+pub use outcome::{
+    DONE, FILE_FAILED, NO_MEMORY, NOT_RESPONSE, REFUSED, SIZE_BROKEN, STREAM_FAILED, USAGE,
+};
+pub use program::{end_without_command, run};

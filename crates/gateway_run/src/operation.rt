@@ -39,6 +39,14 @@ pub enum Refusal {
     BothTooCostly,
 }
 
+/// An operation with its bound.
+#[derive(Drop)]
+pub struct Bounded {
+    pub operation: Vec<FirstNode>,
+    /// Within the cap in both components.
+    pub bound: Cost,
+}
+
 /// Why an operation was not read or has no price.
 #[derive(Clone, Copy, Debug, Drop, PartialEq, Eq)]
 pub enum OperationFault {
@@ -127,8 +135,8 @@ fn operation_in(
     nodes.ok_or(OperationFault::Refused(Refusal::DocumentNotBuilt))
 }
 
-/// The operation that the bytes of a schema file and of a document file hold.
-pub fn operation_of(
+// The operation that the bytes of a schema file and of a document file hold.
+fn operation_of(
     alloc: Global,
     schema: Vec<u8>,
     document: Vec<u8>,
@@ -157,8 +165,8 @@ fn too_costly(fault: TooCostly) -> Refusal
     }
 }
 
-/// The bound of an operation.
-pub fn bound_of(nodes: &[FirstNode]) -> Result<Cost, Refusal>
+// The bound of an operation.
+fn bound_of(nodes: &[FirstNode]) -> Result<Cost, Refusal>
     requires sized { AllSized nodes.now }
     ensures bound { IfOk result (IsBoundOf nodes.now) }
     ensures within_cap { IfOk result IsWithinCap }
@@ -167,5 +175,26 @@ pub fn bound_of(nodes: &[FirstNode]) -> Result<Cost, Refusal>
     match first_bound(nodes) {
         Ok(cost) => Ok(cost),
         Err(fault) => Err(too_costly(fault)),
+    }
+}
+
+/// The operation that the bytes of a schema file and of a document file hold, where its bound is within the cap.
+pub fn bounded_operation(
+    alloc: Global,
+    schema: Vec<u8>,
+    document: Vec<u8>,
+) -> Result<Bounded, OperationFault>
+    ensures held { IfOk result (λ bounded. HoldOperation schema.items document.items bounded.operation.items) }
+    ensures bound { IfOk result (λ bounded. IsBoundOf bounded.operation.items bounded.bound) }
+    ensures within_cap { IfOk result (λ bounded. IsWithinCap bounded.bound) }
+    ensures refused { IfErr result (λ fault. IfRefusedAs fault (IsRefused schema.items document.items)) }
+{
+    let operation = match operation_of(alloc, schema, document) {
+        Ok(operation) => operation,
+        Err(fault) => return Err(fault),
+    };
+    match bound_of(&operation) {
+        Ok(bound) => Ok(Bounded { operation, bound }),
+        Err(refusal) => Err(OperationFault::Refused(refusal)),
     }
 }

@@ -1,5 +1,7 @@
--- The words of the commands.
+-- The commands, and the words that ask for them.
 use Rattle.std.specs.Prelude.{◌≡◌, ℕ, List, [], ◌∷◌, codes}
+use Rattle.gateway_run.specs.declared.command.Command.{Command}
+use Rattle.gateway_run.specs.declared.command.Command.TheVariants.{Price, Meter}
 
 -- `price SCHEMA DOCUMENT`
 abbrev pub price_words : List ℕ → List ℕ → List (List ℕ)
@@ -9,22 +11,19 @@ price_words schema document = codes "price" ∷ schema ∷ document ∷ []
 abbrev pub meter_words : List ℕ → List ℕ → List ℕ → List (List ℕ)
 meter_words schema document reply = codes "meter" ∷ schema ∷ document ∷ reply ∷ []
 
--- the words are those of a price command, for whose two names this holds
-abbrev pub IsPriceOf : List (List ℕ) → (List ℕ → List ℕ → Type 0) → Type 0
-IsPriceOf words P = (schema document : List ℕ) × (words ≡ price_words schema document) × P schema document
+-- The words ask for the command.
+abbrev pub Asks : List (List ℕ) → Command → Type 0
+Asks words (Price schema document) = words ≡ price_words schema document
+Asks words (Meter schema document reply) = words ≡ meter_words schema document reply
 
--- the words are those of a meter command, for whose three names this holds
-abbrev pub IsMeterOf : List (List ℕ) → (List ℕ → List ℕ → List ℕ → Type 0) → Type 0
-IsMeterOf words P = (schema document reply : List ℕ) × (words ≡ meter_words schema document reply) × P schema document reply
-
--- the words are not those of a price command
+-- They ask for no price.
 abbrev pub IsNoPrice : List (List ℕ) → Type 0
 IsNoPrice words = (schema document : List ℕ) → words ≡ price_words schema document → ⊥
 
--- the words are not those of a meter command
+-- They ask for no measure of a reply.
 abbrev pub IsNoMeter : List (List ℕ) → Type 0
 IsNoMeter words = (schema document reply : List ℕ) → words ≡ meter_words schema document reply → ⊥
 
--- the words are those of no command
+-- They ask for no command.
 abbrev pub IsNoCommand : List (List ℕ) → Type 0
-IsNoCommand words = IsNoPrice words × IsNoMeter words
+IsNoCommand words = (command : Command) → Asks words command → ⊥

@@ -1,0 +1,32 @@
+-- What the program does.
+use Rattle.std.specs.Prelude.{◌≡◌, ◌⊎◌, ℕ, List}
+use Rattle.gateway_run.specs.declared.command.Command.{Command}
+use Rattle.gateway_run.specs.declared.command.Command.TheVariants.{Price, Meter}
+use Rattle.gateway_run.specs.declared.command.WordsFault.{WordsFault}
+use Rattle.gateway_run.specs.declared.command.WordsFault.TheVariants.{Usage as NoCommand, Memory as NoMemory}
+use Rattle.gateway_run.specs.declared.outcome.Outcome.{Outcome}
+use Rattle.gateway_run.specs.declared.outcome.Outcome.TheVariants.{Usage, Memory}
+use Rattle.gateway_run.specs.Commands.{Asks, IsNoCommand}
+use Rattle.gateway_run.specs.Outcomes.{FilesTold, StreamTold, Ends}
+use Rattle.gateway_run.specs.Price.{PriceCameTo}
+use Rattle.gateway_run.specs.Meter.{MeterCameTo}
+
+-- What a command came to.
+abbrev pub CameTo : Command → FilesTold → Outcome → Type 0
+CameTo (Price schema document) files outcome = PriceCameTo schema document files outcome
+CameTo (Meter schema document reply) files outcome = MeterCameTo schema document reply files outcome
+
+-- The outcome of words that were not read into a command.
+abbrev pub no_command : WordsFault → Outcome
+no_command NoCommand = Usage
+no_command NoMemory = Memory
+
+-- What words came to: those of a command, what it came to; those of none, a wrong use; and there was no memory only for words of a command.
+abbrev pub ComeTo : List (List ℕ) → FilesTold → Outcome → Type 0
+ComeTo words files outcome = ((command : Command) × Asks words command × CameTo command files outcome)
+    ⊎ (IsNoCommand words × (outcome ≡ Usage))
+    ⊎ ((¬ IsNoCommand words) × (outcome ≡ Memory))
+
+-- What words came to was written, and the status is its own.
+abbrev pub Runs : List (List ℕ) → ℕ → FilesTold → StreamTold → StreamTold → Type 0
+Runs words status files out err = (outcome : Outcome) × ComeTo words files outcome × Ends outcome status out err

@@ -1,0 +1,80 @@
+//! How the program ends: what is written of an outcome, and the status.
+
+ghost use Rattle.std.specs.Prelude.{◌≡◌, ◌≤◌, ◌⊎◌, OnOk, OnErr};
+ghost use Rattle.std.specs.Io.KnownBytes.{Appends};
+ghost use Rattle.outside.specs.Faults.{Rose};
+ghost use Rattle.gateway_run.specs.Texts.{line, file_text};
+ghost use Rattle.gateway_run.specs.Outcomes.{stream_told, Writes, Mentions, Ends};
+
+use crate::outcome::{DONE, FILE_FAILED, NO_MEMORY, Outcome, REFUSED, STREAM_FAILED, USAGE};
+use gql_base::Text;
+use outside::{Sink, WriteFault, write_whole};
+
+/// How the program is used.
+pub const USAGE_TEXT: &[u8] = b"usage: tellcrock price SCHEMA DOCUMENT
+  prints the greatest type cost and the greatest field cost that a response can have
+usage: tellcrock meter SCHEMA DOCUMENT REPLY
+  prints what a reply cost, and the answer for its client
+";
+
+// Writes a text and its line end.
+fn write_line<K: Sink>(to: &mut K, text: &[u8]) -> Result<(), WriteFault>
+    ensures whole { OnOk result (Appends (K.written to.old) (K.written to.new) (line text.now)) }
+    ensures count { K.faults to.old ≤ K.faults to.new }
+    ensures cause { OnErr result (Rose (K.faults to.old) (K.faults to.new)) }
+{
+    write_whole(to, text)?;
+    write_whole(to, b"\n")
+}
+
+// Writes a line, and gives the status, or `STREAM_FAILED` where the stream failed.
+fn write_or_fail<K: Sink>(to: &mut K, text: &[u8], status: u8) -> u8
+    ensures { Writes (line text.now) status result (stream_told (K.written to.old) (K.written to.new) (K.faults to.old) (K.faults to.new)) }
+{
+    match write_line(to, text) {
+        Ok(()) => status,
+        Err(WriteFault) => STREAM_FAILED,
+    }
+}
+
+// Writes `file ` and the name of a file, and a line end.
+fn write_name<E: Sink>(to: &mut E, name: &[u8]) -> Result<(), WriteFault>
+    ensures whole { OnOk result (Appends (E.written to.old) (E.written to.new) (line (file_text name.now))) }
+    ensures cause { OnErr result (Rose (E.faults to.old) (E.faults to.new)) }
+{
+    write_whole(to, b"file ")?;
+    write_line(to, name)
+}
+
+// Names a file that was not read. The status stays where the stream fails.
+fn mention_file<E: Sink>(err: &mut E, name: &[u8]) -> u8
+    ensures { Mentions (line (file_text name.now)) FILE_FAILED result (stream_told (E.written err.old) (E.written err.new) (E.faults err.old) (E.faults err.new)) }
+{
+    match write_name(err, name) {
+        Ok(()) | Err(WriteFault) => FILE_FAILED,
+    }
+}
+
+// Says how the program is used. The status stays where the stream fails.
+fn mention_usage<E: Sink>(err: &mut E) -> u8
+    ensures { Mentions USAGE_TEXT.now USAGE result (stream_told (E.written err.old) (E.written err.new) (E.faults err.old) (E.faults err.new)) }
+{
+    match write_whole(err, USAGE_TEXT) {
+        Ok(()) | Err(WriteFault) => USAGE,
+    }
+}
+
+/// Writes what a command came to, and gives the status to end with.
+pub fn finish<K: Sink, E: Sink>(outcome: Outcome, out: &mut K, err: &mut E) -> u8
+    ensures { Ends outcome result (stream_told (K.written out.old) (K.written out.new) (K.faults out.old) (K.faults out.new))
+        (stream_told (E.written err.old) (E.written err.new) (E.faults err.old) (E.faults err.new)) }
+{
+    match outcome {
+        Outcome::Done(output) => write_or_fail(out, output.as_slice(), DONE),
+        Outcome::Refused(text) => write_or_fail(err, text.as_bytes(), REFUSED),
+        Outcome::FileFailed(name) => mention_file(err, name.as_bytes()),
+        Outcome::Faulty { status, text } => write_or_fail(err, text.as_bytes(), status),
+        Outcome::Usage => mention_usage(err),
+        Outcome::Memory => NO_MEMORY,
+    }
+}

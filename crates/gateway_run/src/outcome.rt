@@ -1,0 +1,37 @@
+//! What a command can come to, and the statuses that the program ends with.
+
+use gql_base::Text;
+
+/// The status of a command whose output was written whole.
+pub const DONE: u8 = 0;
+/// The status of a command whose input was refused.
+pub const REFUSED: u8 = 1;
+/// The status for words that no command takes.
+pub const USAGE: u8 = 2;
+/// The status of a command that could not read a file.
+pub const FILE_FAILED: u8 = 3;
+/// The status of a command that could not write a stream.
+pub const STREAM_FAILED: u8 = 4;
+/// The status of a command that found no memory.
+pub const NO_MEMORY: u8 = 5;
+/// The status of a reply with a list that is longer than its declared size.
+pub const SIZE_BROKEN: u8 = 6;
+/// The status of a reply that is no response to its operation.
+pub const NOT_RESPONSE: u8 = 7;
+
+/// What a command came to, before anything of it is written. Its texts have no line end.
+#[derive(Drop)]
+pub enum Outcome {
+    /// The command was done, and this is its output.
+    Done(Vec<u8>),
+    /// The input is refused, and the text says why.
+    Refused(Text),
+    /// The file of this name was not read. The count of its faults rose.
+    FileFailed(Text),
+    /// Something else is wrong with the input, which has a status of its own.
+    Faulty { status: u8, text: Text },
+    /// The words are those of no command.
+    Usage,
+    /// There was no memory.
+    Memory,
+}

@@ -1,0 +1,74 @@
+//! The one call that does all of the program.
+
+ghost use Rattle.std.specs.Prelude.{◌≡◌};
+ghost use Rattle.gateway_run.specs.Outcomes.{files_told, stream_told, Ends};
+ghost use Rattle.gateway_run.specs.Program.{no_command, CameTo, ComeTo, Runs};
+
+use crate::command::{Command, WordsFault, command_of};
+use crate::finish::finish;
+use crate::meter::meter;
+use crate::outcome::Outcome;
+use crate::price::price;
+use gql_base::Text;
+use outside::{Files, Sink};
+use std::alloc::Global;
+
+// Does a command, and gives what it came to.
+fn outcome_of<F: Files>(alloc: Global, command: Command, files: &mut F) -> Outcome
+    ensures { CameTo command (files_told (F.content files.old) (F.faults files.old) (F.faults files.new)) result }
+{
+    match command {
+        Command::Price { schema, document } => price(alloc, schema, document, files),
+        Command::Meter {
+            schema,
+            document,
+            reply,
+        } => meter(alloc, schema, document, reply, files),
+    }
+}
+
+// The outcome of words that were not read into a command.
+fn no_outcome(fault: WordsFault) -> Outcome
+    ensures { result ≡ no_command fault }
+{
+    match fault {
+        WordsFault::Usage => Outcome::Usage,
+        WordsFault::Memory => Outcome::Memory,
+    }
+}
+
+// Does what words ask for, and gives what that came to.
+fn answer_words<F: Files>(alloc: Global, words: &[Text], files: &mut F) -> Outcome
+    ensures { ComeTo words.now (files_told (F.content files.old) (F.faults files.old) (F.faults files.new)) result }
+{
+    match command_of(alloc, words) {
+        Ok(command) => outcome_of(alloc, command, files),
+        Err(fault) => no_outcome(fault),
+    }
+}
+
+/// Does what the words after the program's name say, and gives the status to end with.
+pub fn run<Rt, F: Files, K: Sink, E: Sink>(
+    rt: &Rt,
+    alloc: Global,
+    words: &[Text],
+    files: &mut F,
+    out: &mut K,
+    err: &mut E,
+) -> u8
+    ensures { Runs words.now result (files_told (F.content files.old) (F.faults files.old) (F.faults files.new))
+        (stream_told (K.written out.old) (K.written out.new) (K.faults out.old) (K.faults out.new))
+        (stream_told (E.written err.old) (E.written err.new) (E.faults err.old) (E.faults err.new)) }
+{
+    let _ = rt;
+    let outcome = answer_words(alloc, words, files);
+    finish(outcome, out, err)
+}
+
+/// Ends without a command, and gives the status: that of a wrong use, or that of want of memory.
+pub fn end_without_command<K: Sink, E: Sink>(fault: WordsFault, out: &mut K, err: &mut E) -> u8
+    ensures { Ends (no_command fault) result (stream_told (K.written out.old) (K.written out.new) (K.faults out.old) (K.faults out.new))
+        (stream_told (E.written err.old) (E.written err.new) (E.faults err.old) (E.faults err.new)) }
+{
+    finish(no_outcome(fault), out, err)
+}
