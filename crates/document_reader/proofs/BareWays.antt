@@ -4,15 +4,15 @@ use Rattle.std.proofs.Common.{ℕ, ◌≡◌, inl, inr, Bool, true, false, List,
 use Rattle.std.specs.List.{flat_map}
 use Rattle.std.specs.Str.{bytes_eq}
 use Rattle.std.proofs.lemmas.Slice.Eq.{bytes_eq-Decides}
-use Rattle.gql_base.specs.declared.token.TokenKind.{TokenKind}
-use Rattle.gql_base.specs.declared.token.TokenKind.TheVariants.{OpenParen, CloseParen}
-use Rattle.gql_base.specs.Symbols.{Symbol, punctuator, identifier, integer, string, Symbols}
-use Rattle.gql_base.specs.Reading.{Taking, exact, Identifier, any_name, listed}
-use Rattle.gql_base.specs.Grammar.{Nested, Single, Pair, Image, Optional, Repeated, OneOrMore}
-use Rattle.gql_base.specs.PrintedTrees.{printed_name}
-use Rattle.gql_base.specs.PlacelessSymbols.{placeless_symbol}
-use Rattle.gql_base.proofs.SymbolTests.{when_true, IsPunctuator, exact_is, name_is}
-use Rattle.gql_base.proofs.PrintedSymbols.{bare, bare_append}
+use Rattle.gql_base.specs.declared.lexical.token.TokenKind.{TokenKind}
+use Rattle.gql_base.specs.declared.lexical.token.TokenKind.TheVariants.{OpenParen, CloseParen}
+use Rattle.gql_base.specs.ways.Symbols.{Symbol, punctuator, identifier, integer, string, Symbols}
+use Rattle.gql_base.specs.ways.Reading.{Taking, exact, Identifier, any_name, listed}
+use Rattle.gql_base.specs.ways.Grammar.{Nested, Single, Pair, Image, Optional, Repeated, OneOrMore}
+use Rattle.gql_base.specs.printing.PrintedTrees.{printed_name}
+use Rattle.gql_base.specs.printing.PlacelessSymbols.{placeless_symbol}
+use Rattle.gql_base.proofs.WayLaws.SymbolTests.{when_true, IsPunctuator, exact_is, name_is}
+use Rattle.gql_base.proofs.PrintingLaws.PrintedSymbols.{bare, bare_append}
 use Rattle.document_reader.specs.Documents.{keyword, unless, fragment_name, inside}
 use Rattle.document_reader.specs.PrintedDocuments.{in_parentheses}
 

@@ -4,20 +4,20 @@ use Rattle.std.specs.Prelude.{◌||◌, codes}
 use Rattle.std.specs.Str.{bytes_eq}
 use Rattle.std.proofs.lemmas.Bool.{cases_Bool}
 use Rattle.std.proofs.lemmas.Slice.Eq.{bytes_eq-Decides}
-use Rattle.gql_base.specs.declared.token.TokenKind.TheVariants.{Bang, Dollar, Colon, Equals, At, OpenParen, OpenBrace}
-use Rattle.gql_base.specs.declared.trees.OperationKind.{OperationKind}
-use Rattle.gql_base.specs.declared.trees.OperationKind.TheVariants.{Query}
-use Rattle.gql_base.specs.Symbols.{Symbol, punctuator, identifier, integer, string}
-use Rattle.gql_base.specs.Reading.{Test, is_some, takes, when, exact, any_name, never}
-use Rattle.gql_base.specs.Grammar.{Single, Pair, Image, Optional}
+use Rattle.gql_base.specs.declared.lexical.token.TokenKind.TheVariants.{Bang, Dollar, Colon, Equals, At, OpenParen, OpenBrace}
+use Rattle.gql_base.specs.declared.parts.trees.OperationKind.{OperationKind}
+use Rattle.gql_base.specs.declared.parts.trees.OperationKind.TheVariants.{Query}
+use Rattle.gql_base.specs.ways.Symbols.{Symbol, punctuator, identifier, integer, string}
+use Rattle.gql_base.specs.ways.Reading.{Test, is_some, takes, when, exact, any_name, never}
+use Rattle.gql_base.specs.ways.Grammar.{Single, Pair, Image, Optional}
 use Rattle.document_reader.specs.Documents.{keyword, on_word, fragment_word, kind_named, kind_word, fragment_name, some_second, IsSelectionSet, IsDefault, variable_of, IsVariable, AreVariables, IsOperationHead, bare_operation, operation_of, head_of_fragment, IsFragmentHead, fragment_of, IsDefinition, IsDocument}
 use Rattle.document_reader.specs.DocumentReading.{maybe_default_at, variable_at, maybe_variables_at, maybe_name_at, operation_head_at, bare_at, operation_at, fragment_head_at, fragment_at, definition_at, is_there, document_at}
-use Rattle.gql_base.proofs.ReadingLaws.{Law, Heads, image_law, single_law, choice_law, after, wider_law}
-use Rattle.gql_base.proofs.RepeatingLaws.{one_or_more_law, optional_law, passes_repeated}
-use Rattle.gql_base.proofs.LevelLaws.{Family}
-use Rattle.gql_base.proofs.SymbolTests.{mark_law, name_law, heads_single, heads_mark, heads_name, heads_pair, heads_image, heads_choice, passes_heads, passes_optional, passes_pair, then_law}
-use Rattle.gql_base.proofs.ValueLaws.{value_law}
-use Rattle.gql_base.proofs.TypeLaws.{type_law}
+use Rattle.gql_base.proofs.WayLaws.ReadingLaws.{Law, Heads, image_law, single_law, choice_law, after, wider_law}
+use Rattle.gql_base.proofs.WayLaws.RepeatingLaws.{one_or_more_law, optional_law, passes_repeated}
+use Rattle.gql_base.proofs.WayLaws.LevelLaws.{Family}
+use Rattle.gql_base.proofs.WayLaws.SymbolTests.{mark_law, name_law, heads_single, heads_mark, heads_name, heads_pair, heads_image, heads_choice, passes_heads, passes_optional, passes_pair, then_law}
+use Rattle.gql_base.proofs.PartLaws.ValueLaws.{value_law}
+use Rattle.gql_base.proofs.PartLaws.TypeLaws.{type_law}
 use Rattle.document_reader.proofs.SelectionLaws.{goes_directives, left_false, right_false, parens_law, heads_directive, directives_law, heads_set, set_law}
 
 -- variables

@@ -1,23 +1,23 @@
 -- Definitions one after the other, and what follows for documents.
 use Rattle.std.proofs.Common.{ℕ, ◌≡◌, ◌≤◌, ◌<◌, true, false, List, [], ◌∷◌, ◌++◌, length, map, Ok, refl, sym, ap, ◌∙◌, subst, arith, append-nil}
-use Rattle.gql_base.specs.declared.token.Token.{Token}
-use Rattle.gql_base.specs.declared.token.TokenKind.TheVariants.{Name}
-use Rattle.gql_base.specs.declared.source.Source.{Source}
-use Rattle.gql_base.specs.declared.source.Halt.{Halt}
-use Rattle.gql_base.specs.declared.source.Halt.TheVariants as halt
-use Rattle.gql_base.specs.declared.lexing.LexFault.{LexFault}
-use Rattle.gql_base.specs.declared.lexing.LexFault.TheVariants as lexical
-use Rattle.gql_base.specs.Tokens.{Lexes, IsFaultOf}
-use Rattle.gql_base.specs.Symbols.{Symbols}
-use Rattle.gql_base.specs.Reading.{next, listed, repeated}
-use Rattle.gql_base.specs.Grammar.{Nested, plain, Within}
-use Rattle.gql_base.specs.Answers.{level_limit}
-use Rattle.gql_base.specs.Sources.{ahead, Halts, offset_of}
-use Rattle.gql_base.proofs.Cursor.{some_ahead, none_ahead}
-use Rattle.gql_base.proofs.ReadingLaws.{ok_same}
-use Rattle.gql_base.proofs.LevelLaws.{is_read}
-use Rattle.gql_base.proofs.Loops.{joined, loop_begins, first_halts}
-use Rattle.gql_base.proofs.Readings.{halts_at_fault, halts_for_memory}
+use Rattle.gql_base.specs.declared.lexical.token.Token.{Token}
+use Rattle.gql_base.specs.declared.lexical.token.TokenKind.TheVariants.{Name}
+use Rattle.gql_base.specs.declared.ways.source.Source.{Source}
+use Rattle.gql_base.specs.declared.ways.source.Halt.{Halt}
+use Rattle.gql_base.specs.declared.ways.source.Halt.TheVariants as halt
+use Rattle.gql_base.specs.declared.lexical.lexing.LexFault.{LexFault}
+use Rattle.gql_base.specs.declared.lexical.lexing.LexFault.TheVariants as lexical
+use Rattle.gql_base.specs.lexical.Tokens.{Lexes, IsFaultOf}
+use Rattle.gql_base.specs.ways.Symbols.{Symbols}
+use Rattle.gql_base.specs.ways.Reading.{next, listed, repeated}
+use Rattle.gql_base.specs.ways.Grammar.{Nested, plain, Within}
+use Rattle.gql_base.specs.parts.Answers.{level_limit}
+use Rattle.gql_base.specs.ways.Sources.{ahead, Halts, offset_of}
+use Rattle.gql_base.proofs.WayLaws.Cursor.{some_ahead, none_ahead}
+use Rattle.gql_base.proofs.WayLaws.ReadingLaws.{ok_same}
+use Rattle.gql_base.proofs.WayLaws.LevelLaws.{is_read}
+use Rattle.gql_base.proofs.WayLaws.Loops.{joined, loop_begins, first_halts}
+use Rattle.gql_base.proofs.WayLaws.Readings.{halts_at_fault, halts_for_memory}
 use Rattle.document_reader.specs.declared.document.DocFault.{DocFault}
 use Rattle.document_reader.specs.declared.document.DocFault.TheVariants as fault
 use Rattle.document_reader.specs.declared.trees.Definition.{Definition}

@@ -1,9 +1,9 @@
 -- No symbols are written as two documents, and no text is two documents.
 use Rattle.std.proofs.Common.{ℕ, ◌≡◌, List, map, sym, ap, ◌∙◌, append-nil}
-use Rattle.gql_base.specs.Symbols.{symbols_from}
-use Rattle.gql_base.specs.Grammar.{Nested, plain}
-use Rattle.gql_base.proofs.OneTree.{one_tree}
-use Rattle.gql_base.proofs.OneDivision.{lexes_once}
+use Rattle.gql_base.specs.ways.Symbols.{symbols_from}
+use Rattle.gql_base.specs.ways.Grammar.{Nested, plain}
+use Rattle.gql_base.proofs.PartLaws.OneTree.{one_tree}
+use Rattle.gql_base.proofs.LexicalLaws.OneDivision.{lexes_once}
 use Rattle.document_reader.specs.declared.trees.Document.{Document}
 use Rattle.document_reader.specs.Documents.{DefinitionTree, IsDocument}
 use Rattle.document_reader.specs.DocumentAnswers.{IsDocumentOf}

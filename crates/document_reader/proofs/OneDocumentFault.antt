@@ -1,21 +1,21 @@
 -- Each text is a document or has one fault, and not both.
 use Rattle.std.proofs.Common.{ℕ, ◌≡◌, ◌⊎◌, inl, inr, false, List, [], ◌∷◌, Ok, Err, refl, sym, ap, ◌∙◌, subst, arith}
-use Rattle.gql_base.specs.declared.token.Token.{Token}
-use Rattle.gql_base.specs.declared.lexing.LexFault.{LexFault}
-use Rattle.gql_base.specs.declared.lexing.LexFault.TheVariants as lexical
-use Rattle.gql_base.specs.Faults.{HasFault}
-use Rattle.gql_base.specs.Tokens.{Lexes, IsFaultOf}
-use Rattle.gql_base.specs.Symbols.{Symbols, symbols_from}
-use Rattle.gql_base.specs.Reading.{Stop, unexpected, too_deep, Reading, next}
-use Rattle.gql_base.specs.FirstFaults.{IsWritten}
-use Rattle.gql_base.specs.Answers.{level_limit}
-use Rattle.gql_base.specs.Sources.{offset_of}
-use Rattle.gql_base.proofs.RepeatingLaws.{repeats, one_or_more_ends}
-use Rattle.gql_base.proofs.LevelLaws.{is_unexpected, is_too_deep, is_written}
-use Rattle.gql_base.proofs.FirstPlace.{one_unexpected, unexpected_or_too_deep, one_too_deep, written_or_unexpected, written_or_too_deep}
-use Rattle.gql_base.proofs.OneFault.{same_offset, unexpected_place, too_deep_place}
-use Rattle.gql_base.proofs.OneDivision.{lexes_once, lexes_or_has_fault, no_fault, one_fault}
-use Rattle.gql_base.proofs.TextFaults.{no_memory_fault}
+use Rattle.gql_base.specs.declared.lexical.token.Token.{Token}
+use Rattle.gql_base.specs.declared.lexical.lexing.LexFault.{LexFault}
+use Rattle.gql_base.specs.declared.lexical.lexing.LexFault.TheVariants as lexical
+use Rattle.gql_base.specs.lexical.Faults.{HasFault}
+use Rattle.gql_base.specs.lexical.Tokens.{Lexes, IsFaultOf}
+use Rattle.gql_base.specs.ways.Symbols.{Symbols, symbols_from}
+use Rattle.gql_base.specs.ways.Reading.{Stop, unexpected, too_deep, Reading, next}
+use Rattle.gql_base.specs.ways.FirstFaults.{IsWritten}
+use Rattle.gql_base.specs.parts.Answers.{level_limit}
+use Rattle.gql_base.specs.ways.Sources.{offset_of}
+use Rattle.gql_base.proofs.WayLaws.RepeatingLaws.{repeats, one_or_more_ends}
+use Rattle.gql_base.proofs.WayLaws.LevelLaws.{is_unexpected, is_too_deep, is_written}
+use Rattle.gql_base.proofs.WayLaws.FirstPlace.{one_unexpected, unexpected_or_too_deep, one_too_deep, written_or_unexpected, written_or_too_deep}
+use Rattle.gql_base.proofs.PartLaws.OneFault.{same_offset, unexpected_place, too_deep_place}
+use Rattle.gql_base.proofs.LexicalLaws.OneDivision.{lexes_once, lexes_or_has_fault, no_fault, one_fault}
+use Rattle.gql_base.proofs.LexicalLaws.TextFaults.{no_memory_fault}
 use Rattle.document_reader.specs.declared.document.DocFault.{DocFault}
 use Rattle.document_reader.specs.declared.document.DocFault.TheVariants.{Lex, Unexpected, TooDeep, Memory}
 use Rattle.document_reader.specs.Documents.{DefinitionTree, IsDocument}

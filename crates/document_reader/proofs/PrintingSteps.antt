@@ -2,16 +2,16 @@
 use Rattle.std.proofs.Common.{ℕ, ◌+◌, ◌≡◌, ◌<◌, ◌≤◌, ◌==◌, false, List, [], ◌∷◌, ◌++◌, Option, length, drop, map, get_or, Vec, Global, refl, sym, ap, ◌∙◌}
 use Rattle.std.specs.List.{flat_map}
 use Rattle.std.proofs.lemmas.List.{at_drop_more, drop_all}
-use Rattle.gql_base.specs.declared.token.TokenKind.TheVariants.{Spread, OpenParen, CloseParen, OpenBrace, CloseBrace}
-use Rattle.gql_base.specs.declared.trees.Name.{Name}
-use Rattle.gql_base.specs.declared.trees.Directive.{Directive}
-use Rattle.gql_base.specs.Symbols.{Symbol, punctuator, Symbols}
-use Rattle.gql_base.specs.Reading.{Identifier}
-use Rattle.gql_base.specs.Values.{NamedValue, fields_from}
-use Rattle.gql_base.specs.Trees.{identifier_of, named_value}
-use Rattle.gql_base.specs.Printing.{Printed, put, put_all}
-use Rattle.gql_base.specs.PrintedTrees.{printed_name, value_symbols, fields_symbols}
-use Rattle.gql_base.proofs.PrintSteps.{put_all_append}
+use Rattle.gql_base.specs.declared.lexical.token.TokenKind.TheVariants.{Spread, OpenParen, CloseParen, OpenBrace, CloseBrace}
+use Rattle.gql_base.specs.declared.parts.trees.Name.{Name}
+use Rattle.gql_base.specs.declared.parts.trees.Directive.{Directive}
+use Rattle.gql_base.specs.ways.Symbols.{Symbol, punctuator, Symbols}
+use Rattle.gql_base.specs.ways.Reading.{Identifier}
+use Rattle.gql_base.specs.parts.Values.{NamedValue, fields_from}
+use Rattle.gql_base.specs.parts.Trees.{identifier_of, named_value}
+use Rattle.gql_base.specs.printing.Printing.{Printed, put, put_all}
+use Rattle.gql_base.specs.printing.PrintedTrees.{printed_name, value_symbols, fields_symbols}
+use Rattle.gql_base.proofs.PrintingLaws.PrintSteps.{put_all_append}
 use Rattle.document_reader.specs.declared.trees.Selection.{Selection}
 use Rattle.document_reader.specs.declared.trees.Field.{Field}
 use Rattle.document_reader.specs.declared.trees.Selection.TheBlock.{Spread as SpreadSelection}

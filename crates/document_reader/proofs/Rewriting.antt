@@ -2,14 +2,14 @@
 -- put together.
 use Rattle.std.proofs.Common.{ℕ, ◌≡◌, inl, inr, List, [], ◌∷◌, ◌++◌, map, Some, refl, sym, ap, ◌∙◌, subst}
 use Rattle.std.specs.List.{flat_map}
-use Rattle.gql_base.specs.declared.token.TokenKind.{TokenKind}
-use Rattle.gql_base.specs.declared.token.TokenKind.TheVariants.{OpenParen, CloseParen}
-use Rattle.gql_base.specs.Symbols.{Symbol, punctuator, Symbols}
-use Rattle.gql_base.specs.Reading.{Taking, exact, listed}
-use Rattle.gql_base.specs.Grammar.{Nested, plain, Within, Single, Pair, Image, Optional, Repeated, OneOrMore}
-use Rattle.gql_base.proofs.ReadingLaws.{plain_append, within_append, within_front, within_back}
-use Rattle.gql_base.proofs.SymbolTests.{exact_itself}
-use Rattle.gql_base.proofs.PrintedLaws.{Rewritten}
+use Rattle.gql_base.specs.declared.lexical.token.TokenKind.{TokenKind}
+use Rattle.gql_base.specs.declared.lexical.token.TokenKind.TheVariants.{OpenParen, CloseParen}
+use Rattle.gql_base.specs.ways.Symbols.{Symbol, punctuator, Symbols}
+use Rattle.gql_base.specs.ways.Reading.{Taking, exact, listed}
+use Rattle.gql_base.specs.ways.Grammar.{Nested, plain, Within, Single, Pair, Image, Optional, Repeated, OneOrMore}
+use Rattle.gql_base.proofs.WayLaws.ReadingLaws.{plain_append, within_append, within_front, within_back}
+use Rattle.gql_base.proofs.WayLaws.SymbolTests.{exact_itself}
+use Rattle.gql_base.proofs.PrintingLaws.PrintedLaws.{Rewritten}
 use Rattle.document_reader.specs.Documents.{inside}
 use Rattle.document_reader.specs.PrintedDocuments.{in_parentheses}
 

@@ -2,17 +2,17 @@
 use Rattle.std.proofs.Common.{ℕ, zero, suc, ◌+◌, ◌≡◌, ◌≤◌, inl, inr, Bool, true, false, List, [], ◌∷◌, ◌++◌, Option, None, Some, refl, sym, ap, ◌∙◌, subst, arith}
 use Rattle.std.specs.Prelude.{◌||◌, codes}
 use Rattle.std.specs.Str.{bytes_eq}
-use Rattle.gql_base.specs.declared.token.TokenKind.TheVariants.{Colon, At, Spread, OpenParen, CloseParen, OpenBrace, CloseBrace}
-use Rattle.gql_base.specs.Symbols.{Symbol, punctuator, identifier, integer, string, Symbols}
-use Rattle.gql_base.specs.Reading.{Reader, Test, next, is_some, takes, single, pair, image, optional, one_or_more, second, level, exact, Identifier, any_name, up_to, never}
-use Rattle.gql_base.specs.Grammar.{Nested, plain, Single, Pair, Image, Choice, Optional, Repeated, OneOrMore, Level}
+use Rattle.gql_base.specs.declared.lexical.token.TokenKind.TheVariants.{Colon, At, Spread, OpenParen, CloseParen, OpenBrace, CloseBrace}
+use Rattle.gql_base.specs.ways.Symbols.{Symbol, punctuator, identifier, integer, string, Symbols}
+use Rattle.gql_base.specs.ways.Reading.{Reader, Test, next, is_some, takes, single, pair, image, optional, one_or_more, second, level, exact, Identifier, any_name, up_to, never}
+use Rattle.gql_base.specs.ways.Grammar.{Nested, plain, Single, Pair, Image, Choice, Optional, Repeated, OneOrMore, Level}
 use Rattle.document_reader.specs.Documents.{SelectionTree, field_selection, fragment_spread, inline_fragment, SelectionTrees, no_selection, selection_then, on_word, unless, fragment_name, inside, some_second, AreArguments, IsDirective, AreDirectives, AreFieldNames, IsFieldHead, IsTypeCondition, IsSpreadEnd, IsInlineHead, IsSelection, IsSelectionSet, AreSelections}
 use Rattle.document_reader.specs.DocumentReading.{arguments_at, maybe_arguments_at, directive_at, directives_at, second_name_at, field_names_at, field_head_at, type_condition_at, selections_from, set_of, field_of, spread_of, inline_of, field_with, spread_at, inline_head_at, inline_with, dots_with, selection_with, in_set, set_at}
-use Rattle.gql_base.proofs.ReadingLaws.{Law, Heads, image_law, single_law, choice_law, as_law, after, wider_law}
-use Rattle.gql_base.proofs.RepeatingLaws.{repeated_law, one_or_more_law, optional_law, passes_repeated}
-use Rattle.gql_base.proofs.LevelLaws.{open_law, shut_law}
-use Rattle.gql_base.proofs.SymbolTests.{when_true, mark_law, name_law, heads_single, heads_mark, heads_name, SaysOfNames, heads_pair, heads_image, heads_choice, passes_heads, passes_optional, passes_pair, heads_after, then_law, or_false, from_brackets, to_brackets}
-use Rattle.gql_base.proofs.ValueLaws.{value_law, field_law, field_begins}
+use Rattle.gql_base.proofs.WayLaws.ReadingLaws.{Law, Heads, image_law, single_law, choice_law, as_law, after, wider_law}
+use Rattle.gql_base.proofs.WayLaws.RepeatingLaws.{repeated_law, one_or_more_law, optional_law, passes_repeated}
+use Rattle.gql_base.proofs.WayLaws.LevelLaws.{open_law, shut_law}
+use Rattle.gql_base.proofs.WayLaws.SymbolTests.{when_true, mark_law, name_law, heads_single, heads_mark, heads_name, SaysOfNames, heads_pair, heads_image, heads_choice, passes_heads, passes_optional, passes_pair, heads_after, then_law, or_false, from_brackets, to_brackets}
+use Rattle.gql_base.proofs.PartLaws.ValueLaws.{value_law, field_law, field_begins}
 
 -- with what things may go on
 

@@ -1,16 +1,16 @@
 -- What the reader of documents answers.
 use Rattle.std.specs.Prelude.{ℕ, ◌≡◌, List, [], length, map, Result, Ok, Err}
-use Rattle.gql_base.specs.declared.token.Token.{Token}
-use Rattle.gql_base.specs.declared.lexing.LexFault.{LexFault}
-use Rattle.gql_base.specs.declared.lexing.LexFault.TheVariants as lexical
-use Rattle.gql_base.specs.declared.source.Source.{Source}
-use Rattle.gql_base.specs.declared.source.Halt.{Halt}
-use Rattle.gql_base.specs.declared.source.Halt.TheVariants as halt
-use Rattle.gql_base.specs.Tokens.{Lexes, IsFaultOf}
-use Rattle.gql_base.specs.Symbols.{symbols_from}
-use Rattle.gql_base.specs.FirstFaults.{IsUnexpected, IsTooDeep, IsWritten}
-use Rattle.gql_base.specs.Answers.{level_limit}
-use Rattle.gql_base.specs.Sources.{offset_of}
+use Rattle.gql_base.specs.declared.lexical.token.Token.{Token}
+use Rattle.gql_base.specs.declared.lexical.lexing.LexFault.{LexFault}
+use Rattle.gql_base.specs.declared.lexical.lexing.LexFault.TheVariants as lexical
+use Rattle.gql_base.specs.declared.ways.source.Source.{Source}
+use Rattle.gql_base.specs.declared.ways.source.Halt.{Halt}
+use Rattle.gql_base.specs.declared.ways.source.Halt.TheVariants as halt
+use Rattle.gql_base.specs.lexical.Tokens.{Lexes, IsFaultOf}
+use Rattle.gql_base.specs.ways.Symbols.{symbols_from}
+use Rattle.gql_base.specs.ways.FirstFaults.{IsUnexpected, IsTooDeep, IsWritten}
+use Rattle.gql_base.specs.parts.Answers.{level_limit}
+use Rattle.gql_base.specs.ways.Sources.{offset_of}
 use Rattle.document_reader.specs.declared.document.DocFault.{DocFault}
 use Rattle.document_reader.specs.declared.document.DocFault.TheVariants.{Lex, Unexpected, TooDeep, Memory}
 use Rattle.document_reader.specs.declared.trees.Document.{Document}

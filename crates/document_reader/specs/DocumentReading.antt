@@ -1,10 +1,10 @@
 -- How documents are read, where so many levels may still be opened. These words serve the proof of the readers: what
 -- a document is stands in `Documents`.
 use Rattle.std.specs.Prelude.{ℕ, zero, suc, ◌-◌, Bool, true, false, List, [], ◌∷◌, Option, None, Some}
-use Rattle.gql_base.specs.declared.token.TokenKind.TheVariants.{Dollar, Colon, Equals, At, Spread, OpenParen, CloseParen, OpenBrace, CloseBrace}
-use Rattle.gql_base.specs.Reading.{Reader, Test, takes, single, pair, image, choice, optional, repeated, one_or_more, second, opener, level, exact, Identifier, any_name, up_to, is_some}
-use Rattle.gql_base.specs.Values.{NamedValue, named_value_at, value_at, ValueTree}
-use Rattle.gql_base.specs.TypeReferences.{type_at}
+use Rattle.gql_base.specs.declared.lexical.token.TokenKind.TheVariants.{Dollar, Colon, Equals, At, Spread, OpenParen, CloseParen, OpenBrace, CloseBrace}
+use Rattle.gql_base.specs.ways.Reading.{Reader, Test, takes, single, pair, image, choice, optional, repeated, one_or_more, second, opener, level, exact, Identifier, any_name, up_to, is_some}
+use Rattle.gql_base.specs.parts.Values.{NamedValue, named_value_at, value_at, ValueTree}
+use Rattle.gql_base.specs.parts.TypeReferences.{type_at}
 use Rattle.document_reader.specs.Documents.{DirectiveTree, FieldNames, SelectionTree, field_selection, fragment_spread, inline_fragment, SelectionTrees, no_selection, selection_then, VariableTree, DefinitionTree, on_word, fragment_word, kind_word, fragment_name, inside, some_second, variable_of, OperationHead, bare_operation, operation_of, FragmentHead, head_of_fragment, fragment_of}
 
 abbrev pub arguments_at : Bool → ℕ → Reader (List NamedValue)

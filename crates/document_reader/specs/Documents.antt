@@ -1,14 +1,14 @@
 -- Executable documents (GraphQL October 2021, 2.2 to 2.12): their trees, and the symbols that they are written with.
 use Rattle.std.specs.Prelude.{ℕ, suc, ◌≡◌, ◌⊎◌, Bool, true, false, List, [], ◌++◌, Option, None, Some, codes, if◌then◌else◌}
 use Rattle.std.specs.Str.{bytes_eq}
-use Rattle.gql_base.specs.declared.token.TokenKind.TheVariants.{Dollar, Colon, Equals, At, Spread, OpenParen, CloseParen, OpenBrace, CloseBrace}
-use Rattle.gql_base.specs.declared.trees.OperationKind.{OperationKind}
-use Rattle.gql_base.specs.declared.trees.OperationKind.TheVariants.{Query, Mutation, Subscription}
-use Rattle.gql_base.specs.Symbols.{punctuator, identifier, integer, string}
-use Rattle.gql_base.specs.Reading.{Taking, exact, Identifier, any_name, second, when}
-use Rattle.gql_base.specs.Grammar.{Nested, Single, Pair, Image, Choice, Optional, Repeated, OneOrMore, Bracketed}
-use Rattle.gql_base.specs.Values.{ValueTree, NamedValue, named_value_of, IsValue}
-use Rattle.gql_base.specs.TypeReferences.{TypeTree, IsType}
+use Rattle.gql_base.specs.declared.lexical.token.TokenKind.TheVariants.{Dollar, Colon, Equals, At, Spread, OpenParen, CloseParen, OpenBrace, CloseBrace}
+use Rattle.gql_base.specs.declared.parts.trees.OperationKind.{OperationKind}
+use Rattle.gql_base.specs.declared.parts.trees.OperationKind.TheVariants.{Query, Mutation, Subscription}
+use Rattle.gql_base.specs.ways.Symbols.{punctuator, identifier, integer, string}
+use Rattle.gql_base.specs.ways.Reading.{Taking, exact, Identifier, any_name, second, when}
+use Rattle.gql_base.specs.ways.Grammar.{Nested, Single, Pair, Image, Choice, Optional, Repeated, OneOrMore, Bracketed}
+use Rattle.gql_base.specs.parts.Values.{ValueTree, NamedValue, named_value_of, IsValue}
+use Rattle.gql_base.specs.parts.TypeReferences.{TypeTree, IsType}
 
 -- trees
 

@@ -1,11 +1,11 @@
 -- What documents of the program and their parts stand for.
 use Rattle.std.specs.Prelude.{List, map, Option, None, Some}
-use Rattle.gql_base.specs.declared.trees.Name.{Name}
-use Rattle.gql_base.specs.declared.trees.Directive.{Directive}
-use Rattle.gql_base.specs.declared.trees.Value.{Value}
-use Rattle.gql_base.specs.Reading.{Identifier}
-use Rattle.gql_base.specs.Values.{ValueTree}
-use Rattle.gql_base.specs.Trees.{identifier_of, named_value, value_tree, type_tree}
+use Rattle.gql_base.specs.declared.parts.trees.Name.{Name}
+use Rattle.gql_base.specs.declared.parts.trees.Directive.{Directive}
+use Rattle.gql_base.specs.declared.parts.trees.Value.{Value}
+use Rattle.gql_base.specs.ways.Reading.{Identifier}
+use Rattle.gql_base.specs.parts.Values.{ValueTree}
+use Rattle.gql_base.specs.parts.Trees.{identifier_of, named_value, value_tree, type_tree}
 use Rattle.document_reader.specs.declared.trees.Selection.{Selection}
 use Rattle.document_reader.specs.declared.trees.Selection.TheOpen.{Selection-F, Field-F}
 use Rattle.document_reader.specs.declared.trees.Selection.TheFolds.{fold-Selection, fold-Field}

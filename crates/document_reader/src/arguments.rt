@@ -1,11 +1,11 @@
 //! Reading arguments and directives (GraphQL October 2021, 2.6 and 2.12).
 
 ghost use Rattle.std.specs.Prelude.{◌≡◌, ◌<◌, ◌≤◌, length, map, IfOk};
-ghost use Rattle.gql_base.specs.declared.token.TokenKind.TheVariants.{CloseParen};
-ghost use Rattle.gql_base.specs.Reading.{one_or_more, up_to};
-ghost use Rattle.gql_base.specs.Sources.{ahead, Reads};
-ghost use Rattle.gql_base.specs.Values.{value_at, named_value_at};
-ghost use Rattle.gql_base.specs.Trees.{named_value};
+ghost use Rattle.gql_base.specs.declared.lexical.token.TokenKind.TheVariants.{CloseParen};
+ghost use Rattle.gql_base.specs.ways.Reading.{one_or_more, up_to};
+ghost use Rattle.gql_base.specs.ways.Sources.{ahead, Reads};
+ghost use Rattle.gql_base.specs.parts.Values.{value_at, named_value_at};
+ghost use Rattle.gql_base.specs.parts.Trees.{named_value};
 ghost use Rattle.document_reader.specs.DocumentReading.{arguments_at, maybe_arguments_at, directive_at, directives_at};
 ghost use Rattle.document_reader.specs.Trees.{directive_tree};
 

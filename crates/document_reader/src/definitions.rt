@@ -1,10 +1,10 @@
 //! Reading operations and fragments (GraphQL October 2021, 2.2, 2.3, 2.8 and 2.10).
 
 ghost use Rattle.std.specs.Prelude.{◌≡◌, ◌<◌, ◌≤◌, length, map, IfOk, None, Some};
-ghost use Rattle.gql_base.specs.declared.token.TokenKind.TheVariants.{CloseParen};
-ghost use Rattle.gql_base.specs.Reading.{single, one_or_more, up_to};
-ghost use Rattle.gql_base.specs.Sources.{ahead, Reads, offset_of};
-ghost use Rattle.gql_base.specs.Trees.{identifier_of, value_tree};
+ghost use Rattle.gql_base.specs.declared.lexical.token.TokenKind.TheVariants.{CloseParen};
+ghost use Rattle.gql_base.specs.ways.Reading.{single, one_or_more, up_to};
+ghost use Rattle.gql_base.specs.ways.Sources.{ahead, Reads, offset_of};
+ghost use Rattle.gql_base.specs.parts.Trees.{identifier_of, value_tree};
 ghost use Rattle.document_reader.specs.Documents.{kind_word, kind_named};
 ghost use Rattle.document_reader.specs.DocumentReading.{default_at, maybe_default_at, variable_at, variables_at, maybe_variables_at, maybe_name_at, operation_head_at, bare_at, operation_at, fragment_head_at, fragment_at, definition_at};
 ghost use Rattle.document_reader.specs.Trees.{maybe_identifier, maybe_value, variable_tree, directive_tree, tree_of_operation, tree_of_fragment, definition_tree};

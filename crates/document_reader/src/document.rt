@@ -1,13 +1,13 @@
 //! Reading a document from its text.
 
 ghost use Rattle.std.specs.Prelude.{◌≡◌, ◌≤◌, ℕ, List, length, map, IfOk, IfErr, false};
-ghost use Rattle.gql_base.specs.declared.token.Token.{Token};
-ghost use Rattle.gql_base.specs.Tokens.{Lexes};
-ghost use Rattle.gql_base.specs.Symbols.{symbols_from};
-ghost use Rattle.gql_base.specs.Reading.{next};
-ghost use Rattle.gql_base.specs.Grammar.{Nested, plain, Within};
-ghost use Rattle.gql_base.specs.Answers.{level_limit};
-ghost use Rattle.gql_base.specs.Sources.{ahead, Reads};
+ghost use Rattle.gql_base.specs.declared.lexical.token.Token.{Token};
+ghost use Rattle.gql_base.specs.lexical.Tokens.{Lexes};
+ghost use Rattle.gql_base.specs.ways.Symbols.{symbols_from};
+ghost use Rattle.gql_base.specs.ways.Reading.{next};
+ghost use Rattle.gql_base.specs.ways.Grammar.{Nested, plain, Within};
+ghost use Rattle.gql_base.specs.parts.Answers.{level_limit};
+ghost use Rattle.gql_base.specs.ways.Sources.{ahead, Reads};
 ghost use Rattle.document_reader.specs.Documents.{DefinitionTree, IsDocument};
 ghost use Rattle.document_reader.specs.DocumentReading.{document_at, is_there};
 ghost use Rattle.document_reader.specs.Trees.{definition_tree};

@@ -2,10 +2,10 @@
 
 ghost use Rattle.std.specs.Prelude.{◌≡◌, ◌<◌, ◌≤◌, length, map, IfOk, None, Some};
 ghost use Rattle.std.specs.Str.{bytes_eq};
-ghost use Rattle.gql_base.specs.declared.token.TokenKind.TheVariants.{CloseBrace};
-ghost use Rattle.gql_base.specs.Reading.{single, takes, next, one_or_more, up_to};
-ghost use Rattle.gql_base.specs.Sources.{ahead, Reads};
-ghost use Rattle.gql_base.specs.Trees.{identifier_of, named_value};
+ghost use Rattle.gql_base.specs.declared.lexical.token.TokenKind.TheVariants.{CloseBrace};
+ghost use Rattle.gql_base.specs.ways.Reading.{single, takes, next, one_or_more, up_to};
+ghost use Rattle.gql_base.specs.ways.Sources.{ahead, Reads};
+ghost use Rattle.gql_base.specs.parts.Trees.{identifier_of, named_value};
 ghost use Rattle.document_reader.specs.Documents.{keyword, fragment_name, inline_fragment};
 ghost use Rattle.document_reader.specs.DocumentReading.{field_names_at, field_head_at, type_condition_at, maybe_condition_at, spread_at, inline_head_at, inline_with, after_dots_with, dots_with, field_with, selection_with, maybe_set_with, set_at, opened_set_at};
 ghost use Rattle.document_reader.specs.Trees.{maybe_identifier, names_of, directive_tree, selection_tree, field_tree, set_tree};

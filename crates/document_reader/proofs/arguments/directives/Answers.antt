@@ -1,6 +1,6 @@
 use Rattle.std.proofs.Common.{arith, sym, ◌∙◌, map}
 use Rattle.std.proofs.lemmas.Result.{err_from_is_err_and}
-use Rattle.gql_base.proofs.Loops.{loop_ends, loop_halts, loop_goes_on}
+use Rattle.gql_base.proofs.WayLaws.Loops.{loop_ends, loop_halts, loop_goes_on}
 use Rattle.document_reader.specs.Trees.{directive_tree}
 use Rattle.document_reader.proofs.ReadingSteps.{directives_repeat}
 use Rattle.document_reader.proofs.arguments.directives.Goals as goal

@@ -1,8 +1,8 @@
 use Rattle.std.proofs.Common.{◌≡◌, ◌≤◌, ◌-◌, length, map}
-use Rattle.gql_base.specs.declared.token.TokenKind.TheVariants.{At}
-use Rattle.gql_base.specs.Reading.{repeated, takes, exact}
-use Rattle.gql_base.specs.Sources.{ahead}
-use Rattle.gql_base.proofs.Loops.{joined}
+use Rattle.gql_base.specs.declared.lexical.token.TokenKind.TheVariants.{At}
+use Rattle.gql_base.specs.ways.Reading.{repeated, takes, exact}
+use Rattle.gql_base.specs.ways.Sources.{ahead}
+use Rattle.gql_base.proofs.WayLaws.Loops.{joined}
 use Rattle.document_reader.specs.DocumentReading.{directive_at, directives_at}
 use Rattle.document_reader.specs.Trees.{directive_tree}
 use Rattle.document_reader.proofs.arguments.directives.Given as goal

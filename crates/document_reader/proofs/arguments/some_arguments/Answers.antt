@@ -1,7 +1,7 @@
 use Rattle.std.proofs.Common.{arith, sym, ◌∙◌, map}
 use Rattle.std.proofs.lemmas.Result.{err_from_is_err_and}
-use Rattle.gql_base.specs.Trees.{named_value}
-use Rattle.gql_base.proofs.Loops.{loop_ends, loop_halts, loop_goes_on}
+use Rattle.gql_base.specs.parts.Trees.{named_value}
+use Rattle.gql_base.proofs.WayLaws.Loops.{loop_ends, loop_halts, loop_goes_on}
 use Rattle.document_reader.proofs.ReadingSteps.{arguments_repeat}
 use Rattle.document_reader.proofs.arguments.some_arguments.Goals as goal
 

@@ -1,10 +1,10 @@
 use Rattle.std.proofs.Common.{◌≡◌, ◌<◌, ◌-◌, length, map}
-use Rattle.gql_base.specs.declared.token.TokenKind.TheVariants.{CloseParen}
-use Rattle.gql_base.specs.Reading.{repeated, one_or_more, up_to}
-use Rattle.gql_base.specs.Values.{value_at, named_value_at}
-use Rattle.gql_base.specs.Trees.{named_value}
-use Rattle.gql_base.specs.Sources.{ahead}
-use Rattle.gql_base.proofs.Loops.{joined}
+use Rattle.gql_base.specs.declared.lexical.token.TokenKind.TheVariants.{CloseParen}
+use Rattle.gql_base.specs.ways.Reading.{repeated, one_or_more, up_to}
+use Rattle.gql_base.specs.parts.Values.{value_at, named_value_at}
+use Rattle.gql_base.specs.parts.Trees.{named_value}
+use Rattle.gql_base.specs.ways.Sources.{ahead}
+use Rattle.gql_base.proofs.WayLaws.Loops.{joined}
 use Rattle.document_reader.proofs.arguments.some_arguments.Given as goal
 
 abbrev pub invariant-rest : goal.invariant-rest

@@ -1,7 +1,7 @@
 use Rattle.std.proofs.Common.{map}
-use Rattle.gql_base.specs.Answers.{level_limit}
-use Rattle.gql_base.specs.Sources.{ahead}
-use Rattle.gql_base.proofs.LevelLaws.{is_written}
+use Rattle.gql_base.specs.parts.Answers.{level_limit}
+use Rattle.gql_base.specs.ways.Sources.{ahead}
+use Rattle.gql_base.proofs.WayLaws.LevelLaws.{is_written}
 use Rattle.document_reader.specs.Trees.{definition_tree}
 use Rattle.document_reader.proofs.DocumentLaws.{document_family}
 use Rattle.document_reader.proofs.DocumentSteps.{whole_document, document_read, trees_same, memory_alone, is_fault_among}

@@ -1,5 +1,5 @@
 use Rattle.std.proofs.Common.{ap, ◌∙◌}
-use Rattle.gql_base.specs.Symbols.{symbols_from}
+use Rattle.gql_base.specs.ways.Symbols.{symbols_from}
 use Rattle.document_reader.proofs.DocumentSteps.{memory_of_lexing}
 use Rattle.document_reader.proofs.document.read_document.Goals as goal
 
