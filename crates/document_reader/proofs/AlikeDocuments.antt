@@ -4,7 +4,10 @@ use Rattle.std.specs.Prelude.{codes, map}
 use Rattle.gql_base.specs.declared.lexical.token.TokenKind.TheVariants.{Dollar, Colon, Equals}
 use Rattle.gql_base.specs.ways.Symbols.{punctuator, identifier, integer, string}
 use Rattle.gql_base.specs.ways.Grammar.{Single, Pair, Image, Optional}
-use Rattle.document_reader.specs.Documents.{kind_word, some_second, IsSelectionSet, IsDefault, variable_of, IsVariable, AreVariables, IsOperationHead, bare_operation, operation_of, head_of_fragment, IsFragmentHead, fragment_of, IsDefinition, IsDocument}
+use Rattle.gql_base.specs.parts.OperationKinds.{kind_word}
+use Rattle.gql_base.specs.ways.Reading.{some_second}
+use Rattle.gql_base.specs.parts.Arguments.{IsDefault}
+use Rattle.document_reader.specs.Documents.{IsSelectionSet, variable_of, IsVariable, AreVariables, IsOperationHead, bare_operation, operation_of, head_of_fragment, IsFragmentHead, fragment_of, IsDefinition, IsDocument}
 use Rattle.gql_base.specs.printing.PlacelessSymbols.{name_placeless}
 use Rattle.document_reader.specs.PlacelessDocuments.{maybe_name_placeless, directive_placeless, default_placeless, variable_placeless, definition_placeless, document_placeless}
 use Rattle.gql_base.proofs.WayLaws.AlikeLaws.{Alike, whole, both, TakesPlaceless, whole_option, single_alike, mark_alike, name_alike, pair_alike, image_alike, choice_alike, optional_alike, one_or_more_alike}

@@ -1,7 +1,7 @@
 -- What is printed of a document has tokens of its own, which are the same document but for the offsets of names.
 use Rattle.std.proofs.Common.{ℕ, List, All, IsUtf8, ap}
 use Rattle.std.specs.Prelude.{map}
-use Rattle.gql_base.specs.parts.Answers.{level_limit}
+use Rattle.gql_base.specs.ways.FirstFaults.{level_limit}
 use Rattle.gql_base.specs.printing.Printing.{printed}
 use Rattle.gql_base.specs.printing.PlacelessSymbols.{placeless_symbol}
 use Rattle.gql_base.specs.printing.PrintableSymbols.{IsPrintable}

@@ -8,13 +8,9 @@ use Rattle.gql_base.specs.declared.parts.trees.OperationKind.TheVariants.{Query,
 use Rattle.gql_base.specs.ways.Symbols.{punctuator, Symbols}
 use Rattle.gql_base.specs.ways.Reading.{Identifier}
 use Rattle.gql_base.specs.parts.Values.{ValueTree, NamedValue}
-use Rattle.gql_base.specs.printing.PrintedTrees.{printed_name, value_symbols, type_symbols}
-use Rattle.document_reader.specs.Documents.{DirectiveTree, FieldNames, SelectionTree, field_selection, fragment_spread, inline_fragment, SelectionTrees, no_selection, selection_then, VariableTree, DefinitionTree, operation_tree, fragment_tree}
-
--- things in parentheses, if there are any
-abbrev pub in_parentheses : {A : Type 0} → (A → Symbols) → List A → Symbols
-in_parentheses symbols [] = []
-in_parentheses symbols (a ∷ others) = punctuator OpenParen ∷ (flat_map symbols (a ∷ others) ++ (punctuator CloseParen ∷ []))
+use Rattle.gql_base.specs.printing.PrintedTrees.{printed_name, value_symbols, type_symbols, in_parentheses}
+use Rattle.gql_base.specs.parts.Arguments.{DirectiveTree}
+use Rattle.document_reader.specs.Documents.{FieldNames, SelectionTree, field_selection, fragment_spread, inline_fragment, SelectionTrees, no_selection, selection_then, VariableTree, DefinitionTree, operation_tree, fragment_tree}
 
 abbrev pub argument_symbols : NamedValue → Symbols
 argument_symbols a = printed_name a.0.0 ∷ punctuator Colon ∷ value_symbols a.1

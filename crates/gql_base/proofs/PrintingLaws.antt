@@ -6,3 +6,5 @@ pub mod TextSymbols
 pub mod TokenSymbols
 pub mod ReadAgain
 pub mod PrintedAgain
+pub mod Rewriting
+pub mod BareWays

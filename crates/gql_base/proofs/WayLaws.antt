@@ -3,6 +3,7 @@ pub mod ReadingLaws
 pub mod RepeatingLaws
 pub mod LevelLaws
 pub mod SymbolTests
+pub mod WordLaws
 pub mod Cursor
 pub mod Loops
 pub mod Readings
@@ -10,3 +11,5 @@ pub mod AlikeSymbols
 pub mod AlikeLaws
 pub mod CountedLevels
 pub mod FirstPlace
+pub mod FaultPlaces
+pub mod OneTextFault

@@ -16,6 +16,7 @@ pub use lexical::lexing::{LexFault, lex};
 pub use lexical::literals::{integer_at, string_at, string_value};
 pub use lexical::text::Text;
 pub use lexical::token::{Span, Token, TokenKind};
+pub use parts::arguments::{directives, maybe_arguments, maybe_default, operation_kind};
 pub use parts::fault_laws::a_value_has_one_fault;
 pub use parts::readers::{LEVEL_LIMIT, ValueFault, read_type_ref, read_value};
 pub use parts::tree_laws::{

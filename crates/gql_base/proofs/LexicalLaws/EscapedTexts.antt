@@ -58,11 +58,11 @@ alone_step : (c : ℕ) (cs : List ℕ) → (c == 92) ≡ false → is_comment_by
 unfolding text_step
 alone_step c cs other good = rw (no_escape c cs other) (rw (other, good) refl)
 
-alone_sound : (c at : ℕ) (cs : List ℕ) → (c == 92) ≡ false → is_comment_byte c ≡ true → text_fault 0 at (c ∷ cs) ≡ text_fault 0 (at + 1) cs
+pub alone_sound : (c at : ℕ) (cs : List ℕ) → (c == 92) ≡ false → is_comment_byte c ≡ true → text_fault 0 at (c ∷ cs) ≡ text_fault 0 (at + 1) cs
 unfolding text_fault
 alone_sound c at cs other good = rw (alone_step c cs other good) refl
 
-alone_open : (c at : ℕ) (cs : List ℕ) → (c == 34) ≡ false → (c == 92) ≡ false → is_line_end c ≡ false → closed_at false at (c ∷ cs) ≡ closed_at false (at + 1) cs
+pub alone_open : (c at : ℕ) (cs : List ℕ) → (c == 34) ≡ false → (c == 92) ≡ false → is_line_end c ≡ false → closed_at false at (c ∷ cs) ≡ closed_at false (at + 1) cs
 unfolding closed_at
 alone_open c at cs mark other same_line = rw (mark, same_line, other) refl
 

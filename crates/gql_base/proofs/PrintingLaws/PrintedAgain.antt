@@ -4,7 +4,7 @@ use Rattle.std.specs.Prelude.{map, Bool}
 use Rattle.std.proofs.lemmas.List.Elements.{All-map}
 use Rattle.gql_base.specs.ways.Symbols.{Symbol, punctuator, identifier, integer, string, Symbols, symbols_from}
 use Rattle.gql_base.specs.ways.Grammar.{Nested, plain, Within}
-use Rattle.gql_base.specs.parts.Answers.{level_limit}
+use Rattle.gql_base.specs.ways.FirstFaults.{level_limit}
 use Rattle.gql_base.specs.printing.Printing.{printed}
 use Rattle.gql_base.specs.printing.PlacelessSymbols.{placeless_symbol}
 use Rattle.gql_base.specs.printing.PrintableSymbols.{IsPrintable}

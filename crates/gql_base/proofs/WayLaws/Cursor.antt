@@ -8,7 +8,7 @@ use Rattle.gql_base.specs.declared.lexical.token.TokenKind.TheVariants.{Name, In
 use Rattle.gql_base.specs.declared.lexical.token.Token.{Token}
 use Rattle.gql_base.specs.declared.ways.source.Source.{Source}
 use Rattle.gql_base.specs.ways.Symbols.{Symbols, kind_of, kind_number, symbol_with, symbol_of, symbols_from}
-use Rattle.gql_base.specs.ways.Reading.{single, takes, next, taken, is_some, when, exact}
+use Rattle.gql_base.specs.ways.Reading.{single, takes, next, taken, is_some, is_there, when, exact}
 use Rattle.gql_base.specs.ways.Sources.{ahead, ahead_with}
 
 pub some_ahead : (s : Source) (at : ℕ) (default : Token) → at < length s.tokens.now → ahead s at ≡ symbol_of s.text.now (slice_index_or s.tokens.now at default) ∷ ahead s (at + 1)
@@ -18,6 +18,12 @@ some_ahead s at default h = let e : at + 1 ≡ suc at = omega arith in rw (drop-
 pub none_ahead : (s : Source) (at : ℕ) → length s.tokens.now ≤ at → ahead s at ≡ []
 unfolding symbols_from
 none_ahead s at h = rw (drop_all at s.tokens.now h) refl
+
+pub there_is : (s : Source) (at : ℕ) → at < length s.tokens.now → true ≡ is_there (next (ahead s at))
+there_is s at h = ap (λ (l : Symbols). is_there (next l)) (sym (some_ahead s at (record { kind = Name; span = record { start = 0; end = 0 } }) h))
+
+pub there_is_none : (s : Source) (at : ℕ) → length s.tokens.now ≤ at → false ≡ is_there (next (ahead s at))
+there_is_none s at h = ap (λ (l : Symbols). is_there (next l)) (sym (none_ahead s at h))
 
 number_with : (kind : TokenKind) (text : List ℕ) (token : Token) → kind_number (kind_of (symbol_with kind text token)) ≡ kind_number kind
 number_with Name text token = refl

@@ -1,6 +1,6 @@
 -- Loops over things that are read one after the other: the things read so far and those still to be read are the whole.
 use Rattle.std.proofs.Common.{◌≡◌, true, false, List, [], ◌∷◌, ◌++◌, map, Ok, Err, refl, sym, ap, ◌∙◌, subst, append_assoc, append-nil}
-use Rattle.std.proofs.lemmas.List.{map-append}
+use Rattle.std.proofs.lemmas.List.{map-append, map-id}
 use Rattle.gql_base.specs.declared.ways.source.Halt.{Halt}
 use Rattle.gql_base.specs.declared.ways.source.Halt.TheVariants.{Unexpected, TooDeep, Memory}
 use Rattle.gql_base.specs.declared.ways.source.Source.{Source}
@@ -42,6 +42,11 @@ pub loop_goes_on : {A B : Type 0} {test : Test} {r : Reader A} (view : B → A) 
 loop_goes_on {test = test} {r = r} view p all pushed b ws mid whole h t e is =
     ap (λ l. joined l (repeated test r mid)) (ap (map view) is ∙ map-append view all (b ∷ [])) ∙ step test r p (map view all) (view b) ws mid whole h t e
 
+-- the same where the things are seen as they are
+pub loop_goes_on_plain : {A : Type 0} {test : Test} {r : Reader A} → Repeats test r → (all pushed : List A) (a : A) (ws mid : Symbols) (whole : Reading (List A))
+    → joined all (repeated test r ws) ≡ whole → test (next ws) ≡ true → r ws ≡ Ok (a, mid) → pushed ≡ all ++ (a ∷ []) → joined pushed (repeated test r mid) ≡ whole
+loop_goes_on_plain {test = test} {r = r} p all pushed a ws mid whole h t e is = ap (λ l. joined l (repeated test r mid)) is ∙ step test r p all a ws mid whole h t e
+
 -- the first of one or more
 pub loop_begins : {A B : Type 0} (view : B → A) (test : Test) (r : Reader A) (all : List B) (b : B) (ws mid : Symbols) → r ws ≡ Ok (view b, mid) → all ≡ b ∷ [] → joined (map view all) (repeated test r mid) ≡ one_or_more test r ws
 loop_begins {A = A} view test r all b ws mid e is =
@@ -50,6 +55,10 @@ loop_begins {A = A} view test r all b ws mid e is =
     first_thing : (a : A) (o : Reading (List A)) → joined (a ∷ []) o ≡ then_read (then_read o (λ y. Ok ((a, y.0), y.1))) (λ p. Ok (listed p.0, p.1))
     first_thing a (Ok x) = refl
     first_thing a (Err e) = refl
+
+pub loop_begins_plain : {A : Type 0} (test : Test) (r : Reader A) (all : List A) (a : A) (ws mid : Symbols) → r ws ≡ Ok (a, mid) → all ≡ a ∷ [] → joined all (repeated test r mid) ≡ one_or_more test r ws
+loop_begins_plain test r all a ws mid e is =
+    ap (λ l. joined l (repeated test r mid)) (is ∙ sym (map-id (a ∷ []))) ∙ loop_begins (λ x. x) test r (a ∷ []) a ws mid e refl
 
 -- a thing and then another
 pub two_ok : {A B C : Type 0} (h : A × B → C) (r : Reader A) (q : Reader B) (ws mid rest : Symbols) (a : A) (b : B) → r ws ≡ Ok (a, mid) → q mid ≡ Ok (b, rest) → image h (pair r q) ws ≡ Ok (h (a, b), rest)

@@ -6,24 +6,23 @@ use Rattle.gql_base.specs.declared.parts.readers.ValueFault.{ValueFault}
 use Rattle.gql_base.specs.declared.parts.readers.ValueFault.TheVariants.{Unexpected, TooDeep, Memory}
 use Rattle.gql_base.specs.ways.Symbols.{Symbols, punctuator, symbols_from}
 use Rattle.gql_base.specs.ways.Grammar.{Nested}
-use Rattle.gql_base.specs.ways.FirstFaults.{IsUnexpected, IsTooDeep}
+use Rattle.gql_base.specs.ways.TextFaults.{TextFault, unexpected_at, too_deep_at, no_memory, IsFaultFrom}
 use Rattle.gql_base.specs.parts.TypeReferences.{TypeTree, non_null_type}
-use Rattle.gql_base.specs.ways.Sources.{offset_of}
-
--- the number of levels that may be open at once
-abbrev pub level_limit : ℕ
-level_limit = 50
 
 -- The answer is this thing, and this is left, if memory didn't run out.
 abbrev pub Gives : {A V : Type 0} → (V → A) → List ℕ → List Token → A → Symbols → Result (V × ℕ) ValueFault → Type 0
 Gives view text tokens a rest (Ok x) = (view x.0 ≡ a) × (symbols_from text tokens x.1 ≡ rest)
 Gives view text tokens a rest (Err fault) = fault ≡ Memory
 
+-- what the fault tells
+abbrev pub told_of_value : ValueFault → TextFault
+told_of_value (Unexpected at) = unexpected_at at
+told_of_value (TooDeep at) = too_deep_at at
+told_of_value Memory = no_memory
+
 -- why nothing is read from a token on, with the offset of the first fault
 abbrev pub IsFault : {A : Type 0} → (A → Nested → Type 0) → List ℕ → List Token → ℕ → ValueFault → Type 0
-IsFault S text tokens from (Unexpected at) = (place : ℕ) × (at ≡ offset_of text tokens place) × IsUnexpected S level_limit (symbols_from text tokens from) (symbols_from text tokens place)
-IsFault S text tokens from (TooDeep at) = (place : ℕ) × (at ≡ offset_of text tokens place) × IsTooDeep S level_limit (symbols_from text tokens from) (symbols_from text tokens place)
-IsFault S text tokens from Memory = Unit {0}
+IsFault S text tokens from fault = IsFaultFrom S text tokens from (told_of_value fault)
 
 -- no `!` follows a type to which it would belong
 abbrev pub EndsBefore : TypeTree → Symbols → Type 0

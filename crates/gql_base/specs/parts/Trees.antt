@@ -1,5 +1,7 @@
 -- What the parts of trees in the program stand for.
+use Rattle.std.specs.Prelude.{map, Option, None, Some}
 use Rattle.gql_base.specs.declared.parts.trees.Name.{Name}
+use Rattle.gql_base.specs.declared.parts.trees.Directive.{Directive}
 use Rattle.gql_base.specs.declared.parts.trees.Value.{Value}
 use Rattle.gql_base.specs.declared.parts.trees.Argument.{Argument}
 use Rattle.gql_base.specs.declared.parts.trees.Value.TheOpen.{Value-F, Argument-F}
@@ -9,6 +11,7 @@ use Rattle.gql_base.specs.declared.parts.trees.TypeRef.TheOpen.{TypeRef-F}
 use Rattle.gql_base.specs.declared.parts.trees.TypeRef.TheFolds.{fold-TypeRef}
 use Rattle.gql_base.specs.ways.Reading.{Identifier}
 use Rattle.gql_base.specs.parts.Values.{ValueTree, variable_value, integer_value, string_value, boolean_value, null_value, enum_value, list_value, object_value, values_from, fields_from, NamedValue}
+use Rattle.gql_base.specs.parts.Arguments.{DirectiveTree}
 use Rattle.gql_base.specs.parts.TypeReferences.{TypeTree, named_type, list_type, non_null_type}
 
 abbrev pub identifier_of : Name → Identifier
@@ -43,3 +46,12 @@ type_step (TypeRef-F.NonNull t) = non_null_type t.value
 -- the tree of a type
 unfoldable pub type_tree : TypeRef → TypeTree
 type_tree = fold-TypeRef TypeTree type_step
+
+-- the tree of a directive
+abbrev pub directive_tree : Directive → DirectiveTree
+directive_tree d = (identifier_of d.name, map named_value d.arguments.items)
+
+-- the tree of a value that may be left out
+abbrev pub maybe_value : Option Value → Option ValueTree
+maybe_value None = None
+maybe_value (Some v) = Some (value_tree v)

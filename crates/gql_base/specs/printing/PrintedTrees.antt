@@ -1,6 +1,7 @@
 -- The symbols in which values and types are printed, and trees without the offsets of their names.
 use Rattle.std.specs.Prelude.{ℕ, Bool, true, false, List, [], ◌∷◌, ◌++◌, codes}
-use Rattle.gql_base.specs.declared.lexical.token.TokenKind.TheVariants.{Bang, Dollar, Colon, OpenBracket, CloseBracket, OpenBrace, CloseBrace}
+use Rattle.std.specs.List.{flat_map}
+use Rattle.gql_base.specs.declared.lexical.token.TokenKind.TheVariants.{Bang, Dollar, Colon, OpenParen, CloseParen, OpenBracket, CloseBracket, OpenBrace, CloseBrace}
 use Rattle.gql_base.specs.ways.Symbols.{Symbol, punctuator, identifier, integer, string, Symbols}
 use Rattle.gql_base.specs.parts.Values.{ValueTree, variable_value, integer_value, string_value, boolean_value, null_value, enum_value, list_value, object_value, ValueTrees, no_value, value_then, FieldTrees, no_field, field_then}
 use Rattle.gql_base.specs.parts.TypeReferences.{TypeTree, named_type, list_type, non_null_type}
@@ -8,6 +9,11 @@ use Rattle.gql_base.specs.parts.TypeReferences.{TypeTree, named_type, list_type,
 -- a name that is printed has no offset
 abbrev pub printed_name : List ℕ → Symbol
 printed_name bytes = identifier bytes 0
+
+-- things in parentheses, if there are any
+abbrev pub in_parentheses : {A : Type 0} → (A → Symbols) → List A → Symbols
+in_parentheses symbols [] = []
+in_parentheses symbols (a ∷ others) = punctuator OpenParen ∷ (flat_map symbols (a ∷ others) ++ (punctuator CloseParen ∷ []))
 
 abbrev pub boolean_name : Bool → List ℕ
 boolean_name true = codes "true"

@@ -4,8 +4,7 @@ use Rattle.gql_base.specs.declared.lexical.token.Token.{Token}
 use Rattle.gql_base.specs.lexical.Tokens.{Lexes}
 use Rattle.gql_base.specs.ways.Symbols.{symbols_from}
 use Rattle.gql_base.specs.ways.Grammar.{Nested}
-use Rattle.gql_base.specs.ways.FirstFaults.{IsWritten}
-use Rattle.gql_base.specs.parts.Answers.{level_limit}
+use Rattle.gql_base.specs.ways.FirstFaults.{level_limit, IsWritten}
 use Rattle.gql_base.specs.printing.PrintableSymbols.{HoldsPrintable}
 
 -- All tokens of the text are this thing, nested no deeper than the limit. No string among them holds a control

@@ -3,6 +3,10 @@ use Rattle.std.specs.Prelude.{ℕ, suc, ◌≡◌, [], ◌∷◌, ◌++◌}
 use Rattle.gql_base.specs.ways.Symbols.{Symbol, Symbols}
 use Rattle.gql_base.specs.ways.Grammar.{Nested, plain, Within}
 
+-- the number of levels that may be open at once
+abbrev pub level_limit : ℕ
+level_limit = 50
+
 -- No thing is written with these symbols; where symbols are left, none begins with these and the first of those.
 abbrev pub NoneGoesOn : {A : Type 0} → (A → Nested → Type 0) → Symbols → Symbols → Type 0
 NoneGoesOn S front [] = (a : _) (ws : Nested) → S a ws → plain ws ≡ front → ⊥

@@ -1,6 +1,7 @@
 -- The ways of reading from which the readers of all grammars are put together. A reader gives what it reads at
 -- the front of symbols and the symbols after that, or why it stops and the symbols before which it stops.
 use Rattle.std.specs.Prelude.{ℕ, zero, suc, ◌==◌, not, Bool, true, false, List, [], ◌∷◌, length, Option, None, Some, Result, Ok, Err, if◌then◌else◌}
+use Rattle.std.specs.Str.{bytes_eq}
 use Rattle.gql_base.specs.declared.lexical.token.TokenKind.{TokenKind}
 use Rattle.gql_base.specs.ways.Symbols.{Symbol, punctuator, identifier, integer, string, Symbols, kind_of, kind_number}
 
@@ -90,6 +91,14 @@ one_or_more test r = image listed (pair r (repeated test r))
 abbrev pub second : {A B : Type 0} → A × B → B
 second p = p.1
 
+-- the thing between two others
+abbrev pub inside : {A : Type 0} → Unit {0} × (A × Unit {0}) → A
+inside p = p.1.0
+
+-- the thing after another, where one may be left out
+abbrev pub some_second : {A : Type 0} → Unit {0} × A → Option A
+some_second p = Some p.1
+
 -- a symbol that opens a level, if one is left
 abbrev pub opener : {A : Type 0} → Taking A → ℕ → Reader A
 opener taking zero ws = Err (if takes taking (next ws) then too_deep else unexpected, ws)
@@ -119,6 +128,24 @@ any_name (identifier bytes at) = Some (bytes, at)
 any_name (punctuator kind) = None
 any_name (integer value) = None
 any_name (string value) = None
+
+-- this name
+abbrev pub keyword : List ℕ → Taking (Unit {0})
+keyword word (identifier bytes at) = when (bytes_eq bytes word)
+keyword word (punctuator kind) = None
+keyword word (integer value) = None
+keyword word (string value) = None
+
+-- a string or a block string, by what it stands for
+abbrev pub any_string : Taking (List ℕ)
+any_string (string value) = Some value
+any_string (identifier bytes at) = None
+any_string (punctuator kind) = None
+any_string (integer value) = None
+
+-- there is a next symbol
+abbrev pub is_there : Test
+is_there w = is_some w
 
 -- there is a next symbol, and it is of another kind
 abbrev pub up_to : TokenKind → Test

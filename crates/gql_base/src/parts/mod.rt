@@ -1,5 +1,6 @@
 //! The parts that documents and schemas share (GraphQL October 2021, 2.9 and 2.11).
 
+pub mod arguments;
 pub mod fault_laws;
 pub mod readers;
 #[cfg(test)]

@@ -3,12 +3,12 @@
 ghost use Rattle.std.specs.Prelude.{◌≡◌, ◌++◌, ◌<◌, ◌≤◌, length, IfOk, IfErr, false};
 ghost use Rattle.gql_base.specs.ways.Symbols.{Symbols, symbols_from};
 ghost use Rattle.gql_base.specs.ways.Grammar.{Nested, plain, Within};
-ghost use Rattle.gql_base.specs.ways.FirstFaults.{IsWritten};
+ghost use Rattle.gql_base.specs.ways.FirstFaults.{level_limit, IsWritten};
 ghost use Rattle.gql_base.specs.parts.Values.{ValueTree, IsValue};
 ghost use Rattle.gql_base.specs.parts.TypeReferences.{TypeTree, IsType};
 ghost use Rattle.gql_base.specs.parts.Trees.{value_tree, type_tree};
-ghost use Rattle.gql_base.specs.parts.Answers.{level_limit, Gives, IsFault, EndsBefore};
-ghost use Rattle.gql_base.specs.ways.Halting.{IsFaultOfHalt};
+ghost use Rattle.gql_base.specs.parts.Answers.{Gives, IsFault, EndsBefore, told_of_value};
+ghost use Rattle.gql_base.specs.ways.Halting.{fault_of_halt};
 
 use crate::lexical::token::Token;
 use crate::parts::trees::{TypeRef, Value};
@@ -33,7 +33,7 @@ pub enum ValueFault {
 
 /// The fault of reading that halted.
 fn fault_of(source: &Source, halt: Halt) -> ValueFault
-    ensures { IsFaultOfHalt source.now halt result }
+    ensures { told_of_value result ≡ fault_of_halt source.now halt }
 {
     match halt {
         Halt::Unexpected(place) => ValueFault::Unexpected {

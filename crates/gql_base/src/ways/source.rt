@@ -1,11 +1,12 @@
 //! The tokens of a text, as readers of all grammars look at them.
 
-ghost use Rattle.std.specs.Prelude.{◌≡◌, ◌==◌, ◌+◌, ◌≤◌, ◌<◌, length, IfOk, IfErr, IfSome};
+ghost use Rattle.std.specs.Prelude.{◌≡◌, ◌==◌, ◌+◌, ◌≤◌, ◌<◌, length, IfOk, IfErr, IfSome, false};
 ghost use Rattle.gql_base.specs.lexical.Tokens.{bytes_at};
 ghost use Rattle.gql_base.specs.ways.Symbols.{kind_number};
-ghost use Rattle.gql_base.specs.ways.Reading.{single, takes, next, opener, exact, any_name, up_to};
+ghost use Rattle.gql_base.specs.ways.Reading.{single, takes, next, opener, exact, any_name, keyword, any_string, is_there, up_to};
 ghost use Rattle.gql_base.specs.ways.Sources.{ahead, ahead_with, Reads, offset_of};
 
+use crate::lexical::literals::string_at;
 use crate::lexical::text::Text;
 use crate::lexical::token::{Token, TokenKind};
 use crate::parts::trees::Name;
@@ -143,6 +144,80 @@ impl<'a> Source<'a> {
                     };
                     Ok((name, at + 1))
                 }
+                _ => Err(Halt::Unexpected(at)),
+            },
+            None => Err(Halt::Unexpected(at)),
+        }
+    }
+
+    /// Whether there is a token with this number.
+    pub fn is_there(&self, at: usize) -> bool
+        ensures there { result ≡ is_there (next (ahead self.now at)) }
+        ensures end { result ≡ false → length self.now.tokens.now ≤ at }
+    {
+        if at < self.tokens.len() {
+            return true;
+        }
+        false
+    }
+
+    /// Whether the token with this number is this name.
+    pub fn is_word(&self, at: usize, word: &str) -> bool
+        ensures { result ≡ takes (keyword word.now) (next (ahead self.now at)) }
+    {
+        match self.token(at) {
+            Some(token) => match token.kind {
+                TokenKind::Name => token.text(self.text).as_bytes() == word.as_bytes(),
+                _ => false,
+            },
+            None => false,
+        }
+    }
+
+    /// The token after this one, which must be this name.
+    pub fn wants_word(&self, at: usize, word: &str) -> Result<usize, Halt>
+        ensures read { Reads self.now (λ end. (tt, end)) result (single (keyword word.now) (ahead self.now at)) }
+        ensures within { IfOk result (λ end. (end ≡ at + 1) × (end ≤ length self.now.tokens.now)) }
+    {
+        match self.token(at) {
+            Some(token) => match token.kind {
+                TokenKind::Name => {
+                    if token.text(self.text).as_bytes() == word.as_bytes() {
+                        Ok(at + 1)
+                    } else {
+                        Err(Halt::Unexpected(at))
+                    }
+                }
+                _ => Err(Halt::Unexpected(at)),
+            },
+            None => Err(Halt::Unexpected(at)),
+        }
+    }
+
+    /// Whether the token with this number is a string or a block string.
+    pub fn is_string(&self, at: usize) -> bool
+        ensures { result ≡ takes any_string (next (ahead self.now at)) }
+    {
+        match self.token(at) {
+            Some(token) => match token.kind {
+                TokenKind::Str => true,
+                TokenKind::BlockStr => true,
+                _ => false,
+            },
+            None => false,
+        }
+    }
+
+    /// What the string or block string that the token with this number is stands for, and the number of the token after
+    /// it.
+    pub fn string(&self, alloc: Global, at: usize) -> Result<(Text, usize), Halt>
+        ensures read { Reads self.now (λ x. (x.0, x.1)) result (single any_string (ahead self.now at)) }
+        ensures within { IfOk result (λ x. (x.1 ≡ at + 1) × (x.1 ≤ length self.now.tokens.now)) }
+    {
+        match self.token(at) {
+            Some(token) => match token.kind {
+                TokenKind::Str => Ok((string_at(alloc, self.text, token)?, at + 1)),
+                TokenKind::BlockStr => Ok((string_at(alloc, self.text, token)?, at + 1)),
                 _ => Err(Halt::Unexpected(at)),
             },
             None => Err(Halt::Unexpected(at)),

@@ -1,11 +1,13 @@
 use Rattle.gql_base.specs.declared.ways.source.Source.{Source}
-use Rattle.gql_base.specs.parts.Answers.{level_limit}
+use Rattle.gql_base.specs.ways.FirstFaults.{level_limit}
 use Rattle.gql_base.specs.ways.Sources.{ahead}
 use Rattle.gql_base.specs.parts.Trees.{type_tree}
 use Rattle.gql_base.specs.parts.TypeReferences.{type_at}
 use Rattle.gql_base.proofs.WayLaws.LevelLaws.{is_written}
 use Rattle.gql_base.proofs.PartLaws.TypeLaws.{type_family}
-use Rattle.gql_base.proofs.WayLaws.Readings.{gives_ok, gives_err, is_fault, type_is_read}
+use Rattle.gql_base.proofs.WayLaws.Readings.{fault_from}
+use Rattle.gql_base.specs.parts.Answers.{told_of_value}
+use Rattle.gql_base.proofs.PartLaws.PartReadings.{gives_ok, gives_err, type_is_read}
 use Rattle.gql_base.proofs.parts.readers.read_type_ref.Goals as goal
 
 pub returns-in-Ok-clause-found : goal.returns-in-Ok-clause-found
@@ -24,4 +26,4 @@ returns-in-Err-clause-only c = λ t front rest is within end cut.
 pub returns-in-Err-clause-fault : goal.returns-in-Err-clause-fault
 returns-in-Err-clause-fault c =
     let s : Source = record { text = c.args.text; tokens = c.args.tokens } in
-    is_fault type_family s c.args.from c.in-Err.halt c.fault_of.result c.in-Err.ensures.read c.fault_of.ensures
+    fault_from type_family s c.args.from c.in-Err.halt (told_of_value c.fault_of.result) c.in-Err.ensures.read c.fault_of.ensures

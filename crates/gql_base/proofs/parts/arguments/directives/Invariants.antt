@@ -3,9 +3,9 @@ use Rattle.gql_base.specs.declared.lexical.token.TokenKind.TheVariants.{At}
 use Rattle.gql_base.specs.ways.Reading.{repeated, takes, exact}
 use Rattle.gql_base.specs.ways.Sources.{ahead}
 use Rattle.gql_base.proofs.WayLaws.Loops.{joined}
-use Rattle.document_reader.specs.DocumentReading.{directive_at, directives_at}
-use Rattle.document_reader.specs.Trees.{directive_tree}
-use Rattle.document_reader.proofs.arguments.directives.Given as goal
+use Rattle.gql_base.specs.parts.Arguments.{directive_at, directives_at}
+use Rattle.gql_base.specs.parts.Trees.{directive_tree}
+use Rattle.gql_base.proofs.parts.arguments.directives.Given as goal
 
 abbrev pub invariant-rest : goal.invariant-rest
 invariant-rest l = record {

@@ -1,9 +1,9 @@
 use Rattle.std.proofs.Common.{arith, sym, ◌∙◌, map}
 use Rattle.std.proofs.lemmas.Result.{err_from_is_err_and}
 use Rattle.gql_base.proofs.WayLaws.Loops.{loop_ends, loop_halts, loop_goes_on}
-use Rattle.document_reader.specs.Trees.{directive_tree}
-use Rattle.document_reader.proofs.ReadingSteps.{directives_repeat}
-use Rattle.document_reader.proofs.arguments.directives.Goals as goal
+use Rattle.gql_base.specs.parts.Trees.{directive_tree}
+use Rattle.gql_base.proofs.PartLaws.ArgumentLaws.{directives_repeat}
+use Rattle.gql_base.proofs.parts.arguments.directives.Goals as goal
 
 pub returns-in_err-directive-clause-read : goal.returns-in_err-directive-clause-read
 returns-in_err-directive-clause-read c =

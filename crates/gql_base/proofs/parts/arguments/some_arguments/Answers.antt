@@ -2,8 +2,8 @@ use Rattle.std.proofs.Common.{arith, sym, ◌∙◌, map}
 use Rattle.std.proofs.lemmas.Result.{err_from_is_err_and}
 use Rattle.gql_base.specs.parts.Trees.{named_value}
 use Rattle.gql_base.proofs.WayLaws.Loops.{loop_ends, loop_halts, loop_goes_on}
-use Rattle.document_reader.proofs.ReadingSteps.{arguments_repeat}
-use Rattle.document_reader.proofs.arguments.some_arguments.Goals as goal
+use Rattle.gql_base.proofs.PartLaws.ArgumentLaws.{arguments_repeat}
+use Rattle.gql_base.proofs.parts.arguments.some_arguments.Goals as goal
 
 pub returns-in_err-argument-clause-read : goal.returns-in_err-argument-clause-read
 returns-in_err-argument-clause-read c =

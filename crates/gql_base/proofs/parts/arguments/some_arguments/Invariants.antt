@@ -5,7 +5,7 @@ use Rattle.gql_base.specs.parts.Values.{value_at, named_value_at}
 use Rattle.gql_base.specs.parts.Trees.{named_value}
 use Rattle.gql_base.specs.ways.Sources.{ahead}
 use Rattle.gql_base.proofs.WayLaws.Loops.{joined}
-use Rattle.document_reader.proofs.arguments.some_arguments.Given as goal
+use Rattle.gql_base.proofs.parts.arguments.some_arguments.Given as goal
 
 abbrev pub invariant-rest : goal.invariant-rest
 invariant-rest l = record {

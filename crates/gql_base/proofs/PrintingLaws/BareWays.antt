@@ -1,20 +1,18 @@
 -- Things are printed in the symbols that they are written with, without the offsets of names, for each of the ways of
 -- which grammars are put together.
-use Rattle.std.proofs.Common.{ℕ, ◌≡◌, inl, inr, Bool, true, false, List, [], ◌∷◌, ◌++◌, Some, refl, sym, ap, ◌∙◌, subst}
+use Rattle.std.proofs.Common.{ℕ, ◌≡◌, inl, inr, List, [], ◌∷◌, ◌++◌, Some, refl, sym, ap, ◌∙◌, subst}
 use Rattle.std.specs.List.{flat_map}
 use Rattle.std.specs.Str.{bytes_eq}
 use Rattle.std.proofs.lemmas.Slice.Eq.{bytes_eq-Decides}
 use Rattle.gql_base.specs.declared.lexical.token.TokenKind.{TokenKind}
 use Rattle.gql_base.specs.declared.lexical.token.TokenKind.TheVariants.{OpenParen, CloseParen}
 use Rattle.gql_base.specs.ways.Symbols.{Symbol, punctuator, identifier, integer, string, Symbols}
-use Rattle.gql_base.specs.ways.Reading.{Taking, exact, Identifier, any_name, listed}
+use Rattle.gql_base.specs.ways.Reading.{Taking, inside, exact, any_name, keyword, listed}
 use Rattle.gql_base.specs.ways.Grammar.{Nested, Single, Pair, Image, Optional, Repeated, OneOrMore}
-use Rattle.gql_base.specs.printing.PrintedTrees.{printed_name}
+use Rattle.gql_base.specs.printing.PrintedTrees.{printed_name, in_parentheses}
 use Rattle.gql_base.specs.printing.PlacelessSymbols.{placeless_symbol}
 use Rattle.gql_base.proofs.WayLaws.SymbolTests.{when_true, IsPunctuator, exact_is, name_is}
 use Rattle.gql_base.proofs.PrintingLaws.PrintedSymbols.{bare, bare_append}
-use Rattle.document_reader.specs.Documents.{keyword, unless, fragment_name, inside}
-use Rattle.document_reader.specs.PrintedDocuments.{in_parentheses}
 
 pub record Bare {A : Type 0} (S : A → Nested → Type 0) (symbols : A → Symbols) : Type 0 where
   pub says : (a : A) (ws : Nested) → S a ws → symbols a ≡ bare ws
@@ -37,19 +35,6 @@ bare_word bytes = bare_single (keyword bytes) (λ a. printed_name bytes) same
     same : (w : Symbol) (a : Unit {0}) → keyword bytes w ≡ Some a → printed_name bytes ≡ placeless_symbol w
     same (punctuator kind) a e = cc
     same (identifier name at) a e = sym (ap printed_name ((bytes_eq-Decides name bytes).0 (when_true (bytes_eq name bytes) a e)))
-    same (integer value) a e = cc
-    same (string value) a e = cc
-
-pub bare_fragment_name : {d : ℕ} → Bare (Single fragment_name d) (λ name. printed_name name.0 ∷ [])
-bare_fragment_name = bare_single fragment_name (λ name. printed_name name.0) same
-  where
-    unless_same : (b : Bool) (x a : Identifier) → unless b x ≡ Some a → printed_name a.0 ≡ printed_name x.0
-    unless_same true x a e = cc
-    unless_same false x a e = let same : x ≡ a = cc in sym (ap (λ (y : Identifier). printed_name y.0) same)
-
-    same : (w : Symbol) (a : Identifier) → fragment_name w ≡ Some a → printed_name a.0 ≡ placeless_symbol w
-    same (punctuator kind) a e = cc
-    same (identifier bytes at) a e = unless_same _ (bytes, at) a e
     same (integer value) a e = cc
     same (string value) a e = cc
 

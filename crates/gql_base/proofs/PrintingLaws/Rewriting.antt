@@ -5,13 +5,12 @@ use Rattle.std.specs.List.{flat_map}
 use Rattle.gql_base.specs.declared.lexical.token.TokenKind.{TokenKind}
 use Rattle.gql_base.specs.declared.lexical.token.TokenKind.TheVariants.{OpenParen, CloseParen}
 use Rattle.gql_base.specs.ways.Symbols.{Symbol, punctuator, Symbols}
-use Rattle.gql_base.specs.ways.Reading.{Taking, exact, listed}
+use Rattle.gql_base.specs.ways.Reading.{Taking, inside, exact, listed}
 use Rattle.gql_base.specs.ways.Grammar.{Nested, plain, Within, Single, Pair, Image, Optional, Repeated, OneOrMore}
 use Rattle.gql_base.proofs.WayLaws.ReadingLaws.{plain_append, within_append, within_front, within_back}
 use Rattle.gql_base.proofs.WayLaws.SymbolTests.{exact_itself}
 use Rattle.gql_base.proofs.PrintingLaws.PrintedLaws.{Rewritten}
-use Rattle.document_reader.specs.Documents.{inside}
-use Rattle.document_reader.specs.PrintedDocuments.{in_parentheses}
+use Rattle.gql_base.specs.printing.PrintedTrees.{in_parentheses}
 
 -- Each thing that is written is printed in these symbols, which are written as what f makes of the thing.
 pub record Rewrites {A : Type 0} (n : ℕ) (S : A → Nested → Type 0) (f : A → A) (symbols : A → Symbols) : Type 0 where
