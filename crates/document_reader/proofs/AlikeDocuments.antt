@@ -1,14 +1,17 @@
 -- The same symbols at other offsets are the same definitions and documents, but for the offsets of their names.
 use Rattle.std.proofs.Common.{ℕ, true, false, [], None, Some, refl}
 use Rattle.std.specs.Prelude.{codes, map}
-use Rattle.gql_base.specs.declared.token.TokenKind.TheVariants.{Dollar, Colon, Equals}
-use Rattle.gql_base.specs.Symbols.{punctuator, identifier, integer, string}
-use Rattle.gql_base.specs.Grammar.{Single, Pair, Image, Optional}
-use Rattle.document_reader.specs.Documents.{kind_word, some_second, IsSelectionSet, IsDefault, variable_of, IsVariable, AreVariables, IsOperationHead, bare_operation, operation_of, head_of_fragment, IsFragmentHead, fragment_of, IsDefinition, IsDocument}
-use Rattle.gql_base.specs.PlacelessSymbols.{name_placeless}
+use Rattle.gql_base.specs.declared.lexical.token.TokenKind.TheVariants.{Dollar, Colon, Equals}
+use Rattle.gql_base.specs.ways.Symbols.{punctuator, identifier, integer, string}
+use Rattle.gql_base.specs.ways.Grammar.{Single, Pair, Image, Optional}
+use Rattle.gql_base.specs.parts.OperationKinds.{kind_word}
+use Rattle.gql_base.specs.ways.Reading.{some_second}
+use Rattle.gql_base.specs.parts.Arguments.{IsDefault}
+use Rattle.document_reader.specs.Documents.{IsSelectionSet, variable_of, IsVariable, AreVariables, IsOperationHead, bare_operation, operation_of, head_of_fragment, IsFragmentHead, fragment_of, IsDefinition, IsDocument}
+use Rattle.gql_base.specs.printing.PlacelessSymbols.{name_placeless}
 use Rattle.document_reader.specs.PlacelessDocuments.{maybe_name_placeless, directive_placeless, default_placeless, variable_placeless, definition_placeless, document_placeless}
-use Rattle.gql_base.proofs.AlikeLaws.{Alike, whole, both, TakesPlaceless, whole_option, single_alike, mark_alike, name_alike, pair_alike, image_alike, choice_alike, optional_alike, one_or_more_alike}
-use Rattle.gql_base.proofs.AlikeTrees.{value_alike, type_alike}
+use Rattle.gql_base.proofs.WayLaws.AlikeLaws.{Alike, whole, both, TakesPlaceless, whole_option, single_alike, mark_alike, name_alike, pair_alike, image_alike, choice_alike, optional_alike, one_or_more_alike}
+use Rattle.gql_base.proofs.PartLaws.AlikeTrees.{value_alike, type_alike}
 use Rattle.document_reader.proofs.AlikeSelections.{word_alike, fragment_name_alike, parens_alike, directives_alike, set_alike}
 
 -- variables

@@ -4,18 +4,19 @@ use Rattle.std.proofs.Common.{ℕ, suc, ◌≡◌, inl, inr, Bool, true, false, 
 use Rattle.std.specs.Prelude.{codes, map}
 use Rattle.std.specs.Str.{bytes_eq}
 use Rattle.std.specs.Option.{option_map}
-use Rattle.gql_base.specs.declared.token.TokenKind.TheVariants.{Colon, At, Spread, OpenParen, CloseParen, OpenBrace, CloseBrace}
-use Rattle.gql_base.specs.Symbols.{punctuator, identifier, integer, string}
-use Rattle.gql_base.specs.Reading.{exact, Identifier, second}
-use Rattle.gql_base.specs.Grammar.{Nested, Single, Pair, Image, Optional, OneOrMore}
-use Rattle.gql_base.specs.Values.{NamedValue, named_value_of}
-use Rattle.gql_base.specs.Alike.{AreAlike}
-use Rattle.document_reader.specs.Documents.{DirectiveTree, FieldNames, SelectionTree, field_selection, fragment_spread, inline_fragment, SelectionTrees, no_selection, selection_then, keyword, unless, fragment_name, inside, some_second, IsArgument, AreArguments, IsDirective, AreDirectives, AreFieldNames, IsFieldHead, IsTypeCondition, IsSpreadEnd, IsInlineHead, IsSelection, IsSelectionSet, AreSelections}
-use Rattle.gql_base.specs.PlacelessSymbols.{name_placeless}
+use Rattle.gql_base.specs.declared.lexical.token.TokenKind.TheVariants.{Colon, At, Spread, OpenParen, CloseParen, OpenBrace, CloseBrace}
+use Rattle.gql_base.specs.ways.Symbols.{punctuator, identifier, integer, string}
+use Rattle.gql_base.specs.ways.Reading.{exact, Identifier, second, keyword, inside, some_second}
+use Rattle.gql_base.specs.ways.Grammar.{Nested, Single, Pair, Image, Optional, OneOrMore}
+use Rattle.gql_base.specs.parts.Values.{NamedValue, named_value_of}
+use Rattle.gql_base.specs.printing.Alike.{AreAlike}
+use Rattle.gql_base.specs.parts.Arguments.{DirectiveTree, IsArgument, AreArguments, IsDirective, AreDirectives}
+use Rattle.document_reader.specs.Documents.{FieldNames, SelectionTree, field_selection, fragment_spread, inline_fragment, SelectionTrees, no_selection, selection_then, unless, fragment_name, AreFieldNames, IsFieldHead, IsTypeCondition, IsSpreadEnd, IsInlineHead, IsSelection, IsSelectionSet, AreSelections}
+use Rattle.gql_base.specs.printing.PlacelessSymbols.{name_placeless}
 use Rattle.document_reader.specs.PlacelessDocuments.{maybe_name_placeless, names_placeless, argument_placeless, directive_placeless, selection_placeless, selections_placeless}
-use Rattle.gql_base.proofs.AlikeSymbols.{none_alike, split_alike}
-use Rattle.gql_base.proofs.AlikeLaws.{Alike, whole, both, TakesPlaceless, whole_option, single_alike, mark_alike, name_alike, pair_alike, image_alike, optional_alike, repeated_alike, one_or_more_alike, bracketed_alike}
-use Rattle.gql_base.proofs.AlikeTrees.{value_alike}
+use Rattle.gql_base.proofs.WayLaws.AlikeSymbols.{none_alike, split_alike}
+use Rattle.gql_base.proofs.WayLaws.AlikeLaws.{Alike, whole, both, TakesPlaceless, whole_option, single_alike, mark_alike, name_alike, pair_alike, image_alike, optional_alike, repeated_alike, one_or_more_alike, bracketed_alike}
+use Rattle.gql_base.proofs.PartLaws.AlikeTrees.{value_alike}
 
 -- words
 

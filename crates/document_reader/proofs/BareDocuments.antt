@@ -8,23 +8,40 @@ use Rattle.std.proofs.lemmas.List.{take_at, drop_at}
 use Rattle.std.proofs.lemmas.List.Elements.{All-nil, All-cons, All-head, All-tail, All-append, All-take, All-drop}
 use Rattle.std.proofs.lemmas.List.Sums.{AllPass-from_list_all}
 use Rattle.std.proofs.lemmas.Slice.Eq.{bytes_eq-Decides}
-use Rattle.gql_base.specs.declared.token.TokenKind.TheVariants.{Dollar, Colon, Equals, At, Spread, OpenBrace, CloseBrace}
-use Rattle.gql_base.specs.declared.trees.OperationKind.{OperationKind}
-use Rattle.gql_base.specs.declared.trees.OperationKind.TheVariants.{Query, Mutation, Subscription}
-use Rattle.gql_base.specs.Characters.{is_name_continue}
-use Rattle.gql_base.specs.Symbols.{Symbol, punctuator, identifier, integer, string, Symbols}
-use Rattle.gql_base.specs.Reading.{Identifier, exact, any_name, second}
-use Rattle.gql_base.specs.Grammar.{Nested, plain, Single, Pair, Image, Optional, Repeated}
-use Rattle.gql_base.specs.Values.{named_value_of}
-use Rattle.gql_base.specs.PrintedTrees.{printed_name}
-use Rattle.gql_base.specs.PlacelessSymbols.{placeless_symbol}
-use Rattle.gql_base.specs.PrintableSymbols.{IsPrintable}
-use Rattle.gql_base.proofs.ReadingLaws.{plain_append}
-use Rattle.gql_base.proofs.PrintedSymbols.{bare, bare_bracketed, value_is_bare, type_is_bare}
-use Rattle.document_reader.specs.Documents.{SelectionTree, field_selection, fragment_spread, inline_fragment, SelectionTrees, no_selection, selection_then, DefinitionTree, kind_word, some_second, IsArgument, AreArguments, IsDirective, AreDirectives, AreFieldNames, IsFieldHead, IsTypeCondition, IsSpreadEnd, IsInlineHead, IsSelection, IsSelectionSet, AreSelections, IsDefault, variable_of, IsVariable, IsOperationHead, operation_of, head_of_fragment, IsFragmentHead, fragment_of, IsDefinition, IsDocument}
+use Rattle.gql_base.specs.declared.lexical.token.TokenKind.TheVariants.{Dollar, Colon, Equals, At, Spread, OpenBrace, CloseBrace}
+use Rattle.gql_base.specs.declared.parts.trees.OperationKind.{OperationKind}
+use Rattle.gql_base.specs.declared.parts.trees.OperationKind.TheVariants.{Query, Mutation, Subscription}
+use Rattle.gql_base.specs.lexical.Characters.{is_name_continue}
+use Rattle.gql_base.specs.ways.Symbols.{Symbol, punctuator, identifier, integer, string, Symbols}
+use Rattle.gql_base.specs.ways.Reading.{Identifier, exact, any_name, second, some_second}
+use Rattle.gql_base.specs.ways.Grammar.{Nested, plain, Single, Pair, Image, Optional, Repeated}
+use Rattle.gql_base.specs.parts.Values.{named_value_of}
+use Rattle.gql_base.specs.printing.PrintedTrees.{printed_name}
+use Rattle.gql_base.specs.printing.PlacelessSymbols.{placeless_symbol}
+use Rattle.gql_base.specs.printing.PrintableSymbols.{IsPrintable}
+use Rattle.gql_base.proofs.WayLaws.ReadingLaws.{plain_append}
+use Rattle.gql_base.proofs.PrintingLaws.PrintedSymbols.{bare, bare_bracketed, value_is_bare, type_is_bare}
+use Rattle.gql_base.specs.parts.OperationKinds.{kind_word}
+use Rattle.gql_base.specs.parts.Arguments.{IsArgument, AreArguments, IsDirective, AreDirectives, IsDefault}
+use Rattle.gql_base.proofs.PrintingLaws.BareWays.{Bare, joined_bare, bare_single, bare_mark, bare_name, bare_word, bare_pair, bare_image, optional_bare, bare_optional, bare_repeated, bare_parentheses}
+use Rattle.document_reader.specs.Documents.{unless, fragment_name, SelectionTree, field_selection, fragment_spread, inline_fragment, SelectionTrees, no_selection, selection_then, DefinitionTree, AreFieldNames, IsFieldHead, IsTypeCondition, IsSpreadEnd, IsInlineHead, IsSelection, IsSelectionSet, AreSelections, variable_of, IsVariable, IsOperationHead, operation_of, head_of_fragment, IsFragmentHead, fragment_of, IsDefinition, IsDocument}
 use Rattle.document_reader.specs.PrintedDocuments.{argument_symbols, arguments_symbols, directive_symbols, directives_symbols, names_symbols, condition_symbols, selection_symbols, set_symbols, selections_symbols, default_symbols, variable_symbols, variables_symbols, kind_name, maybe_name_symbols, definition_symbols, document_symbols}
 use Rattle.document_reader.proofs.PrintedDocumentLaws.{regrouped}
-use Rattle.document_reader.proofs.BareWays.{Bare, joined_bare, bare_single, bare_mark, bare_name, bare_word, bare_fragment_name, bare_pair, bare_image, optional_bare, bare_optional, bare_repeated, bare_parentheses}
+
+-- names of fragments
+
+bare_fragment_name : {d : ℕ} → Bare (Single fragment_name d) (λ name. printed_name name.0 ∷ [])
+bare_fragment_name = bare_single fragment_name (λ name. printed_name name.0) same
+  where
+    unless_same : (b : Bool) (x a : Identifier) → unless b x ≡ Some a → printed_name a.0 ≡ printed_name x.0
+    unless_same true x a e = cc
+    unless_same false x a e = let same : x ≡ a = cc in sym (ap (λ (y : Identifier). printed_name y.0) same)
+
+    same : (w : Symbol) (a : Identifier) → fragment_name w ≡ Some a → printed_name a.0 ≡ placeless_symbol w
+    same (punctuator kind) a e = cc
+    same (identifier bytes at) a e = unless_same _ (bytes, at) a e
+    same (integer value) a e = cc
+    same (string value) a e = cc
 
 -- arguments and directives
 

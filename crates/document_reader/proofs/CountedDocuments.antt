@@ -1,24 +1,18 @@
 -- The nestings of the symbols of a document are those that counting brackets gives.
 use Rattle.std.proofs.Common.{ℕ, suc, ◌≡◌, inl, inr, Bool, true, false, List, [], ◌++◌, None, Some, refl, sym, subst}
 use Rattle.std.specs.Prelude.{codes}
-use Rattle.gql_base.specs.declared.token.TokenKind.TheVariants.{Dollar, Colon, Equals, At, Spread, OpenParen, CloseParen, OpenBrace, CloseBrace}
-use Rattle.gql_base.specs.Symbols.{punctuator, identifier, integer, string}
-use Rattle.gql_base.specs.Reading.{exact, second}
-use Rattle.gql_base.specs.Grammar.{Nested, Single, Pair, Image, Optional, OneOrMore}
-use Rattle.gql_base.specs.Values.{named_value_of}
-use Rattle.gql_base.proofs.CountedLevels.{Counts, Counted, TakesFlat, joined_counts, single_counted, mark_counted, name_counted, pair_counted, image_counted, choice_counted, optional_counted, repeated_counted, one_or_more_counted, bracketed_counts, value_counted, type_counted}
-use Rattle.document_reader.specs.Documents.{SelectionTree, field_selection, fragment_spread, inline_fragment, SelectionTrees, no_selection, selection_then, keyword, kind_word, fragment_name, inside, some_second, IsArgument, AreArguments, AreDirectives, AreFieldNames, IsFieldHead, IsTypeCondition, IsSpreadEnd, IsInlineHead, IsSelection, IsSelectionSet, AreSelections, IsDefault, variable_of, IsVariable, IsOperationHead, bare_operation, operation_of, head_of_fragment, IsFragmentHead, fragment_of, IsDefinition, IsDocument}
+use Rattle.gql_base.specs.declared.lexical.token.TokenKind.TheVariants.{Dollar, Colon, Equals, At, Spread, OpenParen, CloseParen, OpenBrace, CloseBrace}
+use Rattle.gql_base.specs.ways.Symbols.{punctuator, identifier, integer, string}
+use Rattle.gql_base.specs.ways.Reading.{exact, second, keyword, inside, some_second}
+use Rattle.gql_base.specs.ways.Grammar.{Nested, Single, Pair, Image, Optional, OneOrMore}
+use Rattle.gql_base.specs.parts.Values.{named_value_of}
+use Rattle.gql_base.proofs.WayLaws.CountedLevels.{Counts, Counted, TakesFlat, joined_counts, single_counted, mark_counted, name_counted, pair_counted, image_counted, choice_counted, optional_counted, repeated_counted, one_or_more_counted, bracketed_counts, value_counted, type_counted}
+use Rattle.gql_base.specs.parts.OperationKinds.{kind_word}
+use Rattle.gql_base.specs.parts.Arguments.{IsArgument, AreArguments, AreDirectives, IsDefault}
+use Rattle.gql_base.proofs.PartLaws.CountedParts.{word_counted, kind_counted, parens_counted, maybe_arguments_counted, directives_counted, default_counted}
+use Rattle.document_reader.specs.Documents.{SelectionTree, field_selection, fragment_spread, inline_fragment, SelectionTrees, no_selection, selection_then, fragment_name, AreFieldNames, IsFieldHead, IsTypeCondition, IsSpreadEnd, IsInlineHead, IsSelection, IsSelectionSet, AreSelections, variable_of, IsVariable, IsOperationHead, bare_operation, operation_of, head_of_fragment, IsFragmentHead, fragment_of, IsDefinition, IsDocument}
 
 -- words
-
-word_counted : {d : ℕ} (word : List ℕ) → Counted (Single (keyword word) d) d
-word_counted word = single_counted (keyword word) flat
-  where
-    flat : TakesFlat (keyword word)
-    flat (identifier bytes at) a e = λ d. (refl, refl)
-    flat (punctuator kind) a e = cc
-    flat (integer value) a e = cc
-    flat (string value) a e = cc
 
 fragment_name_counted : {d : ℕ} → Counted (Single fragment_name d) d
 fragment_name_counted = single_counted fragment_name flat
@@ -28,30 +22,6 @@ fragment_name_counted = single_counted fragment_name flat
     flat (punctuator kind) a e = cc
     flat (integer value) a e = cc
     flat (string value) a e = cc
-
-kind_counted : {d : ℕ} → Counted (Single kind_word d) d
-kind_counted = single_counted kind_word flat
-  where
-    flat : TakesFlat kind_word
-    flat (identifier bytes at) a e = λ d. (refl, refl)
-    flat (punctuator kind) a e = cc
-    flat (integer value) a e = cc
-    flat (string value) a e = cc
-
--- things in parentheses
-parens_counted : {A : Type 0} {S : A → Nested → Type 0} {d : ℕ} → Counted S d → Counted (Image inside (Pair (Single (exact OpenParen) d) (Pair (OneOrMore S) (Single (exact CloseParen) d)))) d
-parens_counted s = image_counted inside (pair_counted (mark_counted OpenParen tt (λ d. (refl, refl))) (pair_counted (one_or_more_counted s) (mark_counted CloseParen tt (λ d. (refl, refl)))))
-
--- arguments and directives
-
-argument_counted : (c : Bool) (d : ℕ) → Counted (IsArgument c d) d
-argument_counted c d = image_counted named_value_of (pair_counted name_counted (pair_counted (mark_counted Colon tt (λ d. (refl, refl))) (value_counted c d)))
-
-maybe_arguments_counted : (c : Bool) (d : ℕ) → Counted (Optional [] (AreArguments c d)) d
-maybe_arguments_counted c d = optional_counted [] (parens_counted (argument_counted c d))
-
-directives_counted : (c : Bool) (d : ℕ) → Counted (AreDirectives c d) d
-directives_counted c d = repeated_counted (image_counted second (pair_counted (mark_counted At tt (λ d. (refl, refl))) (pair_counted name_counted (maybe_arguments_counted c d))))
 
 -- what selections have beside their selection sets
 
@@ -104,9 +74,6 @@ set_counted : (d : ℕ) → Counted (IsSelectionSet d) d
 set_counted d = record { counts = set_counts d }
 
 -- variables
-
-default_counted : (d : ℕ) → Counted (IsDefault d) d
-default_counted d = image_counted some_second (pair_counted (mark_counted Equals tt (λ d. (refl, refl))) (value_counted true d))
 
 variable_counted : (d : ℕ) → Counted (IsVariable d) d
 variable_counted d = image_counted variable_of (pair_counted (mark_counted Dollar tt (λ d. (refl, refl))) (pair_counted name_counted (pair_counted (mark_counted Colon tt (λ d. (refl, refl))) (pair_counted (type_counted d) (pair_counted (optional_counted None (default_counted d)) (directives_counted true d))))))

@@ -4,35 +4,27 @@ use Rattle.std.specs.Prelude.{◌||◌, codes}
 use Rattle.std.specs.Str.{bytes_eq}
 use Rattle.std.proofs.lemmas.Bool.{cases_Bool}
 use Rattle.std.proofs.lemmas.Slice.Eq.{bytes_eq-Decides}
-use Rattle.gql_base.specs.declared.token.TokenKind.TheVariants.{Bang, Dollar, Colon, Equals, At, OpenParen, OpenBrace}
-use Rattle.gql_base.specs.declared.trees.OperationKind.{OperationKind}
-use Rattle.gql_base.specs.declared.trees.OperationKind.TheVariants.{Query}
-use Rattle.gql_base.specs.Symbols.{Symbol, punctuator, identifier, integer, string}
-use Rattle.gql_base.specs.Reading.{Test, is_some, takes, when, exact, any_name, never}
-use Rattle.gql_base.specs.Grammar.{Single, Pair, Image, Optional}
-use Rattle.document_reader.specs.Documents.{keyword, on_word, fragment_word, kind_named, kind_word, fragment_name, some_second, IsSelectionSet, IsDefault, variable_of, IsVariable, AreVariables, IsOperationHead, bare_operation, operation_of, head_of_fragment, IsFragmentHead, fragment_of, IsDefinition, IsDocument}
-use Rattle.document_reader.specs.DocumentReading.{maybe_default_at, variable_at, maybe_variables_at, maybe_name_at, operation_head_at, bare_at, operation_at, fragment_head_at, fragment_at, definition_at, is_there, document_at}
-use Rattle.gql_base.proofs.ReadingLaws.{Law, Heads, image_law, single_law, choice_law, after, wider_law}
-use Rattle.gql_base.proofs.RepeatingLaws.{one_or_more_law, optional_law, passes_repeated}
-use Rattle.gql_base.proofs.LevelLaws.{Family}
-use Rattle.gql_base.proofs.SymbolTests.{mark_law, name_law, heads_single, heads_mark, heads_name, heads_pair, heads_image, heads_choice, passes_heads, passes_optional, passes_pair, then_law}
-use Rattle.gql_base.proofs.ValueLaws.{value_law}
-use Rattle.gql_base.proofs.TypeLaws.{type_law}
-use Rattle.document_reader.proofs.SelectionLaws.{goes_directives, left_false, right_false, parens_law, heads_directive, directives_law, heads_set, set_law}
+use Rattle.gql_base.specs.declared.lexical.token.TokenKind.TheVariants.{Bang, Dollar, Colon, Equals, At, OpenParen, OpenBrace}
+use Rattle.gql_base.specs.declared.parts.trees.OperationKind.{OperationKind}
+use Rattle.gql_base.specs.declared.parts.trees.OperationKind.TheVariants.{Query}
+use Rattle.gql_base.specs.ways.Symbols.{Symbol, punctuator, identifier, integer, string}
+use Rattle.gql_base.specs.ways.Reading.{Test, is_some, takes, when, exact, any_name, never, keyword, some_second, is_there}
+use Rattle.gql_base.specs.ways.Grammar.{Single, Pair, Image, Optional}
+use Rattle.gql_base.specs.parts.OperationKinds.{kind_named, kind_word}
+use Rattle.gql_base.specs.parts.Arguments.{IsDefault, maybe_default_at}
+use Rattle.gql_base.proofs.PartLaws.ArgumentLaws.{goes_directives, heads_directive, directives_law, goes_default, goes_variable, heads_default, default_law}
+use Rattle.gql_base.proofs.WayLaws.WordLaws.{left_false, right_false, parens_law}
+use Rattle.document_reader.specs.Documents.{on_word, fragment_word, fragment_name, IsSelectionSet, variable_of, IsVariable, AreVariables, IsOperationHead, bare_operation, operation_of, head_of_fragment, IsFragmentHead, fragment_of, IsDefinition, IsDocument}
+use Rattle.document_reader.specs.DocumentReading.{variable_at, maybe_variables_at, maybe_name_at, operation_head_at, bare_at, operation_at, fragment_head_at, fragment_at, definition_at, document_at}
+use Rattle.gql_base.proofs.WayLaws.ReadingLaws.{Law, Heads, image_law, single_law, choice_law, after, wider_law}
+use Rattle.gql_base.proofs.WayLaws.RepeatingLaws.{one_or_more_law, optional_law, passes_repeated}
+use Rattle.gql_base.proofs.WayLaws.LevelLaws.{Family}
+use Rattle.gql_base.proofs.WayLaws.SymbolTests.{mark_law, name_law, heads_single, heads_mark, heads_name, heads_pair, heads_image, heads_choice, passes_heads, passes_optional, passes_pair, then_law}
+use Rattle.gql_base.proofs.PartLaws.ValueLaws.{value_law}
+use Rattle.gql_base.proofs.PartLaws.TypeLaws.{type_law}
+use Rattle.document_reader.proofs.SelectionLaws.{heads_set, set_law}
 
 -- variables
-
-abbrev pub goes_default : Test
-goes_default w = takes (exact Equals) w || goes_directives w
-
-abbrev pub goes_variable : Test
-goes_variable w = takes (exact Bang) w || goes_default w
-
-heads_default : {b : Bool} {test : Test} (d : ℕ) → test (Some (punctuator Equals)) ≡ b → Heads b test (IsDefault d)
-heads_default d e = heads_image (heads_pair _ (heads_mark Equals tt e))
-
-default_law : (left more d n : ℕ) → left ≤ more → n ≡ d + left → Law (Optional None (IsDefault d)) n (takes (exact Equals)) (maybe_default_at left) (maybe_default_at more)
-default_law left more d n le e = optional_law (takes (exact Equals)) None (image_law some_second (after (mark_law Equals (omega (arith, e))) (value_law true left more d n le e))) (heads_default d refl) (λ w h. (refl, h))
 
 pub variable_law : (left more d n : ℕ) → left ≤ more → n ≡ d + left → Law (IsVariable d) n goes_variable (variable_at left) (variable_at more)
 variable_law left more d n le e = let inner : d ≤ n = omega (arith, e) in

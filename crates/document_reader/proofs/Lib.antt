@@ -7,10 +7,8 @@ pub mod DocumentSteps
 pub mod AlikeSelections
 pub mod AlikeDocuments
 pub mod PrintingSteps
-pub mod Rewriting
 pub mod PrintedDocumentLaws
 pub mod PlacelessTwice
-pub mod BareWays
 pub mod BareDocuments
 pub mod ReadingBackLaws
 pub mod OneDocument

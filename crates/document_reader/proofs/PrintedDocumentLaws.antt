@@ -2,21 +2,23 @@
 use Rattle.std.proofs.Common.{ℕ, suc, ◌≡◌, ◌≤◌, inl, inr, Bool, true, false, List, [], ◌∷◌, ◌++◌, map, Option, None, Some, refl, ap, ◌∙◌, subst, append_assoc, arith}
 use Rattle.std.specs.Prelude.{codes}
 use Rattle.std.specs.Str.{bytes_eq}
-use Rattle.gql_base.specs.declared.token.TokenKind.TheVariants.{Dollar, Colon, Equals, At, Spread, OpenBrace, CloseBrace}
-use Rattle.gql_base.specs.declared.trees.OperationKind.{OperationKind}
-use Rattle.gql_base.specs.declared.trees.OperationKind.TheVariants.{Query, Mutation, Subscription}
-use Rattle.gql_base.specs.Symbols.{Symbol, punctuator, identifier, integer, string, Symbols}
-use Rattle.gql_base.specs.Reading.{Identifier, exact, any_name, second}
-use Rattle.gql_base.specs.Grammar.{Nested, Within, Single, Pair, Image, Optional}
-use Rattle.gql_base.specs.Values.{NamedValue, named_value_of}
-use Rattle.gql_base.specs.PrintedTrees.{printed_name}
-use Rattle.gql_base.proofs.ReadingLaws.{within_front, within_back}
-use Rattle.gql_base.proofs.PrintedLaws.{Rewritten, bracketed_rewritten, value_rewritten, type_rewritten}
-use Rattle.document_reader.specs.Documents.{DirectiveTree, FieldNames, SelectionTree, field_selection, fragment_spread, inline_fragment, SelectionTrees, no_selection, selection_then, DefinitionTree, on_word, fragment_word, kind_word, unless, fragment_name, some_second, IsArgument, AreArguments, IsDirective, AreDirectives, AreFieldNames, IsFieldHead, IsTypeCondition, IsSpreadEnd, IsInlineHead, IsSelection, IsSelectionSet, AreSelections, IsDefault, variable_of, IsVariable, IsOperationHead, bare_operation, operation_of, head_of_fragment, IsFragmentHead, fragment_of, IsDefinition, IsDocument}
+use Rattle.gql_base.specs.declared.lexical.token.TokenKind.TheVariants.{Dollar, Colon, Equals, At, Spread, OpenBrace, CloseBrace}
+use Rattle.gql_base.specs.declared.parts.trees.OperationKind.{OperationKind}
+use Rattle.gql_base.specs.declared.parts.trees.OperationKind.TheVariants.{Query, Mutation, Subscription}
+use Rattle.gql_base.specs.ways.Symbols.{Symbol, punctuator, identifier, integer, string, Symbols}
+use Rattle.gql_base.specs.ways.Reading.{Identifier, exact, any_name, second, some_second}
+use Rattle.gql_base.specs.ways.Grammar.{Nested, Within, Single, Pair, Image, Optional}
+use Rattle.gql_base.specs.parts.Values.{NamedValue, named_value_of}
+use Rattle.gql_base.specs.printing.PrintedTrees.{printed_name}
+use Rattle.gql_base.proofs.WayLaws.ReadingLaws.{within_front, within_back}
+use Rattle.gql_base.proofs.PrintingLaws.PrintedLaws.{Rewritten, bracketed_rewritten, value_rewritten, type_rewritten}
+use Rattle.gql_base.specs.parts.Arguments.{DirectiveTree, IsArgument, AreArguments, IsDirective, AreDirectives, IsDefault}
+use Rattle.gql_base.specs.parts.OperationKinds.{kind_word}
+use Rattle.gql_base.proofs.PrintingLaws.Rewriting.{Rewrites, joined_rewritten, same_symbols, three_parts, optional_rewritten, rewrites_single, rewrites_mark, rewrites_pair, rewrites_image, rewrites_optional, rewrites_repeated, rewrites_one_or_more, rewrites_parentheses}
+use Rattle.document_reader.specs.Documents.{FieldNames, SelectionTree, field_selection, fragment_spread, inline_fragment, SelectionTrees, no_selection, selection_then, DefinitionTree, on_word, fragment_word, unless, fragment_name, AreFieldNames, IsFieldHead, IsTypeCondition, IsSpreadEnd, IsInlineHead, IsSelection, IsSelectionSet, AreSelections, variable_of, IsVariable, IsOperationHead, bare_operation, operation_of, head_of_fragment, IsFragmentHead, fragment_of, IsDefinition, IsDocument}
 use Rattle.document_reader.specs.PrintedDocuments.{argument_symbols, arguments_symbols, directive_symbols, directives_symbols, names_symbols, condition_symbols, selection_symbols, set_symbols, selections_symbols, default_symbols, variable_symbols, variables_symbols, kind_name, maybe_name_symbols, definition_symbols, document_symbols}
-use Rattle.gql_base.specs.PlacelessSymbols.{name_placeless}
+use Rattle.gql_base.specs.printing.PlacelessSymbols.{name_placeless}
 use Rattle.document_reader.specs.PlacelessDocuments.{maybe_name_placeless, names_placeless, argument_placeless, directive_placeless, selection_placeless, selections_placeless, default_placeless, variable_placeless, definition_placeless, document_placeless}
-use Rattle.document_reader.proofs.Rewriting.{Rewrites, joined_rewritten, same_symbols, three_parts, optional_rewritten, rewrites_single, rewrites_mark, rewrites_pair, rewrites_image, rewrites_optional, rewrites_repeated, rewrites_one_or_more, rewrites_parentheses}
 
 -- names, arguments and directives
 

@@ -2,25 +2,26 @@
 use Rattle.std.proofs.Common.{ℕ, ◌+◌, ◌≡◌, ◌<◌, ◌≤◌, ◌==◌, false, List, [], ◌∷◌, ◌++◌, Option, length, drop, map, get_or, Vec, Global, refl, sym, ap, ◌∙◌}
 use Rattle.std.specs.List.{flat_map}
 use Rattle.std.proofs.lemmas.List.{at_drop_more, drop_all}
-use Rattle.gql_base.specs.declared.token.TokenKind.TheVariants.{Spread, OpenParen, CloseParen, OpenBrace, CloseBrace}
-use Rattle.gql_base.specs.declared.trees.Name.{Name}
-use Rattle.gql_base.specs.declared.trees.Directive.{Directive}
-use Rattle.gql_base.specs.Symbols.{Symbol, punctuator, Symbols}
-use Rattle.gql_base.specs.Reading.{Identifier}
-use Rattle.gql_base.specs.Values.{NamedValue, fields_from}
-use Rattle.gql_base.specs.Trees.{identifier_of, named_value}
-use Rattle.gql_base.specs.Printing.{Printed, put, put_all}
-use Rattle.gql_base.specs.PrintedTrees.{printed_name, value_symbols, fields_symbols}
-use Rattle.gql_base.proofs.PrintSteps.{put_all_append}
+use Rattle.gql_base.specs.declared.lexical.token.TokenKind.TheVariants.{Spread, OpenParen, CloseParen, OpenBrace, CloseBrace}
+use Rattle.gql_base.specs.declared.parts.trees.Name.{Name}
+use Rattle.gql_base.specs.declared.parts.trees.Directive.{Directive}
+use Rattle.gql_base.specs.ways.Symbols.{Symbol, punctuator, Symbols}
+use Rattle.gql_base.specs.ways.Reading.{Identifier}
+use Rattle.gql_base.specs.parts.Values.{NamedValue, fields_from}
+use Rattle.gql_base.specs.parts.Trees.{identifier_of, named_value, directive_tree}
+use Rattle.gql_base.specs.printing.Printing.{Printed, put, put_all}
+use Rattle.gql_base.specs.printing.PrintedTrees.{printed_name, value_symbols, fields_symbols, in_parentheses}
+use Rattle.gql_base.proofs.PrintingLaws.PrintSteps.{put_all_append}
+use Rattle.gql_base.specs.parts.Arguments.{DirectiveTree}
 use Rattle.document_reader.specs.declared.trees.Selection.{Selection}
 use Rattle.document_reader.specs.declared.trees.Field.{Field}
 use Rattle.document_reader.specs.declared.trees.Selection.TheBlock.{Spread as SpreadSelection}
 use Rattle.document_reader.specs.declared.trees.Selection.TheOpen.{Selection-F}
 use Rattle.document_reader.specs.declared.trees.Selection.TheFolds.{fold-roll-Selection, fold_out-Field}
-use Rattle.document_reader.specs.Documents.{DirectiveTree, FieldNames, SelectionTree, field_selection, fragment_spread, inline_fragment, SelectionTrees}
+use Rattle.document_reader.specs.Documents.{FieldNames, SelectionTree, field_selection, fragment_spread, inline_fragment, SelectionTrees}
 use Rattle.document_reader.specs.DocumentReading.{selections_from}
-use Rattle.document_reader.specs.Trees.{names_of, selection_tree, field_tree, selection_step, field_step, directive_tree, set_tree}
-use Rattle.document_reader.specs.PrintedDocuments.{in_parentheses, argument_symbols, arguments_symbols, directives_symbols, names_symbols, condition_symbols, selection_symbols, set_symbols, selections_symbols}
+use Rattle.document_reader.specs.Trees.{names_of, selection_tree, field_tree, selection_step, field_step, set_tree}
+use Rattle.document_reader.specs.PrintedDocuments.{argument_symbols, arguments_symbols, directives_symbols, names_symbols, condition_symbols, selection_symbols, set_symbols, selections_symbols}
 use Rattle.document_reader.proofs.ReadingSteps.{tree_of_field, tree_of_inline}
 
 pub nothing_more : (p : Printed) → put_all p [] ≡ p

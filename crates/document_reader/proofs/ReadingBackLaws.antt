@@ -1,13 +1,13 @@
 -- What is printed of a document has tokens of its own, which are the same document but for the offsets of names.
 use Rattle.std.proofs.Common.{ℕ, List, All, IsUtf8, ap}
 use Rattle.std.specs.Prelude.{map}
-use Rattle.gql_base.specs.Answers.{level_limit}
-use Rattle.gql_base.specs.Printing.{printed}
-use Rattle.gql_base.specs.PlacelessSymbols.{placeless_symbol}
-use Rattle.gql_base.specs.PrintableSymbols.{IsPrintable}
-use Rattle.gql_base.specs.ReadingBack.{SpellsPrintable, SpellsAgain}
-use Rattle.gql_base.proofs.PrintedPieces.{printed_utf8}
-use Rattle.gql_base.proofs.PrintedAgain.{spelled_printable, spelled_again, again_of_same}
+use Rattle.gql_base.specs.ways.FirstFaults.{level_limit}
+use Rattle.gql_base.specs.printing.Printing.{printed}
+use Rattle.gql_base.specs.printing.PlacelessSymbols.{placeless_symbol}
+use Rattle.gql_base.specs.printing.PrintableSymbols.{IsPrintable}
+use Rattle.gql_base.specs.printing.ReadingBack.{SpellsPrintable, SpellsAgain}
+use Rattle.gql_base.proofs.PrintingLaws.PrintedPieces.{printed_utf8}
+use Rattle.gql_base.proofs.PrintingLaws.PrintedAgain.{spelled_printable, spelled_again, again_of_same}
 use Rattle.document_reader.specs.Documents.{DefinitionTree, IsDocument}
 use Rattle.document_reader.specs.PrintedDocuments.{document_symbols}
 use Rattle.document_reader.specs.PlacelessDocuments.{document_placeless}

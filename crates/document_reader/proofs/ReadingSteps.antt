@@ -1,28 +1,25 @@
 -- What reading a set or a selection is, by its first symbol; what can be repeated; and what selections of the program stand for.
 use Rattle.std.proofs.Common.{ℕ, zero, suc, ◌-◌, ◌≡◌, Bool, false, map, Vec, Global, Option, refl, sym, ap, arith}
-use Rattle.gql_base.specs.declared.token.TokenKind.TheVariants.{At, CloseParen, CloseBrace, OpenBrace, Spread}
-use Rattle.gql_base.specs.declared.trees.Name.{Name}
-use Rattle.gql_base.specs.declared.trees.Directive.{Directive}
-use Rattle.gql_base.specs.Symbols.{Symbols}
-use Rattle.gql_base.specs.Reading.{next, single, pair, image, takes, exact, level, second, up_to}
-use Rattle.gql_base.specs.Values.{value_at, named_value_at}
-use Rattle.gql_base.proofs.RepeatingLaws.{Repeats, repeats}
-use Rattle.gql_base.proofs.ValueLaws.{value_law, field_law, field_begins}
+use Rattle.gql_base.specs.declared.lexical.token.TokenKind.TheVariants.{At, CloseParen, CloseBrace, OpenBrace, Spread}
+use Rattle.gql_base.specs.declared.parts.trees.Name.{Name}
+use Rattle.gql_base.specs.declared.parts.trees.Directive.{Directive}
+use Rattle.gql_base.specs.ways.Symbols.{Symbols}
+use Rattle.gql_base.specs.ways.Reading.{next, single, pair, image, takes, exact, level, second, up_to}
+use Rattle.gql_base.specs.parts.Values.{value_at, named_value_at}
+use Rattle.gql_base.proofs.WayLaws.RepeatingLaws.{Repeats, repeats}
+use Rattle.gql_base.proofs.PartLaws.ValueLaws.{value_law, field_law, field_begins}
+use Rattle.gql_base.specs.parts.Arguments.{directive_at}
+use Rattle.gql_base.specs.parts.Trees.{directive_tree}
+use Rattle.gql_base.proofs.PartLaws.ArgumentLaws.{heads_directive, directive_law}
 use Rattle.document_reader.specs.declared.trees.Selection.{Selection}
 use Rattle.document_reader.specs.declared.trees.Field.{Field}
 use Rattle.document_reader.specs.declared.trees.Selection.TheViews.{Field as FieldSelection, Inline as InlineSelection}
 use Rattle.document_reader.specs.declared.trees.Selection.TheOpen.{Selection-F}
 use Rattle.document_reader.specs.declared.trees.Selection.TheFolds.{fold-roll-Selection}
 use Rattle.document_reader.specs.Documents.{SelectionTree, inline_fragment}
-use Rattle.document_reader.specs.DocumentReading.{directive_at, field_with, selection_with, set_at, opened_set_at, in_set}
-use Rattle.document_reader.specs.Trees.{selection_tree, field_tree, selection_step, field_step, maybe_identifier, directive_tree, set_tree}
-use Rattle.document_reader.proofs.SelectionLaws.{heads_directive, directive_law, heads_selection, selection_law, set_law}
-
-pub arguments_repeat : (c : Bool) (n : ℕ) → Repeats (up_to CloseParen) (named_value_at (value_at c n))
-arguments_repeat c n = repeats (up_to CloseParen) (field_law c 0 (omega arith) (value_law c n n 0 n (omega arith) (omega arith))) (field_begins c 0 (λ b at. refl)) refl
-
-pub directives_repeat : (c : Bool) (n : ℕ) → Repeats (takes (exact At)) (directive_at c n)
-directives_repeat c n = repeats (takes (exact At)) (directive_law c n n 0 n (omega arith) (omega arith)) (heads_directive c 0 refl) refl
+use Rattle.document_reader.specs.DocumentReading.{field_with, selection_with, set_at, opened_set_at, in_set}
+use Rattle.document_reader.specs.Trees.{selection_tree, field_tree, selection_step, field_step, maybe_identifier, set_tree}
+use Rattle.document_reader.proofs.SelectionLaws.{heads_selection, selection_law, set_law}
 
 pub selections_repeat : (n : ℕ) → Repeats (up_to CloseBrace) (selection_with n (set_at n))
 selections_repeat n = repeats (up_to CloseBrace) (selection_law n n 0 n (set_at n) (set_at n) (omega arith) (omega arith) (set_law n n 0 n (omega arith) (omega arith))) (heads_selection 0 refl (λ b at. refl)) refl

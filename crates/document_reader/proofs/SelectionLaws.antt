@@ -2,66 +2,28 @@
 use Rattle.std.proofs.Common.{ℕ, zero, suc, ◌+◌, ◌≡◌, ◌≤◌, inl, inr, Bool, true, false, List, [], ◌∷◌, ◌++◌, Option, None, Some, refl, sym, ap, ◌∙◌, subst, arith}
 use Rattle.std.specs.Prelude.{◌||◌, codes}
 use Rattle.std.specs.Str.{bytes_eq}
-use Rattle.gql_base.specs.declared.token.TokenKind.TheVariants.{Colon, At, Spread, OpenParen, CloseParen, OpenBrace, CloseBrace}
-use Rattle.gql_base.specs.Symbols.{Symbol, punctuator, identifier, integer, string, Symbols}
-use Rattle.gql_base.specs.Reading.{Reader, Test, next, is_some, takes, single, pair, image, optional, one_or_more, second, level, exact, Identifier, any_name, up_to, never}
-use Rattle.gql_base.specs.Grammar.{Nested, plain, Single, Pair, Image, Choice, Optional, Repeated, OneOrMore, Level}
-use Rattle.document_reader.specs.Documents.{SelectionTree, field_selection, fragment_spread, inline_fragment, SelectionTrees, no_selection, selection_then, on_word, unless, fragment_name, inside, some_second, AreArguments, IsDirective, AreDirectives, AreFieldNames, IsFieldHead, IsTypeCondition, IsSpreadEnd, IsInlineHead, IsSelection, IsSelectionSet, AreSelections}
-use Rattle.document_reader.specs.DocumentReading.{arguments_at, maybe_arguments_at, directive_at, directives_at, second_name_at, field_names_at, field_head_at, type_condition_at, selections_from, set_of, field_of, spread_of, inline_of, field_with, spread_at, inline_head_at, inline_with, dots_with, selection_with, in_set, set_at}
-use Rattle.gql_base.proofs.ReadingLaws.{Law, Heads, image_law, single_law, choice_law, as_law, after, wider_law}
-use Rattle.gql_base.proofs.RepeatingLaws.{repeated_law, one_or_more_law, optional_law, passes_repeated}
-use Rattle.gql_base.proofs.LevelLaws.{open_law, shut_law}
-use Rattle.gql_base.proofs.SymbolTests.{when_true, mark_law, name_law, heads_single, heads_mark, heads_name, SaysOfNames, heads_pair, heads_image, heads_choice, passes_heads, passes_optional, passes_pair, heads_after, then_law, or_false, from_brackets, to_brackets}
-use Rattle.gql_base.proofs.ValueLaws.{value_law, field_law, field_begins}
+use Rattle.gql_base.specs.declared.lexical.token.TokenKind.TheVariants.{Colon, At, Spread, OpenParen, CloseParen, OpenBrace, CloseBrace}
+use Rattle.gql_base.specs.ways.Symbols.{Symbol, punctuator, identifier, integer, string, Symbols}
+use Rattle.gql_base.specs.ways.Reading.{Reader, Test, next, is_some, takes, single, pair, image, optional, one_or_more, second, level, exact, Identifier, any_name, up_to, never, inside, some_second}
+use Rattle.gql_base.specs.ways.Grammar.{Nested, plain, Single, Pair, Image, Choice, Optional, Repeated, OneOrMore, Level}
+use Rattle.gql_base.specs.parts.Arguments.{AreArguments, IsDirective, AreDirectives, arguments_at, maybe_arguments_at, directive_at, directives_at}
+use Rattle.gql_base.proofs.WayLaws.WordLaws.{left_false, right_false}
+use Rattle.gql_base.proofs.PartLaws.ArgumentLaws.{goes_directives, heads_arguments, maybe_arguments_law, heads_directive, directives_law}
+use Rattle.document_reader.specs.Documents.{SelectionTree, field_selection, fragment_spread, inline_fragment, SelectionTrees, no_selection, selection_then, on_word, unless, fragment_name, AreFieldNames, IsFieldHead, IsTypeCondition, IsSpreadEnd, IsInlineHead, IsSelection, IsSelectionSet, AreSelections}
+use Rattle.document_reader.specs.DocumentReading.{second_name_at, field_names_at, field_head_at, type_condition_at, selections_from, set_of, field_of, spread_of, inline_of, field_with, spread_at, inline_head_at, inline_with, dots_with, selection_with, in_set, set_at}
+use Rattle.gql_base.proofs.WayLaws.ReadingLaws.{Law, Heads, image_law, single_law, choice_law, as_law, after, wider_law}
+use Rattle.gql_base.proofs.WayLaws.RepeatingLaws.{repeated_law, one_or_more_law, optional_law, passes_repeated}
+use Rattle.gql_base.proofs.WayLaws.LevelLaws.{open_law, shut_law}
+use Rattle.gql_base.proofs.WayLaws.SymbolTests.{when_true, mark_law, name_law, heads_single, heads_mark, heads_name, SaysOfNames, heads_pair, heads_image, heads_choice, passes_heads, passes_optional, passes_pair, heads_after, then_law, or_false, from_brackets, to_brackets}
+use Rattle.gql_base.proofs.PartLaws.ValueLaws.{value_law, field_law, field_begins}
 
 -- with what things may go on
-
-abbrev pub goes_directives : Test
-goes_directives w = takes (exact OpenParen) w || takes (exact At) w
 
 abbrev goes_head : Test
 goes_head w = takes (exact Colon) w || goes_directives w
 
 abbrev pub goes_field : Test
 goes_field w = takes (exact OpenBrace) w || goes_head w
-
-pub left_false : (a b : Bool) → (a || b) ≡ false → a ≡ false
-left_false a b e = (or_false a b e).0
-
-pub right_false : (a b : Bool) → (a || b) ≡ false → b ≡ false
-right_false a b e = (or_false a b e).1
-
--- things in parentheses
-pub parens_law : {A : Type 0} {S : A → Nested → Type 0} {n d : ℕ} {first : Test} {r more : Reader A} → d ≤ n → Law S n first r more → Heads true (up_to CloseParen) S → Heads false first S → first (Some (punctuator CloseParen)) ≡ false
-    → Law (Image inside (Pair (Single (exact OpenParen) d) (Pair (OneOrMore S) (Single (exact CloseParen) d)))) n never
-    (image inside (pair (single (exact OpenParen)) (pair (one_or_more (up_to CloseParen) r) (single (exact CloseParen))))) (image inside (pair (single (exact OpenParen)) (pair (one_or_more (up_to CloseParen) more) (single (exact CloseParen)))))
-parens_law {first = first} le l heads apart close = image_law inside (after (mark_law OpenParen le) (then_law (one_or_more_law {goes = both} (up_to CloseParen) l heads refl apart (λ w e. or_false (first w) (up_to CloseParen w) e)) (mark_law CloseParen le)
-    (passes_heads (heads_mark CloseParen tt (ap (λ b. b || false) close)))))
-  where
-    both : Test
-    both w = first w || up_to CloseParen w
-
--- arguments and directives
-
-heads_arguments : {b : Bool} {test : Test} (c : Bool) (d : ℕ) → test (Some (punctuator OpenParen)) ≡ b → Heads b test (AreArguments c d)
-heads_arguments c d e = heads_image (heads_pair _ (heads_mark OpenParen tt e))
-
-arguments_law : (c : Bool) (left more d n : ℕ) → left ≤ more → n ≡ d + left → Law (AreArguments c d) n never (arguments_at c left) (arguments_at c more)
-arguments_law c left more d n le e = let inner : d ≤ n = omega (arith, e) in
-    parens_law inner (field_law c d inner (value_law c left more d n le e)) (field_begins c d (λ b at. refl)) (record { says = λ a f rest is. refl }) refl
-
-maybe_arguments_law : (c : Bool) (left more d n : ℕ) → left ≤ more → n ≡ d + left → Law (Optional [] (AreArguments c d)) n (takes (exact OpenParen)) (maybe_arguments_at c left) (maybe_arguments_at c more)
-maybe_arguments_law c left more d n le e = optional_law (takes (exact OpenParen)) [] (arguments_law c left more d n le e) (heads_arguments c d refl) (λ w h. (refl, h))
-
-pub heads_directive : {b : Bool} {test : Test} (c : Bool) (d : ℕ) → test (Some (punctuator At)) ≡ b → Heads b test (IsDirective c d)
-heads_directive c d e = heads_image (heads_pair _ (heads_mark At tt e))
-
-pub directive_law : (c : Bool) (left more d n : ℕ) → left ≤ more → n ≡ d + left → Law (IsDirective c d) n (takes (exact OpenParen)) (directive_at c left) (directive_at c more)
-directive_law c left more d n le e = let inner : d ≤ n = omega (arith, e) in
-    image_law second (after (mark_law At inner) (after (name_law inner) (maybe_arguments_law c left more d n le e)))
-
-pub directives_law : (c : Bool) (left more d n : ℕ) → left ≤ more → n ≡ d + left → Law (AreDirectives c d) n goes_directives (directives_at c left) (directives_at c more)
-directives_law c left more d n le e = repeated_law (takes (exact At)) (directive_law c left more d n le e) (heads_directive c d refl) refl (heads_directive c d refl) (λ w h. or_false (takes (exact OpenParen) w) (takes (exact At) w) h)
 
 -- fields
 

@@ -1,23 +1,13 @@
 -- How documents are read, where so many levels may still be opened. These words serve the proof of the readers: what
 -- a document is stands in `Documents`.
 use Rattle.std.specs.Prelude.{ℕ, zero, suc, ◌-◌, Bool, true, false, List, [], ◌∷◌, Option, None, Some}
-use Rattle.gql_base.specs.declared.token.TokenKind.TheVariants.{Dollar, Colon, Equals, At, Spread, OpenParen, CloseParen, OpenBrace, CloseBrace}
-use Rattle.gql_base.specs.Reading.{Reader, Test, takes, single, pair, image, choice, optional, repeated, one_or_more, second, opener, level, exact, Identifier, any_name, up_to, is_some}
-use Rattle.gql_base.specs.Values.{NamedValue, named_value_at, value_at, ValueTree}
-use Rattle.gql_base.specs.TypeReferences.{type_at}
-use Rattle.document_reader.specs.Documents.{DirectiveTree, FieldNames, SelectionTree, field_selection, fragment_spread, inline_fragment, SelectionTrees, no_selection, selection_then, VariableTree, DefinitionTree, on_word, fragment_word, kind_word, fragment_name, inside, some_second, variable_of, OperationHead, bare_operation, operation_of, FragmentHead, head_of_fragment, fragment_of}
-
-abbrev pub arguments_at : Bool → ℕ → Reader (List NamedValue)
-arguments_at constant left = image inside (pair (single (exact OpenParen)) (pair (one_or_more (up_to CloseParen) (named_value_at (value_at constant left))) (single (exact CloseParen))))
-
-abbrev pub maybe_arguments_at : Bool → ℕ → Reader (List NamedValue)
-maybe_arguments_at constant left = optional (takes (exact OpenParen)) [] (arguments_at constant left)
-
-abbrev pub directive_at : Bool → ℕ → Reader DirectiveTree
-directive_at constant left = image second (pair (single (exact At)) (pair (single any_name) (maybe_arguments_at constant left)))
-
-abbrev pub directives_at : Bool → ℕ → Reader (List DirectiveTree)
-directives_at constant left = repeated (takes (exact At)) (directive_at constant left)
+use Rattle.gql_base.specs.declared.lexical.token.TokenKind.TheVariants.{Dollar, Colon, Equals, At, Spread, OpenParen, CloseParen, OpenBrace, CloseBrace}
+use Rattle.gql_base.specs.ways.Reading.{Reader, Test, takes, single, pair, image, choice, optional, repeated, one_or_more, second, opener, level, exact, Identifier, any_name, up_to, is_some, inside, some_second, is_there}
+use Rattle.gql_base.specs.parts.Values.{NamedValue, named_value_at, value_at, ValueTree}
+use Rattle.gql_base.specs.parts.TypeReferences.{type_at}
+use Rattle.gql_base.specs.parts.Arguments.{DirectiveTree, maybe_arguments_at, directives_at, maybe_default_at}
+use Rattle.gql_base.specs.parts.OperationKinds.{kind_word}
+use Rattle.document_reader.specs.Documents.{FieldNames, SelectionTree, field_selection, fragment_spread, inline_fragment, SelectionTrees, no_selection, selection_then, VariableTree, DefinitionTree, on_word, fragment_word, fragment_name, variable_of, OperationHead, bare_operation, operation_of, FragmentHead, head_of_fragment, fragment_of}
 
 abbrev pub second_name_at : Reader (Option Identifier)
 second_name_at = image some_second (pair (single (exact Colon)) (single any_name))
@@ -86,12 +76,6 @@ set_at (suc left) = level (exact OpenBrace) (Some (in_set (selection_with left (
 unfoldable pub opened_set_at : ℕ → Reader SelectionTrees
 opened_set_at left = image second (pair (opener (exact OpenBrace) left) (in_set (selection_with (left - 1) (set_at (left - 1)))))
 
-abbrev pub default_at : ℕ → Reader (Option ValueTree)
-default_at left = image some_second (pair (single (exact Equals)) (value_at true left))
-
-abbrev pub maybe_default_at : ℕ → Reader (Option ValueTree)
-maybe_default_at left = optional (takes (exact Equals)) None (default_at left)
-
 abbrev pub variable_at : ℕ → Reader VariableTree
 variable_at left = image variable_of (pair (single (exact Dollar)) (pair (single any_name) (pair (single (exact Colon)) (pair (type_at left) (pair (maybe_default_at left) (directives_at true left))))))
 
@@ -121,10 +105,6 @@ fragment_at left = image fragment_of (pair (fragment_head_at left) (set_at left)
 
 unfoldable pub definition_at : ℕ → Reader DefinitionTree
 definition_at left = choice (takes (exact OpenBrace)) (bare_at left) (choice (takes fragment_word) (fragment_at left) (operation_at left))
-
--- there is a next symbol
-abbrev pub is_there : Test
-is_there w = is_some w
 
 unfoldable pub document_at : ℕ → Reader (List DefinitionTree)
 document_at left = one_or_more is_there (definition_at left)

@@ -1,20 +1,18 @@
 -- Executable documents (GraphQL October 2021, 2.2 to 2.12): their trees, and the symbols that they are written with.
 use Rattle.std.specs.Prelude.{ℕ, suc, ◌≡◌, ◌⊎◌, Bool, true, false, List, [], ◌++◌, Option, None, Some, codes, if◌then◌else◌}
 use Rattle.std.specs.Str.{bytes_eq}
-use Rattle.gql_base.specs.declared.token.TokenKind.TheVariants.{Dollar, Colon, Equals, At, Spread, OpenParen, CloseParen, OpenBrace, CloseBrace}
-use Rattle.gql_base.specs.declared.trees.OperationKind.{OperationKind}
-use Rattle.gql_base.specs.declared.trees.OperationKind.TheVariants.{Query, Mutation, Subscription}
-use Rattle.gql_base.specs.Symbols.{punctuator, identifier, integer, string}
-use Rattle.gql_base.specs.Reading.{Taking, exact, Identifier, any_name, second, when}
-use Rattle.gql_base.specs.Grammar.{Nested, Single, Pair, Image, Choice, Optional, Repeated, OneOrMore, Bracketed}
-use Rattle.gql_base.specs.Values.{ValueTree, NamedValue, named_value_of, IsValue}
-use Rattle.gql_base.specs.TypeReferences.{TypeTree, IsType}
+use Rattle.gql_base.specs.declared.lexical.token.TokenKind.TheVariants.{Dollar, Colon, Equals, At, Spread, OpenParen, CloseParen, OpenBrace, CloseBrace}
+use Rattle.gql_base.specs.declared.parts.trees.OperationKind.{OperationKind}
+use Rattle.gql_base.specs.declared.parts.trees.OperationKind.TheVariants.{Query, Mutation, Subscription}
+use Rattle.gql_base.specs.ways.Symbols.{punctuator, identifier, integer, string}
+use Rattle.gql_base.specs.ways.Reading.{Taking, exact, Identifier, any_name, second, when, keyword, inside, some_second}
+use Rattle.gql_base.specs.ways.Grammar.{Nested, Single, Pair, Image, Choice, Optional, Repeated, OneOrMore, Bracketed}
+use Rattle.gql_base.specs.parts.Values.{ValueTree, NamedValue, named_value_of, IsValue}
+use Rattle.gql_base.specs.parts.TypeReferences.{TypeTree, IsType}
+use Rattle.gql_base.specs.parts.Arguments.{DirectiveTree, AreArguments, AreDirectives, IsDefault}
+use Rattle.gql_base.specs.parts.OperationKinds.{kind_word}
 
 -- trees
-
--- a directive by its name and its arguments
-abbrev pub DirectiveTree : Type 0
-DirectiveTree = Identifier × List NamedValue
 
 -- the first name of a field, and the second one where the first is an alias
 abbrev pub FieldNames : Type 0
@@ -40,32 +38,11 @@ pub data DefinitionTree : Type 0 where
 
 -- words
 
--- this name
-abbrev pub keyword : List ℕ → Taking (Unit {0})
-keyword word (identifier bytes at) = when (bytes_eq bytes word)
-keyword word (punctuator kind) = None
-keyword word (integer value) = None
-keyword word (string value) = None
-
 abbrev pub on_word : Taking (Unit {0})
 on_word = keyword (codes "on")
 
 abbrev pub fragment_word : Taking (Unit {0})
 fragment_word = keyword (codes "fragment")
-
-abbrev pub kind_named : List ℕ → Option OperationKind
-kind_named bytes =
-    if bytes_eq bytes (codes "query") then Some Query
-    else if bytes_eq bytes (codes "mutation") then Some Mutation
-    else if bytes_eq bytes (codes "subscription") then Some Subscription
-    else None
-
--- the kind of an operation
-abbrev pub kind_word : Taking OperationKind
-kind_word (identifier bytes at) = kind_named bytes
-kind_word (punctuator kind) = None
-kind_word (integer value) = None
-kind_word (string value) = None
 
 abbrev pub unless : {A : Type 0} → Bool → A → Option A
 unless true a = None
@@ -78,26 +55,7 @@ fragment_name (punctuator kind) = None
 fragment_name (integer value) = None
 fragment_name (string value) = None
 
--- the thing between two others
-abbrev pub inside : {A : Type 0} → Unit {0} × (A × Unit {0}) → A
-inside p = p.1.0
-
-abbrev pub some_second : {A : Type 0} → Unit {0} × A → Option A
-some_second p = Some p.1
-
 -- the grammar, with the number of open levels; constants hold no variables
-
-abbrev pub IsArgument : Bool → ℕ → NamedValue → Nested → Type 0
-IsArgument constant d = Image named_value_of (Pair (Single any_name d) (Pair (Single (exact Colon) d) (IsValue constant d)))
-
-abbrev pub AreArguments : Bool → ℕ → List NamedValue → Nested → Type 0
-AreArguments constant d = Image inside (Pair (Single (exact OpenParen) d) (Pair (OneOrMore (IsArgument constant d)) (Single (exact CloseParen) d)))
-
-abbrev pub IsDirective : Bool → ℕ → DirectiveTree → Nested → Type 0
-IsDirective constant d = Image second (Pair (Single (exact At) d) (Pair (Single any_name d) (Optional [] (AreArguments constant d))))
-
-abbrev pub AreDirectives : Bool → ℕ → List DirectiveTree → Nested → Type 0
-AreDirectives constant d = Repeated (IsDirective constant d)
 
 abbrev pub AreFieldNames : ℕ → FieldNames → Nested → Type 0
 AreFieldNames d = Pair (Single any_name d) (Optional None (Image some_second (Pair (Single (exact Colon) d) (Single any_name d))))
@@ -131,10 +89,6 @@ unfoldable mutual
   pub AreSelections : ℕ → SelectionTrees → Nested → Type 0
   AreSelections d no_selection ws = ws ≡ []
   AreSelections d (selection_then s others) ws = (f g : Nested) × (ws ≡ f ++ g) × IsSelection d s f × AreSelections d others g
-
--- a default value
-abbrev pub IsDefault : ℕ → Option ValueTree → Nested → Type 0
-IsDefault d = Image some_second (Pair (Single (exact Equals) d) (IsValue true d))
 
 abbrev pub variable_of : Unit {0} × (Identifier × (Unit {0} × (TypeTree × (Option ValueTree × List DirectiveTree)))) → VariableTree
 variable_of p = (p.1.0, p.1.1.1.0, p.1.1.1.1.0, p.1.1.1.1.1)

@@ -2,7 +2,7 @@
 use Rattle.std.specs.Prelude.{ℕ, suc, ◌+◌, ◌==◌, Bool, true, false, List, [], ◌∷◌, Option, None, Some, Result, Ok, Err, if◌then◌else◌}
 use Rattle.std.specs.Str.{bytes_eq}
 use Rattle.std.specs.Borrow.{Bor}
-use Rattle.gql_base.specs.declared.trees.Name.{Name}
+use Rattle.gql_base.specs.declared.parts.trees.Name.{Name}
 use Rattle.document_reader.specs.declared.trees.Definition.{Definition}
 use Rattle.document_reader.specs.declared.trees.Definition.TheVariants.{Op, Frag}
 use Rattle.document_reader.specs.declared.picking.PickFault.{PickFault}

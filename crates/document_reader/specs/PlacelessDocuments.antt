@@ -1,10 +1,11 @@
 -- Documents without the offsets of their names.
 use Rattle.std.specs.Prelude.{List, map, Option, None, Some}
-use Rattle.gql_base.specs.Reading.{Identifier}
-use Rattle.gql_base.specs.Values.{ValueTree, NamedValue}
-use Rattle.gql_base.specs.PlacelessSymbols.{name_placeless}
-use Rattle.gql_base.specs.PrintedTrees.{placeless, type_placeless}
-use Rattle.document_reader.specs.Documents.{DirectiveTree, FieldNames, SelectionTree, field_selection, fragment_spread, inline_fragment, SelectionTrees, no_selection, selection_then, VariableTree, DefinitionTree, operation_tree, fragment_tree}
+use Rattle.gql_base.specs.ways.Reading.{Identifier}
+use Rattle.gql_base.specs.parts.Values.{ValueTree, NamedValue}
+use Rattle.gql_base.specs.printing.PlacelessSymbols.{name_placeless}
+use Rattle.gql_base.specs.printing.PrintedTrees.{placeless, type_placeless}
+use Rattle.gql_base.specs.parts.Arguments.{DirectiveTree}
+use Rattle.document_reader.specs.Documents.{FieldNames, SelectionTree, field_selection, fragment_spread, inline_fragment, SelectionTrees, no_selection, selection_then, VariableTree, DefinitionTree, operation_tree, fragment_tree}
 
 abbrev pub maybe_name_placeless : Option Identifier → Option Identifier
 maybe_name_placeless None = None

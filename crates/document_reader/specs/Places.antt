@@ -1,10 +1,10 @@
 -- Where the definitions of a document stand in its text.
 use Rattle.std.specs.Prelude.{ℕ, ◌≡◌, ◌≤◌, ◌<◌, List, [], ◌∷◌, ◌++◌, length}
-use Rattle.gql_base.specs.declared.token.Token.{Token}
-use Rattle.gql_base.specs.Symbols.{symbols_from}
-use Rattle.gql_base.specs.Grammar.{Nested, plain, Within}
-use Rattle.gql_base.specs.Answers.{level_limit}
-use Rattle.gql_base.specs.Sources.{offset_of}
+use Rattle.gql_base.specs.declared.lexical.token.Token.{Token}
+use Rattle.gql_base.specs.ways.Symbols.{symbols_from}
+use Rattle.gql_base.specs.ways.Grammar.{Nested, plain, Within}
+use Rattle.gql_base.specs.ways.FirstFaults.{level_limit}
+use Rattle.gql_base.specs.ways.Sources.{offset_of}
 use Rattle.document_reader.specs.declared.trees.Definition.{Definition}
 use Rattle.document_reader.specs.declared.trees.Definition.TheVariants.{Op, Frag}
 use Rattle.document_reader.specs.Documents.{IsDefinition}

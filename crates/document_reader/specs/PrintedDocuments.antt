@@ -2,19 +2,15 @@
 -- 2.2 to 2.12). Where a list is empty, nothing of it is printed.
 use Rattle.std.specs.Prelude.{ℕ, List, [], ◌∷◌, ◌++◌, Option, None, Some, codes}
 use Rattle.std.specs.List.{flat_map}
-use Rattle.gql_base.specs.declared.token.TokenKind.TheVariants.{Dollar, Colon, Equals, At, Spread, OpenParen, CloseParen, OpenBrace, CloseBrace}
-use Rattle.gql_base.specs.declared.trees.OperationKind.{OperationKind}
-use Rattle.gql_base.specs.declared.trees.OperationKind.TheVariants.{Query, Mutation, Subscription}
-use Rattle.gql_base.specs.Symbols.{punctuator, Symbols}
-use Rattle.gql_base.specs.Reading.{Identifier}
-use Rattle.gql_base.specs.Values.{ValueTree, NamedValue}
-use Rattle.gql_base.specs.PrintedTrees.{printed_name, value_symbols, type_symbols}
-use Rattle.document_reader.specs.Documents.{DirectiveTree, FieldNames, SelectionTree, field_selection, fragment_spread, inline_fragment, SelectionTrees, no_selection, selection_then, VariableTree, DefinitionTree, operation_tree, fragment_tree}
-
--- things in parentheses, if there are any
-abbrev pub in_parentheses : {A : Type 0} → (A → Symbols) → List A → Symbols
-in_parentheses symbols [] = []
-in_parentheses symbols (a ∷ others) = punctuator OpenParen ∷ (flat_map symbols (a ∷ others) ++ (punctuator CloseParen ∷ []))
+use Rattle.gql_base.specs.declared.lexical.token.TokenKind.TheVariants.{Dollar, Colon, Equals, At, Spread, OpenParen, CloseParen, OpenBrace, CloseBrace}
+use Rattle.gql_base.specs.declared.parts.trees.OperationKind.{OperationKind}
+use Rattle.gql_base.specs.declared.parts.trees.OperationKind.TheVariants.{Query, Mutation, Subscription}
+use Rattle.gql_base.specs.ways.Symbols.{punctuator, Symbols}
+use Rattle.gql_base.specs.ways.Reading.{Identifier}
+use Rattle.gql_base.specs.parts.Values.{ValueTree, NamedValue}
+use Rattle.gql_base.specs.printing.PrintedTrees.{printed_name, value_symbols, type_symbols, in_parentheses}
+use Rattle.gql_base.specs.parts.Arguments.{DirectiveTree}
+use Rattle.document_reader.specs.Documents.{FieldNames, SelectionTree, field_selection, fragment_spread, inline_fragment, SelectionTrees, no_selection, selection_then, VariableTree, DefinitionTree, operation_tree, fragment_tree}
 
 abbrev pub argument_symbols : NamedValue → Symbols
 argument_symbols a = printed_name a.0.0 ∷ punctuator Colon ∷ value_symbols a.1

@@ -1,11 +1,12 @@
 -- What documents of the program and their parts stand for.
 use Rattle.std.specs.Prelude.{List, map, Option, None, Some}
-use Rattle.gql_base.specs.declared.trees.Name.{Name}
-use Rattle.gql_base.specs.declared.trees.Directive.{Directive}
-use Rattle.gql_base.specs.declared.trees.Value.{Value}
-use Rattle.gql_base.specs.Reading.{Identifier}
-use Rattle.gql_base.specs.Values.{ValueTree}
-use Rattle.gql_base.specs.Trees.{identifier_of, named_value, value_tree, type_tree}
+use Rattle.gql_base.specs.declared.parts.trees.Name.{Name}
+use Rattle.gql_base.specs.declared.parts.trees.Directive.{Directive}
+use Rattle.gql_base.specs.declared.parts.trees.Value.{Value}
+use Rattle.gql_base.specs.ways.Reading.{Identifier}
+use Rattle.gql_base.specs.parts.Values.{ValueTree}
+use Rattle.gql_base.specs.parts.Trees.{identifier_of, named_value, value_tree, type_tree, directive_tree, maybe_value}
+use Rattle.gql_base.specs.parts.Arguments.{DirectiveTree}
 use Rattle.document_reader.specs.declared.trees.Selection.{Selection}
 use Rattle.document_reader.specs.declared.trees.Selection.TheOpen.{Selection-F, Field-F}
 use Rattle.document_reader.specs.declared.trees.Selection.TheFolds.{fold-Selection, fold-Field}
@@ -15,7 +16,7 @@ use Rattle.document_reader.specs.declared.trees.Operation.{Operation}
 use Rattle.document_reader.specs.declared.trees.Fragment.{Fragment}
 use Rattle.document_reader.specs.declared.trees.Definition.{Definition}
 use Rattle.document_reader.specs.declared.trees.Definition.TheVariants.{Op, Frag}
-use Rattle.document_reader.specs.Documents.{DirectiveTree, FieldNames, SelectionTree, field_selection, fragment_spread, inline_fragment, SelectionTrees, VariableTree, DefinitionTree, operation_tree, fragment_tree}
+use Rattle.document_reader.specs.Documents.{FieldNames, SelectionTree, field_selection, fragment_spread, inline_fragment, SelectionTrees, VariableTree, DefinitionTree, operation_tree, fragment_tree}
 use Rattle.document_reader.specs.DocumentReading.{selections_from}
 
 abbrev pub maybe_identifier : Option Name → Option Identifier
@@ -26,9 +27,6 @@ maybe_identifier (Some n) = Some (identifier_of n)
 abbrev pub names_of : Option Name → Name → FieldNames
 names_of None name = (identifier_of name, None)
 names_of (Some alias) name = (identifier_of alias, Some (identifier_of name))
-
-abbrev pub directive_tree : Directive → DirectiveTree
-directive_tree d = (identifier_of d.name, map named_value d.arguments.items)
 
 abbrev pub selection_step : Selection-F SelectionTree SelectionTree → SelectionTree
 selection_step (Selection-F.Field f) = f
@@ -47,10 +45,6 @@ field_tree = fold-Field SelectionTree SelectionTree selection_step field_step
 -- the trees of selections
 abbrev pub set_tree : List Selection → SelectionTrees
 set_tree selections = selections_from (map selection_tree selections)
-
-abbrev pub maybe_value : Option Value → Option ValueTree
-maybe_value None = None
-maybe_value (Some v) = Some (value_tree v)
 
 abbrev pub variable_tree : VariableDef → VariableTree
 variable_tree v = (identifier_of v.name, type_tree v.of, maybe_value v.default, map directive_tree v.directives.items)

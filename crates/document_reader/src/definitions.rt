@@ -1,53 +1,23 @@
 //! Reading operations and fragments (GraphQL October 2021, 2.2, 2.3, 2.8 and 2.10).
 
 ghost use Rattle.std.specs.Prelude.{◌≡◌, ◌<◌, ◌≤◌, length, map, IfOk, None, Some};
-ghost use Rattle.gql_base.specs.declared.token.TokenKind.TheVariants.{CloseParen};
-ghost use Rattle.gql_base.specs.Reading.{single, one_or_more, up_to};
-ghost use Rattle.gql_base.specs.Sources.{ahead, Reads, offset_of};
-ghost use Rattle.gql_base.specs.Trees.{identifier_of, value_tree};
-ghost use Rattle.document_reader.specs.Documents.{kind_word, kind_named};
-ghost use Rattle.document_reader.specs.DocumentReading.{default_at, maybe_default_at, variable_at, variables_at, maybe_variables_at, maybe_name_at, operation_head_at, bare_at, operation_at, fragment_head_at, fragment_at, definition_at};
-ghost use Rattle.document_reader.specs.Trees.{maybe_identifier, maybe_value, variable_tree, directive_tree, tree_of_operation, tree_of_fragment, definition_tree};
+ghost use Rattle.gql_base.specs.declared.lexical.token.TokenKind.TheVariants.{CloseParen};
+ghost use Rattle.gql_base.specs.ways.Reading.{single, one_or_more, up_to};
+ghost use Rattle.gql_base.specs.ways.Sources.{ahead, Reads, offset_of};
+ghost use Rattle.gql_base.specs.parts.Trees.{identifier_of, value_tree, maybe_value, directive_tree};
+ghost use Rattle.gql_base.specs.parts.OperationKinds.{kind_word, kind_named};
+ghost use Rattle.gql_base.specs.parts.Arguments.{default_at, maybe_default_at};
+ghost use Rattle.document_reader.specs.DocumentReading.{variable_at, variables_at, maybe_variables_at, maybe_name_at, operation_head_at, bare_at, operation_at, fragment_head_at, fragment_at, definition_at};
+ghost use Rattle.document_reader.specs.Trees.{maybe_identifier, variable_tree, tree_of_operation, tree_of_fragment, definition_tree};
 ghost use Rattle.document_reader.specs.Places.{BeginsAt};
 
-use crate::arguments::directives;
-use crate::selections::{fragment_name, is_word, selection_set, wants_word};
+use crate::selections::{fragment_name, selection_set};
 use crate::trees::{Definition, Fragment, Operation, VariableDef};
 use gql_base::{
-    Directive, Halt, Name, OperationKind, Source, TokenKind, TypeRef, Value, type_reference, value,
+    Directive, Halt, Name, OperationKind, Source, TokenKind, TypeRef, Value, directives,
+    maybe_default, operation_kind, type_reference,
 };
 use std::alloc::Global;
-
-/// The value after a `=`.
-fn default_value(
-    alloc: Global,
-    source: &Source,
-    at: usize,
-    levels: usize,
-) -> Result<(Value, usize), Halt>
-    ensures read { Reads source.now (λ x. (Some (value_tree x.0), x.1)) result (default_at levels (ahead source.now at)) }
-    ensures within { IfOk result (λ x. (at < x.1) × (x.1 ≤ length source.now.tokens.now)) }
-{
-    let start = source.wants(at, TokenKind::Equals)?;
-    let (value, end) = value(alloc, source, start, true, levels)?;
-    Ok((value, end))
-}
-
-fn maybe_default(
-    alloc: Global,
-    source: &Source,
-    at: usize,
-    levels: usize,
-) -> Result<(Option<Value>, usize), Halt>
-    ensures read { Reads source.now (λ x. (maybe_value x.0, x.1)) result (maybe_default_at levels (ahead source.now at)) }
-    ensures within { IfOk result (λ x. (at ≤ x.1) × (at ≤ length source.now.tokens.now → x.1 ≤ length source.now.tokens.now)) }
-{
-    if source.is(at, TokenKind::Equals) {
-        let (value, end) = default_value(alloc, source, at, levels)?;
-        return Ok((Some(value), end));
-    }
-    Ok((None, at))
-}
 
 /// A variable with its type, its default and its directives.
 fn variable(
@@ -177,38 +147,6 @@ fn operation_head(
     ))
 }
 
-/// The kind of operation that a name is.
-fn kind_named(word: &str) -> Option<OperationKind>
-    ensures { result ≡ kind_named word.now }
-{
-    let bytes = word.as_bytes();
-    if bytes == "query".as_bytes() {
-        Some(OperationKind::Query)
-    } else if bytes == "mutation".as_bytes() {
-        Some(OperationKind::Mutation)
-    } else if bytes == "subscription".as_bytes() {
-        Some(OperationKind::Subscription)
-    } else {
-        None
-    }
-}
-
-fn kind(source: &Source, at: usize) -> Result<(OperationKind, usize), Halt>
-    ensures read { Reads source.now (λ x. x) result (single kind_word (ahead source.now at)) }
-    ensures within { IfOk result (λ x. (at < x.1) × (x.1 ≤ length source.now.tokens.now)) }
-{
-    match source.token(at) {
-        Some(token) => match token.kind {
-            TokenKind::Name => match kind_named(token.text(source.text)) {
-                Some(kind) => Ok((kind, at + 1)),
-                None => Err(Halt::Unexpected(at)),
-            },
-            _ => Err(Halt::Unexpected(at)),
-        },
-        None => Err(Halt::Unexpected(at)),
-    }
-}
-
 /// A selection set alone.
 fn bare_operation(
     alloc: Global,
@@ -245,7 +183,7 @@ fn operation(
     ensures within { IfOk result (λ x. (at < x.1) × (x.1 ≤ length source.now.tokens.now)) }
     ensures place { IfOk result (λ x. x.0.at ≡ offset_of source.now.text.now source.now.tokens.now at) }
 {
-    let (kind, end) = kind(source, at)?;
+    let (kind, end) = operation_kind(source, at)?;
     let (head, end) = operation_head(alloc, source, end, levels)?;
     let (selections, end) = selection_set(alloc, source, end, levels)?;
     Ok((
@@ -278,9 +216,9 @@ fn fragment_head(
     ensures read { Reads source.now (λ x. ((identifier_of x.0.name, (identifier_of x.0.on, map directive_tree x.0.directives.items)), x.1)) result (fragment_head_at levels (ahead source.now at)) }
     ensures within { IfOk result (λ x. (at < x.1) × (x.1 ≤ length source.now.tokens.now)) }
 {
-    let end = wants_word(source, at, "fragment")?;
+    let end = source.wants_word(at, "fragment")?;
     let (name, end) = fragment_name(alloc, source, end)?;
-    let end = wants_word(source, end, "on")?;
+    let end = source.wants_word(end, "on")?;
     let (on, end) = source.name(alloc, end)?;
     let (directives, end) = directives(alloc, source, end, false, levels)?;
     Ok((
@@ -331,7 +269,7 @@ pub fn definition(
         let (operation, end) = bare_operation(alloc, source, at, levels)?;
         return Ok((Definition::Op(operation), end));
     }
-    if is_word(source, at, "fragment") {
+    if source.is_word(at, "fragment") {
         let (fragment, end) = fragment(alloc, source, at, levels)?;
         return Ok((Definition::Frag(fragment), end));
     }

@@ -1,18 +1,19 @@
 //! Reading a document from its text.
 
 ghost use Rattle.std.specs.Prelude.{◌≡◌, ◌≤◌, ℕ, List, length, map, IfOk, IfErr, false};
-ghost use Rattle.gql_base.specs.declared.token.Token.{Token};
-ghost use Rattle.gql_base.specs.Tokens.{Lexes};
-ghost use Rattle.gql_base.specs.Symbols.{symbols_from};
-ghost use Rattle.gql_base.specs.Reading.{next};
-ghost use Rattle.gql_base.specs.Grammar.{Nested, plain, Within};
-ghost use Rattle.gql_base.specs.Answers.{level_limit};
-ghost use Rattle.gql_base.specs.Sources.{ahead, Reads};
+ghost use Rattle.gql_base.specs.declared.lexical.token.Token.{Token};
+ghost use Rattle.gql_base.specs.lexical.Tokens.{Lexes};
+ghost use Rattle.gql_base.specs.ways.Symbols.{symbols_from};
+ghost use Rattle.gql_base.specs.ways.Reading.{next, is_there};
+ghost use Rattle.gql_base.specs.ways.Grammar.{Nested, plain, Within};
+ghost use Rattle.gql_base.specs.ways.FirstFaults.{level_limit};
+ghost use Rattle.gql_base.specs.ways.Sources.{ahead, Reads};
+ghost use Rattle.gql_base.specs.ways.Halting.{fault_of_halt, fault_of_lexing};
 ghost use Rattle.document_reader.specs.Documents.{DefinitionTree, IsDocument};
-ghost use Rattle.document_reader.specs.DocumentReading.{document_at, is_there};
+ghost use Rattle.document_reader.specs.DocumentReading.{document_at};
 ghost use Rattle.document_reader.specs.Trees.{definition_tree};
 ghost use Rattle.document_reader.specs.Places.{AllStandFrom};
-ghost use Rattle.document_reader.specs.DocumentAnswers.{IsDocumentAmong, IsDocumentOf, IsFaultAmong, IsDocumentFault, IsFaultOfHalt, IsLexicalFault, GivesTrees};
+ghost use Rattle.document_reader.specs.DocumentAnswers.{IsDocumentAmong, IsDocumentOf, IsFaultAmong, IsDocumentFault, told_of_document, GivesTrees};
 
 use crate::definitions::definition;
 use crate::trees::{Definition, Document};
@@ -32,17 +33,6 @@ pub enum DocFault {
     Memory,
 }
 
-/// Whether there is a token with this number.
-fn is_there(source: &Source, at: usize) -> bool
-    ensures there { result ≡ is_there (next (ahead source.now at)) }
-    ensures end { result ≡ false → length source.now.tokens.now ≤ at }
-{
-    if at < source.tokens.len() {
-        return true;
-    }
-    false
-}
-
 /// All definitions of the tokens.
 fn definitions(alloc: Global, source: &Source) -> Result<Vec<Definition>, Halt>
     ensures read { Reads source.now (λ v. (map definition_tree v.items, length source.now.tokens.now)) result (document_at level_limit (ahead source.now 0)) }
@@ -52,7 +42,7 @@ fn definitions(alloc: Global, source: &Source) -> Result<Vec<Definition>, Halt>
     let (first, end) = definition(alloc, source, 0, LEVEL_LIMIT)?;
     definitions.push(first)?;
     let mut at = end;
-    'rest: while is_there(source, at) {
+    'rest: while source.is_there(at) {
         let (definition, end) = definition(alloc, source, at, LEVEL_LIMIT)?;
         definitions.push(definition)?;
         at = end;
@@ -62,7 +52,7 @@ fn definitions(alloc: Global, source: &Source) -> Result<Vec<Definition>, Halt>
 
 /// The fault of reading that halted.
 fn fault_of(source: &Source, halt: Halt) -> DocFault
-    ensures { IsFaultOfHalt source.now halt result }
+    ensures { told_of_document result ≡ fault_of_halt source.now halt }
 {
     match halt {
         Halt::Unexpected(place) => DocFault::Unexpected {
@@ -77,7 +67,7 @@ fn fault_of(source: &Source, halt: Halt) -> DocFault
 
 /// The fault of a text without tokens.
 fn lexical(fault: LexFault) -> DocFault
-    ensures { IsLexicalFault fault result }
+    ensures { told_of_document result ≡ fault_of_lexing fault }
 {
     match fault {
         LexFault::Memory => DocFault::Memory,

@@ -1,7 +1,6 @@
 //! Reading of executable GraphQL documents (GraphQL October 2021, 2.2 to 2.12).
 #![tactic(auto)]
 
-mod arguments;
 mod definitions;
 mod document;
 mod fault_laws;

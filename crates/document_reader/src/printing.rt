@@ -2,13 +2,13 @@
 
 ghost use Rattle.std.specs.Prelude.{◌≡◌, ◌∷◌, map, codes, IfOk, OnOk, None, Some};
 ghost use Rattle.std.specs.List.{flat_map};
-ghost use Rattle.gql_base.specs.declared.token.TokenKind.TheVariants.{Spread};
-ghost use Rattle.gql_base.specs.Symbols.{punctuator};
-ghost use Rattle.gql_base.specs.Printing.{put_all, printed};
-ghost use Rattle.gql_base.specs.Printers.{printed_by};
-ghost use Rattle.gql_base.specs.PrintedTrees.{printed_name};
-ghost use Rattle.gql_base.specs.Trees.{identifier_of, named_value};
-ghost use Rattle.document_reader.specs.Trees.{maybe_identifier, names_of, directive_tree, selection_tree, field_tree, set_tree, maybe_value, variable_tree, tree_of_operation, tree_of_fragment, definition_tree};
+ghost use Rattle.gql_base.specs.declared.lexical.token.TokenKind.TheVariants.{Spread};
+ghost use Rattle.gql_base.specs.ways.Symbols.{punctuator};
+ghost use Rattle.gql_base.specs.printing.Printing.{put_all, printed};
+ghost use Rattle.gql_base.specs.printing.Printers.{printed_by};
+ghost use Rattle.gql_base.specs.printing.PrintedTrees.{printed_name};
+ghost use Rattle.gql_base.specs.parts.Trees.{identifier_of, named_value, directive_tree, maybe_value};
+ghost use Rattle.document_reader.specs.Trees.{maybe_identifier, names_of, selection_tree, field_tree, set_tree, variable_tree, tree_of_operation, tree_of_fragment, definition_tree};
 ghost use Rattle.document_reader.specs.PrintedDocuments.{arguments_symbols, directive_symbols, directives_symbols, names_symbols, condition_symbols, selection_symbols, set_symbols, default_symbols, variable_symbols, variables_symbols, kind_name, maybe_name_symbols, definition_symbols, document_symbols};
 
 use crate::trees::{Definition, Document, Field, Fragment, Operation, Selection, VariableDef};

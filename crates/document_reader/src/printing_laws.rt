@@ -1,7 +1,7 @@
 //! What holds of all printed documents. This function does nothing: its contract is the law.
 
 ghost use Rattle.std.specs.Prelude.{◌≡◌, ℕ, List};
-ghost use Rattle.gql_base.specs.Grammar.{Nested, plain, Within};
+ghost use Rattle.gql_base.specs.ways.Grammar.{Nested, plain, Within};
 ghost use Rattle.document_reader.specs.Documents.{DefinitionTree, IsDocument};
 ghost use Rattle.document_reader.specs.PrintedDocuments.{document_symbols};
 ghost use Rattle.document_reader.specs.PlacelessDocuments.{document_placeless};

@@ -1,8 +1,8 @@
 //! What holds of the texts of printed documents. This function does nothing: its contract is the law.
 
 ghost use Rattle.std.specs.Prelude.{ℕ, List, IsUtf8};
-ghost use Rattle.gql_base.specs.Printing.{printed};
-ghost use Rattle.gql_base.specs.ReadingBack.{SpellsPrintable, SpellsAgain};
+ghost use Rattle.gql_base.specs.printing.Printing.{printed};
+ghost use Rattle.gql_base.specs.printing.ReadingBack.{SpellsPrintable, SpellsAgain};
 ghost use Rattle.document_reader.specs.Documents.{DefinitionTree, IsDocument};
 ghost use Rattle.document_reader.specs.PrintedDocuments.{document_symbols};
 ghost use Rattle.document_reader.specs.PlacelessDocuments.{document_placeless};

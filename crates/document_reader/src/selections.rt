@@ -2,51 +2,17 @@
 
 ghost use Rattle.std.specs.Prelude.{◌≡◌, ◌<◌, ◌≤◌, length, map, IfOk, None, Some};
 ghost use Rattle.std.specs.Str.{bytes_eq};
-ghost use Rattle.gql_base.specs.declared.token.TokenKind.TheVariants.{CloseBrace};
-ghost use Rattle.gql_base.specs.Reading.{single, takes, next, one_or_more, up_to};
-ghost use Rattle.gql_base.specs.Sources.{ahead, Reads};
-ghost use Rattle.gql_base.specs.Trees.{identifier_of, named_value};
-ghost use Rattle.document_reader.specs.Documents.{keyword, fragment_name, inline_fragment};
+ghost use Rattle.gql_base.specs.declared.lexical.token.TokenKind.TheVariants.{CloseBrace};
+ghost use Rattle.gql_base.specs.ways.Reading.{single, takes, next, one_or_more, up_to, keyword};
+ghost use Rattle.gql_base.specs.ways.Sources.{ahead, Reads};
+ghost use Rattle.gql_base.specs.parts.Trees.{identifier_of, named_value, directive_tree};
+ghost use Rattle.document_reader.specs.Documents.{fragment_name, inline_fragment};
 ghost use Rattle.document_reader.specs.DocumentReading.{field_names_at, field_head_at, type_condition_at, maybe_condition_at, spread_at, inline_head_at, inline_with, after_dots_with, dots_with, field_with, selection_with, maybe_set_with, set_at, opened_set_at};
-ghost use Rattle.document_reader.specs.Trees.{maybe_identifier, names_of, directive_tree, selection_tree, field_tree, set_tree};
+ghost use Rattle.document_reader.specs.Trees.{maybe_identifier, names_of, selection_tree, field_tree, set_tree};
 
-use crate::arguments::{directives, maybe_arguments};
 use crate::trees::{Field, Selection};
-use gql_base::{Argument, Directive, Halt, Name, Source, TokenKind};
+use gql_base::{Argument, Directive, Halt, Name, Source, TokenKind, directives, maybe_arguments};
 use std::alloc::Global;
-
-/// Whether the token with this number is this name.
-pub fn is_word(source: &Source, at: usize, word: &str) -> bool
-    ensures { result ≡ takes (keyword word.now) (next (ahead source.now at)) }
-{
-    match source.token(at) {
-        Some(token) => match token.kind {
-            TokenKind::Name => token.text(source.text).as_bytes() == word.as_bytes(),
-            _ => false,
-        },
-        None => false,
-    }
-}
-
-/// The token after this one, which must be this name.
-pub fn wants_word(source: &Source, at: usize, word: &str) -> Result<usize, Halt>
-    ensures read { Reads source.now (λ end. (tt, end)) result (single (keyword word.now) (ahead source.now at)) }
-    ensures within { IfOk result (λ end. (at < end) × (end ≤ length source.now.tokens.now)) }
-{
-    match source.token(at) {
-        Some(token) => match token.kind {
-            TokenKind::Name => {
-                if token.text(source.text).as_bytes() == word.as_bytes() {
-                    Ok(at + 1)
-                } else {
-                    Err(Halt::Unexpected(at))
-                }
-            }
-            _ => Err(Halt::Unexpected(at)),
-        },
-        None => Err(Halt::Unexpected(at)),
-    }
-}
 
 /// Whether the token with this number is a name other than `on`.
 fn is_fragment_name(source: &Source, at: usize) -> bool
@@ -135,7 +101,7 @@ fn condition(alloc: Global, source: &Source, at: usize) -> Result<(Name, usize),
     ensures read { Reads source.now (λ x. (Some (identifier_of x.0), x.1)) result (type_condition_at (ahead source.now at)) }
     ensures within { IfOk result (λ x. (at < x.1) × (x.1 ≤ length source.now.tokens.now)) }
 {
-    let start = wants_word(source, at, "on")?;
+    let start = source.wants_word(at, "on")?;
     let (name, end) = source.name(alloc, start)?;
     Ok((name, end))
 }
@@ -144,7 +110,7 @@ fn maybe_condition(alloc: Global, source: &Source, at: usize) -> Result<(Option<
     ensures read { Reads source.now (λ x. (maybe_identifier x.0, x.1)) result (maybe_condition_at (ahead source.now at)) }
     ensures within { IfOk result (λ x. (at ≤ x.1) × (at ≤ length source.now.tokens.now → x.1 ≤ length source.now.tokens.now)) }
 {
-    if is_word(source, at, "on") {
+    if source.is_word(at, "on") {
         let (name, end) = condition(alloc, source, at)?;
         return Ok((Some(name), end));
     }

@@ -1,8 +1,8 @@
 //! What holds of the trees of all documents. These functions do nothing: their contracts are the laws.
 
 ghost use Rattle.std.specs.Prelude.{◌≡◌, ℕ, List, map};
-ghost use Rattle.gql_base.specs.Grammar.{Nested, plain};
-ghost use Rattle.gql_base.specs.Alike.{AreAlike};
+ghost use Rattle.gql_base.specs.ways.Grammar.{Nested, plain};
+ghost use Rattle.gql_base.specs.printing.Alike.{AreAlike};
 ghost use Rattle.document_reader.specs.declared.trees.Document.{Document};
 ghost use Rattle.document_reader.specs.Documents.{DefinitionTree, IsDocument};
 ghost use Rattle.document_reader.specs.Trees.{definition_tree};

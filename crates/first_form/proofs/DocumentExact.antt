@@ -1,8 +1,8 @@
 -- The nodes of documents are read just where tokens spell them.
 use Rattle.std.proofs.Common.{ℕ, zero, suc, ◌-◌, ◌≡◌, ◌≤◌, true, false, List, [], ◌∷◌, ◌++◌, Option, None, Some, refl, sym, ap, ◌∙◌, subst, arith}
 use Rattle.std.specs.List.{flat_map}
-use Rattle.gql_base.specs.declared.token.TokenKind.TheVariants.{OpenBrace, CloseBrace}
-use Rattle.gql_base.specs.Pieces.{word, mark}
+use Rattle.gql_base.specs.declared.lexical.token.TokenKind.TheVariants.{OpenBrace, CloseBrace}
+use Rattle.gql_base.specs.lexical.Pieces.{word, mark}
 use Rattle.static_cost.specs.declared.first.FirstKind.{FirstKind}
 use Rattle.static_cost.specs.declared.first.FirstKind.TheVariants.{Int, Str, Bool as BoolKind, Id, Object}
 use Rattle.static_cost.specs.Nodes.{First, first, Firsts, no_first, first_then, firsts_from}

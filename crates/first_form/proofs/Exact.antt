@@ -1,7 +1,7 @@
 -- What each way to read reads exactly.
 use Rattle.std.proofs.Common.{◌≡◌, ◌⊎◌, inl, inr, Bool, true, false, [], ◌∷◌, ◌++◌, Option, None, Some, refl, sym, ap, ◌∙◌, subst, append_assoc}
 use Rattle.std.proofs.lemmas.Bool.{cases_Bool}
-use Rattle.gql_base.specs.Pieces.{Lexeme}
+use Rattle.gql_base.specs.lexical.Pieces.{Lexeme}
 use Rattle.first_form.specs.Reading.{Lexemes, Parsed, peek, chain, consumed, satisfy, sequence, converted, choice, verified, verify, success}
 
 -- A tree is read just where the tokens begin with its spelling, as long as none follows that could go on with it.

@@ -1,6 +1,6 @@
 -- Documents that fit a schema, and the nodes that stand for them.
 use Rattle.std.proofs.Common.{ℕ, ◌≡◌, ◌≤◌, true, false, List, ◌∷◌, Some, refl, sym, ap, ◌∙◌, subst}
-use Rattle.gql_base.specs.Tokens.{HasLexemes}
+use Rattle.gql_base.specs.lexical.Tokens.{HasLexemes}
 use Rattle.static_cost.specs.declared.first.FirstKind.{FirstKind}
 use Rattle.static_cost.specs.declared.first.FirstKind.TheVariants.{Int, Str, Bool as BoolKind, Id, Object}
 use Rattle.static_cost.specs.Nodes.{First, first, Firsts, no_first, first_then}

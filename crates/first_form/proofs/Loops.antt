@@ -1,7 +1,7 @@
 -- A loop that reads again and again: what is read so far, and what is still to be read, give the whole.
 use Rattle.std.proofs.Common.{ℕ, ◌≡◌, Bool, true, false, List, [], ◌∷◌, ◌++◌, length, map, Option, None, Some, refl, sym, ap, ◌∙◌, subst, append_assoc, append-nil, arith}
 use Rattle.std.proofs.lemmas.List.{map-append}
-use Rattle.gql_base.specs.Pieces.{Lexeme}
+use Rattle.gql_base.specs.lexical.Pieces.{Lexeme}
 use Rattle.first_form.specs.declared.lexed.Stop.{Stop}
 use Rattle.first_form.specs.declared.lexed.Stop.TheVariants.{NotBuilt, Memory}
 use Rattle.first_form.specs.declared.lexed.Lexed.{Lexed}

@@ -3,11 +3,11 @@ use Rattle.std.proofs.Common.{ℕ, suc, ◌+◌, ◌≡◌, ◌≤◌, ◌<◌, 
 use Rattle.std.specs.Prelude.{◌==◌, not}
 use Rattle.std.proofs.lemmas.List.{drop_all}
 use Rattle.std.proofs.Math.Seq.{drop-cons}
-use Rattle.gql_base.specs.declared.token.TokenKind.{TokenKind}
-use Rattle.gql_base.specs.declared.token.TokenKind.TheVariants.{Name, Int, Str, BlockStr, Bang, Dollar, Amp, OpenParen, CloseParen, Spread, Colon, Equals, At, OpenBracket, CloseBracket, OpenBrace, Pipe, CloseBrace}
-use Rattle.gql_base.specs.declared.token.Token.{Token}
-use Rattle.gql_base.specs.Pieces.{kind_of}
-use Rattle.gql_base.specs.Tokens.{lexeme_of, lexeme_with}
+use Rattle.gql_base.specs.declared.lexical.token.TokenKind.{TokenKind}
+use Rattle.gql_base.specs.declared.lexical.token.TokenKind.TheVariants.{Name, Int, Str, BlockStr, Bang, Dollar, Amp, OpenParen, CloseParen, Spread, Colon, Equals, At, OpenBracket, CloseBracket, OpenBrace, Pipe, CloseBrace}
+use Rattle.gql_base.specs.declared.lexical.token.Token.{Token}
+use Rattle.gql_base.specs.lexical.Pieces.{kind_of}
+use Rattle.gql_base.specs.lexical.Tokens.{lexeme_of, lexeme_with}
 use Rattle.first_form.specs.declared.lexed.Lexed.{Lexed}
 use Rattle.first_form.specs.Reading.{Lexemes, peek, consumed, satisfy, number_of, when, of_kind, peeks, before}
 use Rattle.first_form.specs.LexedTexts.{lexemes_at, lexemes_by}

@@ -2,7 +2,7 @@
 use Rattle.std.proofs.Common.{ℕ, zero, suc, ◌≡◌, ◌≤◌, ◌<◌, inl, inr, Bool, true, false, List, [], ◌∷◌, ◌++◌, length, Option, None, Some, refl, sym, ap, ◌∙◌, subst, arith, append_assoc, length-append}
 use Rattle.std.specs.List.{flat_map}
 use Rattle.std.proofs.lemmas.Bool.{cases_Bool}
-use Rattle.gql_base.specs.Pieces.{Lexeme}
+use Rattle.gql_base.specs.lexical.Pieces.{Lexeme}
 use Rattle.first_form.specs.Reading.{Lexemes, Parsed, peek, chain, prepended, repeated_step, repeated_for, repeated}
 use Rattle.first_form.proofs.Exact.{Exact, some_same, none_some, chain_some}
 

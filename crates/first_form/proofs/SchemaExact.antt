@@ -8,16 +8,16 @@ use Rattle.std.specs.Str.Parse.{digits_value, AllDigits}
 use Rattle.std.proofs.lemmas.Bool.{cases_Bool, leb-true, le-leb}
 use Rattle.std.proofs.lemmas.Fmt.{digits_value-decimal}
 use Rattle.std.proofs.lemmas.Str.Parse.{IsNumeralModel}
-use Rattle.gql_base.specs.declared.token.TokenKind.TheVariants.{Bang, Colon, At, OpenParen, CloseParen, OpenBracket, CloseBracket, OpenBrace, CloseBrace}
-use Rattle.gql_base.specs.Pieces.{Lexeme, word, number, string, block, mark}
+use Rattle.gql_base.specs.declared.lexical.token.TokenKind.TheVariants.{Bang, Colon, At, OpenParen, CloseParen, OpenBracket, CloseBracket, OpenBrace, CloseBrace}
+use Rattle.gql_base.specs.lexical.Pieces.{Lexeme, word, number, string, block, mark}
 use Rattle.static_cost.specs.declared.first.FirstList.{FirstList}
 use Rattle.first_form.specs.Schemas.{FieldTree, TypeTree, bang, size_words, type_words, field_words, definition_words, schema_words, greatest_size, is_size, is_sized}
 use Rattle.first_form.specs.Reading.{Lexemes, peek, consumed, satisfy, repeated, peeks, before, has_more}
 use Rattle.first_form.specs.SchemaReading.{size_from_digits, size_in, never_null, bang_at, SizeParts, size_from, list_size_at, size_at, TypeParts, single_from, listed_from, single_at, listed_at, type_at, field_from, field_at, type_from, definition_at, schema_at}
-use Rattle.gql_base.specs.declared.token.Token.{Token}
-use Rattle.gql_base.specs.declared.token.TokenKind.{TokenKind}
-use Rattle.gql_base.specs.declared.token.TokenKind.TheVariants.{Int}
-use Rattle.gql_base.specs.Tokens.{bytes_at, lexeme_with}
+use Rattle.gql_base.specs.declared.lexical.token.Token.{Token}
+use Rattle.gql_base.specs.declared.lexical.token.TokenKind.{TokenKind}
+use Rattle.gql_base.specs.declared.lexical.token.TokenKind.TheVariants.{Int}
+use Rattle.gql_base.specs.lexical.Tokens.{bytes_at, lexeme_with}
 use Rattle.first_form.specs.declared.lexed.Lexed.{Lexed}
 use Rattle.first_form.specs.LexedTexts.{lexemes_at, lexemes_by}
 use Rattle.first_form.proofs.Exact.{Exact, never, some_same, none_some, satisfy_exact, sequence_exact, then_exact, converted_exact, choice_exact, success_exact, as_exact}

@@ -1,8 +1,8 @@
 -- The same tokens are spelled by one tree.
 use Rattle.std.proofs.Common.{ℕ, ◌≡◌, true, false, List, [], ◌∷◌, ◌++◌, refl, sym, ap, ◌∙◌, subst, append_assoc}
-use Rattle.gql_base.specs.declared.token.TokenKind.TheVariants.{OpenBrace, CloseBrace}
-use Rattle.gql_base.specs.Pieces.{Lexeme, word, mark}
-use Rattle.gql_base.specs.Tokens.{HasLexemes}
+use Rattle.gql_base.specs.declared.lexical.token.TokenKind.TheVariants.{OpenBrace, CloseBrace}
+use Rattle.gql_base.specs.lexical.Pieces.{Lexeme, word, mark}
+use Rattle.gql_base.specs.lexical.Tokens.{HasLexemes}
 use Rattle.static_cost.specs.Nodes.{Firsts}
 use Rattle.first_form.specs.Schemas.{TypeTree, schema_words, HasFirstSchema}
 use Rattle.first_form.specs.Documents.{Selections, no_selection, select, Subset, nothing, set, selection_words, subset_words, document_words, HasFirstDocument, HaveFirstForm}

@@ -3,10 +3,10 @@ use Rattle.std.proofs.Common.{ℕ, ◌≡◌, ◌≤◌, Bool, true, false, List
 use Rattle.std.specs.Prelude.{codes}
 use Rattle.std.specs.Result.{IfOk}
 use Rattle.std.specs.List.{list_all}
-use Rattle.gql_base.specs.declared.lexing.LexFault.{LexFault}
-use Rattle.gql_base.specs.declared.lexing.LexFault.TheVariants.{BadChar, BadNumber, OpenText, BadEscape, FloatValue, Memory as NoMemory}
-use Rattle.gql_base.specs.declared.token.Token.{Token}
-use Rattle.gql_base.specs.Tokens.{HasLexemes, lexeme_of}
+use Rattle.gql_base.specs.declared.lexical.lexing.LexFault.{LexFault}
+use Rattle.gql_base.specs.declared.lexical.lexing.LexFault.TheVariants.{BadChar, BadNumber, OpenText, BadEscape, FloatValue, Memory as NoMemory}
+use Rattle.gql_base.specs.declared.lexical.token.Token.{Token}
+use Rattle.gql_base.specs.lexical.Tokens.{HasLexemes, lexeme_of}
 use Rattle.static_cost.specs.Nodes.{Firsts}
 use Rattle.first_form.specs.declared.lexed.Lexed.{Lexed}
 use Rattle.first_form.specs.declared.lexed.Stop.{Stop}

@@ -1,6 +1,6 @@
 -- How the nodes of a document are read at the front of tokens, in the service of the proofs.
 use Rattle.std.specs.Prelude.{ℕ, zero, suc, Bool, false, List, Option, None, Some}
-use Rattle.gql_base.specs.declared.token.TokenKind.TheVariants.{OpenBrace, CloseBrace}
+use Rattle.gql_base.specs.declared.lexical.token.TokenKind.TheVariants.{OpenBrace, CloseBrace}
 use Rattle.static_cost.specs.declared.first.FirstKind.{FirstKind}
 use Rattle.static_cost.specs.declared.first.FirstKind.TheVariants.{Int, Str, Bool as BoolKind, Id, Object}
 use Rattle.static_cost.specs.Nodes.{First, first, Firsts, no_first, first_then, firsts_from}

@@ -1,9 +1,9 @@
 -- Documents of the first form: their trees, the tokens that spell them, and the nodes that they stand for.
 -- A document is one selection set (GraphQL October 2021, 2.4) of fields without alias, arguments and directives.
 use Rattle.std.specs.Prelude.{◌≡◌, ℕ, suc, ◌≤◌, max, Bool, true, false, List, [], ◌∷◌, ◌++◌, Option, Some, None, IsTrue, codes}
-use Rattle.gql_base.specs.Pieces.{Lexeme, word, mark}
-use Rattle.gql_base.specs.Tokens.{HasLexemes}
-use Rattle.gql_base.specs.declared.token.TokenKind.TheVariants.{OpenBrace, CloseBrace}
+use Rattle.gql_base.specs.lexical.Pieces.{Lexeme, word, mark}
+use Rattle.gql_base.specs.lexical.Tokens.{HasLexemes}
+use Rattle.gql_base.specs.declared.lexical.token.TokenKind.TheVariants.{OpenBrace, CloseBrace}
 use Rattle.static_cost.specs.declared.first.FirstKind.{FirstKind}
 use Rattle.static_cost.specs.declared.first.FirstKind.TheVariants.{Int, Str, Bool as BoolKind, Id, Object}
 use Rattle.static_cost.specs.declared.first.FirstList.{FirstList}

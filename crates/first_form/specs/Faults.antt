@@ -1,7 +1,7 @@
 -- What tokens spell, and the faults of the parts of reading, in the service of the proofs.
 use Rattle.std.specs.Prelude.{◌≡◌, ◌≤◌, List, IsTrue, codes}
-use Rattle.gql_base.specs.declared.lexing.LexFault.{LexFault}
-use Rattle.gql_base.specs.declared.lexing.LexFault.TheVariants.{BadChar, BadNumber, OpenText, BadEscape, FloatValue, Memory as NoMemory}
+use Rattle.gql_base.specs.declared.lexical.lexing.LexFault.{LexFault}
+use Rattle.gql_base.specs.declared.lexical.lexing.LexFault.TheVariants.{BadChar, BadNumber, OpenText, BadEscape, FloatValue, Memory as NoMemory}
 use Rattle.static_cost.specs.Nodes.{Firsts}
 use Rattle.first_form.specs.declared.lexed.Stop.{Stop}
 use Rattle.first_form.specs.declared.lexed.Stop.TheVariants.{NotBuilt, Memory}

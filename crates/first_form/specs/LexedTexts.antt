@@ -1,7 +1,7 @@
 -- The tokens of a source from a place on, and what a reader over them answers.
 use Rattle.std.specs.Prelude.{ℕ, ◌≡◌, ◌+◌, [], ◌∷◌, map, drop, Option, None, Some, Result, Ok, Err}
-use Rattle.gql_base.specs.declared.token.Token.{Token}
-use Rattle.gql_base.specs.Tokens.{lexeme_of}
+use Rattle.gql_base.specs.declared.lexical.token.Token.{Token}
+use Rattle.gql_base.specs.lexical.Tokens.{lexeme_of}
 use Rattle.first_form.specs.declared.lexed.Lexed.{Lexed}
 use Rattle.first_form.specs.declared.lexed.Stop.{Stop}
 use Rattle.first_form.specs.declared.lexed.Stop.TheVariants.{NotBuilt, Memory}

@@ -2,9 +2,9 @@
 -- form are stands in `Schemas` and `Documents`.
 use Rattle.std.specs.Prelude.{ℕ, zero, suc, ◌==◌, not, Bool, true, false, List, [], ◌∷◌, length, Option, None, Some, if◌then◌else◌}
 use Rattle.std.specs.Str.{bytes_eq}
-use Rattle.gql_base.specs.declared.token.TokenKind.{TokenKind}
-use Rattle.gql_base.specs.declared.token.TokenKind.TheVariants.{Name, Int, Str, BlockStr, Bang, Dollar, Amp, OpenParen, CloseParen, Spread, Colon, Equals, At, OpenBracket, CloseBracket, OpenBrace, Pipe, CloseBrace}
-use Rattle.gql_base.specs.Pieces.{Lexeme, word, number, string, block, mark, kind_of}
+use Rattle.gql_base.specs.declared.lexical.token.TokenKind.{TokenKind}
+use Rattle.gql_base.specs.declared.lexical.token.TokenKind.TheVariants.{Name, Int, Str, BlockStr, Bang, Dollar, Amp, OpenParen, CloseParen, Spread, Colon, Equals, At, OpenBracket, CloseBracket, OpenBrace, Pipe, CloseBrace}
+use Rattle.gql_base.specs.lexical.Pieces.{Lexeme, word, number, string, block, mark, kind_of}
 
 abbrev pub Lexemes : Type 0
 Lexemes = List Lexeme

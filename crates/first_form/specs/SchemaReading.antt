@@ -3,8 +3,8 @@ use Rattle.std.specs.Prelude.{ℕ, ◌&&◌, nat_le, Bool, true, false, List, Op
 use Rattle.std.specs.Fmt.{decimal}
 use Rattle.std.specs.Str.{bytes_eq}
 use Rattle.std.specs.Str.Parse.{digits_value}
-use Rattle.gql_base.specs.Pieces.{Lexeme, word, number, string, block, mark}
-use Rattle.gql_base.specs.declared.token.TokenKind.TheVariants.{Bang, Colon, At, OpenParen, CloseParen, OpenBracket, CloseBracket, OpenBrace, CloseBrace}
+use Rattle.gql_base.specs.lexical.Pieces.{Lexeme, word, number, string, block, mark}
+use Rattle.gql_base.specs.declared.lexical.token.TokenKind.TheVariants.{Bang, Colon, At, OpenParen, CloseParen, OpenBracket, CloseBracket, OpenBrace, CloseBrace}
 use Rattle.static_cost.specs.declared.first.FirstList.{FirstList}
 use Rattle.first_form.specs.Schemas.{FieldTree, TypeTree, greatest_size}
 use Rattle.first_form.specs.Reading.{Lexemes, Parsed, satisfy, sequence, converted, choice, success, repeated, of_kind, name_in, keyword, peeks, before, has_more}

@@ -5,9 +5,9 @@ use Rattle.std.specs.Prelude.{ℕ, ◌&&◌, ◌||◌, not, Bool, true, false, L
 use Rattle.std.specs.List.{flat_map, list_any, list_all, starts_with}
 use Rattle.std.specs.Fmt.{decimal}
 use Rattle.std.specs.Str.{bytes_eq}
-use Rattle.gql_base.specs.Pieces.{Lexeme, word, number, mark}
-use Rattle.gql_base.specs.Tokens.{HasLexemes}
-use Rattle.gql_base.specs.declared.token.TokenKind.TheVariants.{Bang, Colon, At, OpenParen, CloseParen, OpenBracket, CloseBracket, OpenBrace, CloseBrace}
+use Rattle.gql_base.specs.lexical.Pieces.{Lexeme, word, number, mark}
+use Rattle.gql_base.specs.lexical.Tokens.{HasLexemes}
+use Rattle.gql_base.specs.declared.lexical.token.TokenKind.TheVariants.{Bang, Colon, At, OpenParen, CloseParen, OpenBracket, CloseBracket, OpenBrace, CloseBrace}
 use Rattle.static_cost.specs.declared.first.FirstKind.{FirstKind}
 use Rattle.static_cost.specs.declared.first.FirstKind.TheVariants.{Int, Str, Bool as BoolKind, Id, Object}
 use Rattle.static_cost.specs.declared.first.FirstList.{FirstList}

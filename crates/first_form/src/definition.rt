@@ -1,7 +1,7 @@
 //! Reading the object types of a schema.
 
 ghost use Rattle.std.specs.Prelude.{◌≡◌, ◌+◌, ◌<◌, ◌≤◌, length, map, IfOk, Some};
-ghost use Rattle.gql_base.specs.declared.token.TokenKind.TheVariants.{CloseBrace};
+ghost use Rattle.gql_base.specs.declared.lexical.token.TokenKind.TheVariants.{CloseBrace};
 ghost use Rattle.first_form.specs.Reading.{repeated, before};
 ghost use Rattle.first_form.specs.SchemaReading.{bang_at, list_size_at, size_at, single_at, listed_at, type_at, field_at, definition_at, schema_at};
 ghost use Rattle.first_form.specs.LexedTexts.{lexemes_at, Parses};

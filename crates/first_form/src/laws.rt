@@ -1,7 +1,7 @@
 //! What holds of all texts of the first form. These functions do nothing: their contracts are the laws.
 
 ghost use Rattle.std.specs.Prelude.{◌≡◌, ℕ, List};
-ghost use Rattle.gql_base.specs.Tokens.{HasLexemes};
+ghost use Rattle.gql_base.specs.lexical.Tokens.{HasLexemes};
 ghost use Rattle.static_cost.specs.Nodes.{Firsts};
 ghost use Rattle.first_form.specs.Schemas.{TypeTree, HasFirstSchema};
 ghost use Rattle.first_form.specs.Documents.{Selections, document_words, IsDocumentFor, HasFirstDocument, HaveFirstForm};

@@ -1,7 +1,7 @@
 //! Reading the selection sets of a document, over the types of its schema.
 
 ghost use Rattle.std.specs.Prelude.{◌≡◌, ◌+◌, ◌<◌, ◌≤◌, length, map, IfOk};
-ghost use Rattle.gql_base.specs.declared.token.TokenKind.TheVariants.{CloseBrace};
+ghost use Rattle.gql_base.specs.declared.lexical.token.TokenKind.TheVariants.{CloseBrace};
 ghost use Rattle.static_cost.specs.Nodes.{first_of, firsts_of};
 ghost use Rattle.first_form.specs.Schemas.{kind_of, type_named};
 ghost use Rattle.first_form.specs.Documents.{list_of, size_of};

@@ -1,7 +1,7 @@
 -- The lines that the commands write.
 use Rattle.std.specs.Prelude.{ℕ, List, [], ◌∷◌, ◌++◌, codes}
 use Rattle.std.specs.Fmt.{decimal}
-use Rattle.gql_base.specs.declared.lexing.LexFault.TheVariants as lexical
+use Rattle.gql_base.specs.declared.lexical.lexing.LexFault.TheVariants as lexical
 use Rattle.document_reader.specs.declared.document.DocFault.{DocFault}
 use Rattle.document_reader.specs.declared.document.DocFault.TheVariants.{Lex, Unexpected, TooDeep, Memory as DocumentMemory}
 use Rattle.response_meter.specs.declared.fault.Why.{Why}

@@ -1,26 +1,6 @@
-pub mod Characters
-pub mod Numbers
-pub mod Strings
-pub mod Blocks
-pub mod Pieces
-pub mod Faults
-pub mod Tokens
-pub mod Fronts
-pub mod Literals
-pub mod Symbols
-pub mod Reading
-pub mod Grammar
-pub mod FirstFaults
-pub mod Values
-pub mod TypeReferences
-pub mod Sources
-pub mod Trees
-pub mod Answers
-pub mod Halting
-pub mod Printing
-pub mod PrintedTrees
-pub mod Printers
-pub mod PlacelessSymbols
-pub mod Alike
-pub mod PrintableSymbols
-pub mod ReadingBack
+-- Four subjects, each on those before it. The file of each tells which of its definitions are the meaning, cited by
+-- public contracts, and which serve proofs alone.
+pub mod lexical
+pub mod ways
+pub mod parts
+pub mod printing

@@ -1,7 +1,7 @@
 use Rattle.std.proofs.Common.{arith, sym, ◌∙◌, map}
 use Rattle.std.proofs.lemmas.Result.{err_from_is_err_and}
 use Rattle.document_reader.specs.Trees.{variable_tree}
-use Rattle.gql_base.proofs.Loops.{loop_ends, loop_halts, loop_goes_on}
+use Rattle.gql_base.proofs.WayLaws.Loops.{loop_ends, loop_halts, loop_goes_on}
 use Rattle.document_reader.proofs.DefinitionSteps.{variables_repeat}
 use Rattle.document_reader.proofs.definitions.some_variables.Goals as goal
 

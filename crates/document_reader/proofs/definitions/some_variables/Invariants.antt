@@ -1,10 +1,10 @@
 use Rattle.std.proofs.Common.{◌≡◌, ◌<◌, ◌-◌, length, map}
-use Rattle.gql_base.specs.declared.token.TokenKind.TheVariants.{CloseParen}
-use Rattle.gql_base.specs.Reading.{repeated, one_or_more, up_to}
+use Rattle.gql_base.specs.declared.lexical.token.TokenKind.TheVariants.{CloseParen}
+use Rattle.gql_base.specs.ways.Reading.{repeated, one_or_more, up_to}
 use Rattle.document_reader.specs.DocumentReading.{variable_at}
 use Rattle.document_reader.specs.Trees.{variable_tree}
-use Rattle.gql_base.specs.Sources.{ahead}
-use Rattle.gql_base.proofs.Loops.{joined}
+use Rattle.gql_base.specs.ways.Sources.{ahead}
+use Rattle.gql_base.proofs.WayLaws.Loops.{joined}
 use Rattle.document_reader.proofs.definitions.some_variables.Given as goal
 
 abbrev pub invariant-rest : goal.invariant-rest

@@ -1,8 +1,8 @@
 use Rattle.std.proofs.Common.{◌≡◌, arith, sym, ap, ◌∙◌, length, map, Ok, [], ◌∷◌, ◌++◌}
 use Rattle.std.proofs.lemmas.Result.{err_from_is_err_and}
-use Rattle.gql_base.specs.Answers.{level_limit}
-use Rattle.gql_base.specs.Sources.{ahead}
-use Rattle.gql_base.proofs.Loops.{loop_ends, loop_halts, loop_goes_on}
+use Rattle.gql_base.specs.ways.FirstFaults.{level_limit}
+use Rattle.gql_base.specs.ways.Sources.{ahead}
+use Rattle.gql_base.proofs.WayLaws.Loops.{loop_ends, loop_halts, loop_goes_on}
 use Rattle.document_reader.specs.Trees.{definition_tree}
 use Rattle.document_reader.proofs.DefinitionSteps.{definitions_repeat}
 use Rattle.document_reader.proofs.DocumentSteps.{stands, stands_alone, stands_after, document_begins, document_halts}

@@ -1,9 +1,9 @@
 use Rattle.std.proofs.Common.{◌≡◌, ◌≤◌, ◌-◌, length, map}
-use Rattle.gql_base.specs.Reading.{repeated}
-use Rattle.gql_base.specs.Answers.{level_limit}
-use Rattle.gql_base.specs.Sources.{ahead}
-use Rattle.gql_base.proofs.Loops.{joined}
-use Rattle.document_reader.specs.DocumentReading.{definition_at, document_at, is_there}
+use Rattle.gql_base.specs.ways.Reading.{repeated, is_there}
+use Rattle.gql_base.specs.ways.FirstFaults.{level_limit}
+use Rattle.gql_base.specs.ways.Sources.{ahead}
+use Rattle.gql_base.proofs.WayLaws.Loops.{joined}
+use Rattle.document_reader.specs.DocumentReading.{definition_at, document_at}
 use Rattle.document_reader.specs.Trees.{definition_tree}
 use Rattle.document_reader.specs.Places.{AllStandFrom}
 use Rattle.document_reader.proofs.document.definitions.Given as goal

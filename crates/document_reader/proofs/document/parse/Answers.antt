@@ -1,25 +1,27 @@
-use Rattle.std.proofs.Common.{map}
-use Rattle.gql_base.specs.Answers.{level_limit}
-use Rattle.gql_base.specs.Sources.{ahead}
-use Rattle.gql_base.proofs.LevelLaws.{is_written}
-use Rattle.document_reader.specs.Trees.{definition_tree}
+use Rattle.gql_base.specs.ways.FirstFaults.{level_limit}
+use Rattle.gql_base.specs.ways.Sources.{ahead}
+use Rattle.gql_base.proofs.WayLaws.LevelLaws.{is_written}
+use Rattle.gql_base.proofs.WayLaws.Readings.{fault_from}
+use Rattle.gql_base.proofs.WayLaws.OneTextFault.{tree_read, tree_same, memory_alone}
+use Rattle.document_reader.specs.DocumentReading.{document_at}
+use Rattle.document_reader.specs.DocumentAnswers.{document_trees, told_of_document}
 use Rattle.document_reader.proofs.DocumentLaws.{document_family}
-use Rattle.document_reader.proofs.DocumentSteps.{whole_document, document_read, trees_same, memory_alone, is_fault_among}
+use Rattle.document_reader.proofs.DocumentSteps.{whole_document}
 use Rattle.document_reader.proofs.document.parse.Goals as goal
 
 pub returns-in-Ok-clause-found : goal.returns-in-Ok-clause-found
 returns-in-Ok-clause-found c = record {
-  written = is_written level_limit document_family _ _ _ (whole_document c.args.source.now (map definition_tree c.in-Ok.definitions.items) c.in-Ok.ensures.read);
+  written = is_written level_limit document_family _ _ _ (whole_document c.args.source.now (document_trees (record { definitions = c.in-Ok.definitions })) c.in-Ok.ensures.read);
   places = c.in-Ok.ensures.places;
 }
 
 pub returns-in-Ok-clause-only : goal.returns-in-Ok-clause-only
 returns-in-Ok-clause-only c = λ trees front is within cut.
-    trees_same trees (map definition_tree c.in-Ok.definitions.items) (ahead c.args.source.now 0) _ c.in-Ok.ensures.read (document_read trees front (ahead c.args.source.now 0) is within cut)
+    tree_same document_at trees (document_trees (record { definitions = c.in-Ok.definitions })) (ahead c.args.source.now 0) _ c.in-Ok.ensures.read (tree_read document_family trees front (ahead c.args.source.now 0) is within cut)
 
 pub returns-in-Err-clause-only : goal.returns-in-Err-clause-only
 returns-in-Err-clause-only c = λ trees front is within cut.
-    memory_alone c.args.source.now c.in-Err.halt c.fault_of.result trees c.in-Err.ensures.read c.fault_of.ensures (document_read trees front (ahead c.args.source.now 0) is within cut)
+    memory_alone document_at c.args.source.now c.in-Err.halt (told_of_document c.fault_of.result) trees c.in-Err.ensures.read c.fault_of.ensures (tree_read document_family trees front (ahead c.args.source.now 0) is within cut)
 
 pub returns-in-Err-clause-fault : goal.returns-in-Err-clause-fault
-returns-in-Err-clause-fault c = is_fault_among c.args.source.now c.in-Err.halt c.fault_of.result c.in-Err.ensures.read c.fault_of.ensures
+returns-in-Err-clause-fault c = fault_from document_family c.args.source.now 0 c.in-Err.halt (told_of_document c.fault_of.result) c.in-Err.ensures.read c.fault_of.ensures

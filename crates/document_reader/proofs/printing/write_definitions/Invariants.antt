@@ -1,7 +1,7 @@
 use Rattle.std.proofs.Common.{◌≡◌, drop, map}
 use Rattle.std.specs.List.{flat_map}
-use Rattle.gql_base.specs.Printing.{put_all}
-use Rattle.gql_base.specs.Printers.{printed_by}
+use Rattle.gql_base.specs.printing.Printing.{put_all}
+use Rattle.gql_base.specs.printing.Printers.{printed_by}
 use Rattle.document_reader.specs.Trees.{definition_tree}
 use Rattle.document_reader.specs.PrintedDocuments.{definition_symbols}
 use Rattle.document_reader.proofs.printing.write_definitions.Given as goal

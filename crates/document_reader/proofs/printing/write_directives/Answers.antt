@@ -1,6 +1,6 @@
 use Rattle.std.proofs.Common.{sym, ◌∙◌}
-use Rattle.gql_base.specs.Printers.{printed_by}
-use Rattle.document_reader.specs.Trees.{directive_tree}
+use Rattle.gql_base.specs.printing.Printers.{printed_by}
+use Rattle.gql_base.specs.parts.Trees.{directive_tree}
 use Rattle.document_reader.specs.PrintedDocuments.{directive_symbols}
 use Rattle.document_reader.proofs.PrintingSteps.{next_item, no_item}
 use Rattle.document_reader.proofs.printing.write_directives.Goals as goal

@@ -1,5 +1,5 @@
 use Rattle.std.proofs.Common.{sym, ◌∙◌}
-use Rattle.gql_base.specs.Printers.{printed_by}
+use Rattle.gql_base.specs.printing.Printers.{printed_by}
 use Rattle.document_reader.specs.Trees.{variable_tree}
 use Rattle.document_reader.specs.PrintedDocuments.{variable_symbols}
 use Rattle.document_reader.proofs.PrintingSteps.{next_item, no_item}

@@ -1,7 +1,7 @@
 use Rattle.std.proofs.Common.{arith, sym, ap, ◌∙◌, map, Ok, subst}
 use Rattle.std.proofs.lemmas.Result.{err_from_is_err_and}
-use Rattle.gql_base.specs.Sources.{ahead, Reads}
-use Rattle.gql_base.proofs.Loops.{loop_ends, loop_halts, loop_goes_on}
+use Rattle.gql_base.specs.ways.Sources.{ahead, Reads}
+use Rattle.gql_base.proofs.WayLaws.Loops.{loop_ends, loop_halts, loop_goes_on}
 use Rattle.document_reader.specs.Trees.{selection_tree, set_tree}
 use Rattle.document_reader.proofs.ReadingSteps.{selections_repeat, set_is_opened, tree_of_field, selection_is_field}
 use Rattle.document_reader.proofs.selections.+sets.Goals as goal

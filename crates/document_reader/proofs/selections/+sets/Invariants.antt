@@ -1,8 +1,8 @@
 use Rattle.std.proofs.Common.{◌≡◌, ◌<◌, ◌+◌, ◌*◌, ◌-◌, length, map}
-use Rattle.gql_base.specs.declared.token.TokenKind.TheVariants.{CloseBrace}
-use Rattle.gql_base.specs.Reading.{repeated, one_or_more, up_to}
-use Rattle.gql_base.specs.Sources.{ahead}
-use Rattle.gql_base.proofs.Loops.{joined}
+use Rattle.gql_base.specs.declared.lexical.token.TokenKind.TheVariants.{CloseBrace}
+use Rattle.gql_base.specs.ways.Reading.{repeated, one_or_more, up_to}
+use Rattle.gql_base.specs.ways.Sources.{ahead}
+use Rattle.gql_base.proofs.WayLaws.Loops.{joined}
 use Rattle.document_reader.specs.DocumentReading.{selection_with, set_at}
 use Rattle.document_reader.specs.Trees.{selection_tree}
 use Rattle.document_reader.proofs.selections.+sets.Given as goal

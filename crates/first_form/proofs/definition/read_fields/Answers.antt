@@ -1,6 +1,6 @@
 use Rattle.std.proofs.Common.{◌∙◌, sym, arith}
 use Rattle.std.proofs.lemmas.Result.{err_from_is_err_and}
-use Rattle.gql_base.specs.declared.token.TokenKind.TheVariants.{CloseBrace}
+use Rattle.gql_base.specs.declared.lexical.token.TokenKind.TheVariants.{CloseBrace}
 use Rattle.first_form.specs.Reading.{before}
 use Rattle.first_form.specs.SchemaReading.{field_at}
 use Rattle.first_form.specs.Views.{field_of, fields_of}

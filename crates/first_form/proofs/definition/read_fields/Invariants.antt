@@ -1,5 +1,5 @@
 use Rattle.std.proofs.Common.{◌≡◌, ◌≤◌, ◌-◌, length}
-use Rattle.gql_base.specs.declared.token.TokenKind.TheVariants.{CloseBrace}
+use Rattle.gql_base.specs.declared.lexical.token.TokenKind.TheVariants.{CloseBrace}
 use Rattle.first_form.specs.Reading.{repeated, before}
 use Rattle.first_form.specs.SchemaReading.{field_at}
 use Rattle.first_form.specs.LexedTexts.{lexemes_at}

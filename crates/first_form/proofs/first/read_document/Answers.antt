@@ -1,6 +1,6 @@
 use Rattle.std.proofs.Common.{◌∙◌, ap, sym, subst}
 use Rattle.std.proofs.lemmas.Result.{err_from_is_err_and}
-use Rattle.gql_base.specs.Tokens.{HasLexemes}
+use Rattle.gql_base.specs.lexical.Tokens.{HasLexemes}
 use Rattle.static_cost.specs.Nodes.{firsts_of}
 use Rattle.first_form.specs.IndexedTypes.{indexed_types}
 use Rattle.first_form.specs.Views.{types_of}

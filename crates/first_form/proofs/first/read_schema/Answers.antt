@@ -1,6 +1,6 @@
 use Rattle.std.proofs.Common.{◌∙◌, sym, subst}
 use Rattle.std.proofs.lemmas.Result.{err_from_is_err_and}
-use Rattle.gql_base.specs.Tokens.{HasLexemes}
+use Rattle.gql_base.specs.lexical.Tokens.{HasLexemes}
 use Rattle.first_form.specs.Views.{types_of}
 use Rattle.first_form.proofs.Tokens.{same_error}
 use Rattle.first_form.proofs.Whole.{words_all, lex_refused, schema_text, schema_of_text, if_ok}

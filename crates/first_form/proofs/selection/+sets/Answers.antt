@@ -1,6 +1,6 @@
 use Rattle.std.proofs.Common.{◌∙◌, sym, subst, arith, map}
 use Rattle.std.proofs.lemmas.Result.{err_from_is_err_and}
-use Rattle.gql_base.specs.declared.token.TokenKind.TheVariants.{CloseBrace}
+use Rattle.gql_base.specs.declared.lexical.token.TokenKind.TheVariants.{CloseBrace}
 use Rattle.static_cost.specs.Nodes.{first_of, firsts_of}
 use Rattle.first_form.specs.Reading.{before}
 use Rattle.first_form.specs.DocumentReading.{selection_at, set_at}

@@ -1,5 +1,5 @@
 use Rattle.std.proofs.Common.{◌≡◌, ◌≤◌, ◌+◌, ◌*◌, ◌-◌, length, map}
-use Rattle.gql_base.specs.declared.token.TokenKind.TheVariants.{CloseBrace}
+use Rattle.gql_base.specs.declared.lexical.token.TokenKind.TheVariants.{CloseBrace}
 use Rattle.static_cost.specs.Nodes.{first_of}
 use Rattle.first_form.specs.Reading.{repeated, before}
 use Rattle.first_form.specs.DocumentReading.{selection_at, set_at}

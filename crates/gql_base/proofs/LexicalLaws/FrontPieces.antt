@@ -1,0 +1,406 @@
+-- What is found at the front of a text is the piece that begins there, or the fault.
+use Rattle.std.proofs.Common.{◌≡◌, inl, inr, ℕ, suc, ◌+◌, ◌-◌, ◌<◌, ◌≤◌, ◌^◌, Bool, true, false, ◌==◌, ◌&&◌, if◌then◌else◌, List, [], ◌∷◌, ◌++◌, length, take, drop, get_or, refl, sym, ap, ◌∙◌, arith, Option, Some, None, Result, Ok, Err, subst}
+use Rattle.std.specs.Prelude.{nat_lt, nat_le}
+use Rattle.std.specs.List.{prefix_len}
+use Rattle.std.specs.Char.{is_ascii_digit}
+use Rattle.std.specs.Str.Parse.{digits_value}
+use Rattle.std.proofs.lemmas.Bool.{cases_Bool, eqb-true}
+use Rattle.std.proofs.lemmas.Bool.Decides.{nat_tests}
+use Rattle.std.proofs.lemmas.List.{take-append-drop, length-take, length-append, append-nil, append_assoc, take_at, drop_at}
+use Rattle.std.proofs.lemmas.List.Sums.{prefix_len-le-length}
+use Rattle.gql_base.specs.declared.lexical.lexing.Front.{Front}
+use Rattle.gql_base.specs.declared.lexical.lexing.LexFault.{LexFault}
+use Rattle.gql_base.specs.declared.lexical.lexing.LexFault.TheVariants.{BadChar, BadNumber, FloatValue}
+use Rattle.gql_base.specs.declared.lexical.numbers.Found.{Found}
+use Rattle.gql_base.specs.declared.lexical.token.TokenKind.{TokenKind}
+use Rattle.gql_base.specs.declared.lexical.token.TokenKind.TheVariants.{Name, Int, Str, BlockStr, Bang, Dollar, Amp, OpenParen, CloseParen, Spread, Colon, Equals, At, OpenBracket, CloseBracket, OpenBrace, Pipe, CloseBrace}
+use Rattle.gql_base.specs.lexical.Characters.{is_name_start, is_name_continue, is_blank, is_comment_byte, is_number_start, follows_no_number}
+use Rattle.gql_base.specs.lexical.Numbers.{IsWhole, Numeral, minus_bytes, numeral_bytes}
+use Rattle.gql_base.specs.lexical.Strings.{begins_with_marks}
+use Rattle.gql_base.specs.lexical.Pieces.{word, number, string, block, mark, Piece, token, byte_order_mark, blank, comment, mark_bytes, kind_of, lexeme_bytes, piece_bytes, IsInRange, IsInteger, IsPiece, EndsBefore, BeginsWithout, BeginsNothing}
+use Rattle.gql_base.specs.lexical.Faults.{begins_as_number}
+use Rattle.gql_base.specs.lexical.Fronts.{mark_of, is_byte_order_mark, is_spread, piece_from, front_with, mark_front, found_front, number_found, integer_fits, text_front, front_of}
+use Rattle.gql_base.proofs.LexicalLaws.Runs.{run_is_whole, run_passes, run_stops, rest_of}
+use Rattle.gql_base.proofs.LexicalLaws.Integers.{fits_plain}
+use Rattle.gql_base.proofs.LexicalLaws.Numerals.{number_there, number_is, IntegerThere, integer_is, found_at}
+use Rattle.gql_base.proofs.LexicalLaws.Texts.{string_there, block_there, StringThere, BlockThere, text_found_single, text_found_block}
+
+abbrev pub piece_kind : Piece → Option TokenKind
+piece_kind (token lexeme) = Some (kind_of lexeme)
+piece_kind byte_order_mark = None
+piece_kind (blank byte) = None
+piece_kind (comment bytes) = None
+
+-- how a piece is told by its kind and its length
+abbrev pub outline : Piece → Front
+outline p = front_with (piece_kind p) (length (piece_bytes p))
+
+abbrev pub ok : Front → Result Front LexFault
+ok f = Ok f
+
+-- ---- bytes that begin pieces
+
+name_begins : (c : ℕ) → is_name_start c ≡ true → (is_number_start c ≡ false) × ((c == 34) ≡ false)
+name_begins c is = (grind (arith, nat_tests), grind (arith, nat_tests))
+
+blank_begins : (c : ℕ) → is_blank c ≡ true → (is_number_start c ≡ false) × ((c == 34) ≡ false) × (is_name_start c ≡ false)
+blank_begins c is = (grind (arith, nat_tests), grind (arith, nat_tests), grind (arith, nat_tests))
+
+digit_begins : (c : ℕ) → is_ascii_digit c ≡ true → is_number_start c ≡ true
+digit_begins c is = rw is refl
+
+pub number_no_mark : (c : ℕ) → is_number_start c ≡ true → (c == 34) ≡ false
+number_no_mark c is = grind (arith, nat_tests)
+
+pub mark_no_number : (c : ℕ) → (c == 34) ≡ true → is_number_start c ≡ false
+mark_no_number c is = grind (arith, nat_tests)
+
+-- ---- a piece that begins a text is found
+
+le_self : (m n : ℕ) → m ≤ n → nat_le m n ≡ true
+le_self m n below = grind (arith, nat_tests)
+
+lt_self : (m n : ℕ) → m < n → nat_lt m n ≡ true
+lt_self m n below = grind (arith, nat_tests)
+
+integer_small : (minus : Bool) (ws : List ℕ) → IsWhole ws → IsInRange minus (digits_value 10 ws) → integer_fits (minus_bytes minus ++ ws) ≡ true
+integer_small true ws is small = le_self (digits_value 10 ws) (2 ^ 127) small
+integer_small false [] is small = absurd is
+integer_small false (c ∷ cs) is small = fits_plain c cs is.0 ∙ lt_self (digits_value 10 (c ∷ cs)) (2 ^ 127) small
+
+pub integer_begins : (minus : Bool) (ws after : List ℕ) → IsWhole ws → begins_as_number ((minus_bytes minus ++ ws) ++ after) ≡ true
+integer_begins true ws after is = refl
+integer_begins false [] after is = absurd is
+integer_begins false (c ∷ cs) after is = digit_begins c is.0
+
+pub front_of_number : (text : List ℕ) → begins_as_number text ≡ true → front_of text ≡ found_front text (number_found text)
+unfolding front_of
+front_of_number [] is = absurd (cc)
+front_of_number (c ∷ cs) is = rw is refl
+
+numeral_of : Bool → List ℕ → Numeral
+numeral_of minus ws = record { minus = minus; whole = ws; fraction = None; exponent = None }
+
+numeral_is : (minus : Bool) (ws : List ℕ) → minus_bytes minus ++ ws ≡ numeral_bytes (numeral_of minus ws)
+unfolding numeral_of
+numeral_is minus ws = ap (λ xs. minus_bytes minus ++ xs) (sym (append-nil ws))
+
+integer_fronts : (bytes after : List ℕ) → IsInteger bytes → BeginsWithout follows_no_number after → front_of (bytes ++ after) ≡ Ok (front_with (Some Int) (length bytes))
+unfolding numeral_of
+integer_fronts bytes after is ends =
+    let same : bytes ≡ numeral_bytes (numeral_of is.minus is.whole) = is.cut ∙ numeral_is is.minus is.whole in
+    let found : number_found (bytes ++ after) ≡ found_at (length (numeral_bytes (numeral_of is.minus is.whole))) false =
+    number_there (bytes ++ after) after (numeral_of is.minus is.whole) (ap (λ xs. xs ++ after) same) (is.is, tt, tt) ends in
+    let here : number_found (bytes ++ after) ≡ found_at (length bytes) false = found ∙ ap (λ xs. found_at (length xs) false) (sym same) in
+    let fits : integer_fits (take (length bytes) (bytes ++ after)) ≡ true = ap integer_fits (take_at bytes after (length bytes) refl ∙ is.cut) ∙ integer_small is.minus is.whole is.is is.small in
+    front_of_number (bytes ++ after) (ap (λ xs. begins_as_number (xs ++ after)) is.cut ∙ integer_begins is.minus is.whole after is.is)
+    ∙ rw here (rw fits refl)
+
+front_of_mark : (cs : List ℕ) → front_of (34 ∷ cs) ≡ text_front (34 ∷ cs)
+unfolding front_of
+front_of_mark cs = refl
+
+string_size : (body : List ℕ) → 1 + length body + 1 ≡ length (lexeme_bytes (string body))
+string_size body = omega (arith, length-append body (34 ∷ []))
+
+block_size : (body : List ℕ) → 3 + length body + 3 ≡ length (lexeme_bytes (block body))
+block_size body = omega (arith, length-append body (34 ∷ 34 ∷ 34 ∷ []))
+
+string_bytes_before : (body after : List ℕ) → lexeme_bytes (string body) ++ after ≡ 34 ∷ (body ++ 34 ∷ after)
+string_bytes_before body after = ap (λ xs. 34 ∷ xs) (append_assoc body (34 ∷ []) after)
+
+block_bytes_before : (body after : List ℕ) → lexeme_bytes (block body) ++ after ≡ 34 ∷ 34 ∷ 34 ∷ (body ++ 34 ∷ 34 ∷ 34 ∷ after)
+block_bytes_before body after = ap (λ xs. 34 ∷ 34 ∷ 34 ∷ xs) (append_assoc body (34 ∷ 34 ∷ 34 ∷ []) after)
+
+abbrev kind_front : TokenKind → ℕ → Result Front LexFault
+kind_front kind n = Ok (front_with (Some kind) n)
+
+abbrev plain_front : ℕ → Result Front LexFault
+plain_front n = Ok (front_with None n)
+
+pub front_is : (p : Piece) (after : List ℕ) → IsPiece p → EndsBefore p after → front_of (piece_bytes p ++ after) ≡ Ok (outline p)
+unfolding front_of
+front_is (token (word [])) after is ends = absurd is
+front_is (token (word (c ∷ cs))) after is ends =
+    rw (name_begins c is.0).0 (rw (name_begins c is.0).1 (rw is.0 (size (run_is_whole is_name_continue cs after is.1 ends))))
+  where
+    size : prefix_len is_name_continue (cs ++ after) ≡ length cs → kind_front Name (1 + prefix_len is_name_continue (cs ++ after)) ≡ kind_front Name (suc (length cs))
+    size same = ap (kind_front Name) (omega (arith, same))
+front_is (token (number bytes)) after is ends = integer_fronts bytes after is ends
+front_is (token (string body)) after is ends =
+    ap front_of (string_bytes_before body after) ∙ front_of_mark (body ++ 34 ∷ after) ∙ string_there body after ends.0 ends.1 is ∙ ap (kind_front Str) (string_size body)
+front_is (token (block body)) after is ends =
+    ap front_of (block_bytes_before body after) ∙ front_of_mark (34 ∷ 34 ∷ (body ++ 34 ∷ 34 ∷ 34 ∷ after)) ∙ block_there body after ends is ∙ ap (kind_front BlockStr) (block_size body)
+front_is (token (mark Bang)) after is ends = refl
+front_is (token (mark Dollar)) after is ends = refl
+front_is (token (mark Amp)) after is ends = refl
+front_is (token (mark OpenParen)) after is ends = refl
+front_is (token (mark CloseParen)) after is ends = refl
+front_is (token (mark Spread)) after is ends = refl
+front_is (token (mark Colon)) after is ends = refl
+front_is (token (mark Equals)) after is ends = refl
+front_is (token (mark At)) after is ends = refl
+front_is (token (mark OpenBracket)) after is ends = refl
+front_is (token (mark CloseBracket)) after is ends = refl
+front_is (token (mark OpenBrace)) after is ends = refl
+front_is (token (mark Pipe)) after is ends = refl
+front_is (token (mark CloseBrace)) after is ends = refl
+front_is (token (mark Name)) after is ends = absurd (omega (arith, is))
+front_is (token (mark Int)) after is ends = absurd (omega (arith, is))
+front_is (token (mark Str)) after is ends = absurd (omega (arith, is))
+front_is (token (mark BlockStr)) after is ends = absurd (omega (arith, is))
+front_is byte_order_mark after is ends = refl
+front_is (blank byte) after is ends = rw (blank_begins byte is).0 (rw (blank_begins byte is).1 (rw (blank_begins byte is).2 (rw is refl)))
+front_is (comment bytes) after is ends = ap plain_front (omega (arith, run_is_whole is_comment_byte bytes after is ends))
+
+-- no piece begins where a fault is found
+pub begins_nothing : (text : List ℕ) (fault : LexFault) → front_of text ≡ Err fault → BeginsNothing text
+begins_nothing text fault is = λ p after cut piece ends. let found = front_is p after piece ends in let same = ap front_of cut in cc
+
+run_length : (p : ℕ → Bool) (xs : List ℕ) → length (take (prefix_len p xs) xs) ≡ prefix_len p xs
+run_length p xs = omega (arith, length-take (prefix_len p xs) xs, prefix_len-le-length p xs)
+
+-- A piece of this outline is at the front of the text, as long as possible.
+pub record BeginsWith (text : List ℕ) (f : Front) : Type 0 where
+  pub piece : Piece
+  pub cut : text ≡ piece_bytes piece ++ drop f.length text
+  pub is : IsPiece piece
+  pub ends : EndsBefore piece (drop f.length text)
+  pub told : outline piece ≡ f
+
+begins_with_name : (c : ℕ) (cs : List ℕ) → is_name_start c ≡ true → BeginsWith (c ∷ cs) (front_with (Some Name) (suc (prefix_len is_name_continue cs)))
+begins_with_name c cs start = record {
+  piece = token (word (c ∷ take (prefix_len is_name_continue cs) cs));
+  cut = ap (λ xs. c ∷ xs) (sym (take-append-drop (prefix_len is_name_continue cs) cs));
+  is = (start, run_passes is_name_continue cs);
+  ends = run_stops is_name_continue cs;
+  told = ap (λ n. front_with (Some Name) (suc n)) (run_length is_name_continue cs);
+}
+
+begins_with_comment : (c : ℕ) (cs : List ℕ) → (c == 35) ≡ true → BeginsWith (c ∷ cs) (front_with None (suc (prefix_len is_comment_byte cs)))
+begins_with_comment c cs start = record {
+  piece = comment (take (prefix_len is_comment_byte cs) cs);
+  cut = rw (eqb-true c 35 start) (ap (λ xs. 35 ∷ xs) (sym (take-append-drop (prefix_len is_comment_byte cs) cs)));
+  is = run_passes is_comment_byte cs;
+  ends = run_stops is_comment_byte cs;
+  told = ap (λ n. front_with None (suc n)) (run_length is_comment_byte cs);
+}
+
+begins_with_blank : (c : ℕ) (cs : List ℕ) → is_blank c ≡ true → BeginsWith (c ∷ cs) (front_with None 1)
+begins_with_blank c cs start = record { piece = blank c; cut = refl; is = start; ends = tt; told = refl }
+
+not_all : (b : Bool) → (b && false) ≡ true → ⊥
+not_all true e = cc
+not_all false e = cc
+
+three_bytes : (c d e x y z : ℕ) → ((c == x) && ((d == y) && (e == z))) ≡ true → (c ≡ x) × (d ≡ y) × (e ≡ z)
+three_bytes c d e x y z all = grind (arith, nat_tests)
+
+begins_with_byte_order_mark : (c : ℕ) (cs : List ℕ) → is_byte_order_mark c cs ≡ true → BeginsWith (c ∷ cs) (front_with None 3)
+begins_with_byte_order_mark c [] start = absurd (not_all (c == 239) start)
+begins_with_byte_order_mark c (d ∷ []) start = absurd (not_all (c == 239) start)
+begins_with_byte_order_mark c (d ∷ e ∷ es) start =
+    let told : (c ≡ 239) × (d ≡ 187) × (e ≡ 191) = three_bytes c d e 239 187 191 start in
+    record { piece = byte_order_mark; cut = rw (told.0, told.1, told.2) refl; is = tt; ends = tt; told = refl }
+
+begins_with_spread : (c : ℕ) (cs : List ℕ) → is_spread c cs ≡ true → BeginsWith (c ∷ cs) (front_with (Some Spread) 3)
+begins_with_spread c [] start = absurd (not_all (c == 46) start)
+begins_with_spread c (d ∷ []) start = absurd (not_all (c == 46) start)
+begins_with_spread c (d ∷ e ∷ es) start =
+    let told : (c ≡ 46) × (d ≡ 46) × (e ≡ 46) = three_bytes c d e 46 46 46 start in
+    record { piece = token (mark Spread); cut = rw (told.0, told.1, told.2) refl; is = omega arith; ends = tt; told = refl }
+
+-- of two ways, that which is taken
+one_of : {A : Type 0} (P : A → Type 0) (b : Bool) (x : A) (others : Option A) (f : A) → (b ≡ true → P x) → (others ≡ Some f → P f) → (if b then Some x else others) ≡ Some f → P f
+one_of P b x others f here later found =
+    elim (cases_Bool b) [
+      | inl t ↦ let taken : Some x ≡ Some f = rw t at found in let same : x ≡ f = cc in subst P same (here t)
+      | inr n ↦ later (rw n at found)
+    ]
+
+one_found : (P : Front → Type 0) (b : Bool) (x : Front) (others : Result Front LexFault) (f : Front) → (b ≡ true → P x) → (others ≡ Ok f → P f) → (if b then Ok x else others) ≡ Ok f → P f
+one_found P b x others f here later found =
+    elim (cases_Bool b) [
+      | inl t ↦ let taken : ok x ≡ ok f = taken_is t in let same : x ≡ f = ok_same x f taken in subst P same (here t)
+      | inr n ↦ later (rw n at found)
+    ]
+  where
+    taken_is : b ≡ true → ok x ≡ ok f
+    taken_is t = rw t at found
+
+    ok_same : (x f : Front) → ok x ≡ ok f → x ≡ f
+    ok_same x f same = cc
+
+IsMarkOf : ℕ → TokenKind → Type 0
+IsMarkOf c kind = mark_bytes kind ≡ c ∷ []
+
+mark_when : (c n : ℕ) (kind : TokenKind) → mark_bytes kind ≡ n ∷ [] → (c == n) ≡ true → IsMarkOf c kind
+unfolding IsMarkOf
+mark_when c n kind bytes same = rw (eqb-true c n same) bytes
+
+mark_of_is : (c : ℕ) (kind : TokenKind) → mark_of c ≡ Some kind → mark_bytes kind ≡ c ∷ []
+unfolding IsMarkOf
+mark_of_is c kind start =
+    one_of (IsMarkOf c) (c == 33) Bang _ kind (mark_when c 33 Bang refl) (
+    one_of (IsMarkOf c) (c == 36) Dollar _ kind (mark_when c 36 Dollar refl) (
+    one_of (IsMarkOf c) (c == 38) Amp _ kind (mark_when c 38 Amp refl) (
+    one_of (IsMarkOf c) (c == 40) OpenParen _ kind (mark_when c 40 OpenParen refl) (
+    one_of (IsMarkOf c) (c == 41) CloseParen _ kind (mark_when c 41 CloseParen refl) (
+    one_of (IsMarkOf c) (c == 58) Colon _ kind (mark_when c 58 Colon refl) (
+    one_of (IsMarkOf c) (c == 61) Equals _ kind (mark_when c 61 Equals refl) (
+    one_of (IsMarkOf c) (c == 64) At _ kind (mark_when c 64 At refl) (
+    one_of (IsMarkOf c) (c == 91) OpenBracket _ kind (mark_when c 91 OpenBracket refl) (
+    one_of (IsMarkOf c) (c == 93) CloseBracket _ kind (mark_when c 93 CloseBracket refl) (
+    one_of (IsMarkOf c) (c == 123) OpenBrace _ kind (mark_when c 123 OpenBrace refl) (
+    one_of (IsMarkOf c) (c == 124) Pipe _ kind (mark_when c 124 Pipe refl) (
+    one_of (IsMarkOf c) (c == 125) CloseBrace _ kind (mark_when c 125 CloseBrace refl) (
+    λ none. absurd (cc)))))))))))))) start
+
+begins_with_mark_of : (c : ℕ) (cs : List ℕ) (kind : TokenKind) → mark_bytes kind ≡ c ∷ [] → BeginsWith (c ∷ cs) (front_with (Some kind) 1)
+begins_with_mark_of c cs kind bytes = record {
+  piece = token (mark kind);
+  cut = ap (λ xs. xs ++ cs) (sym bytes);
+  is = rw bytes (omega arith);
+  ends = tt;
+  told = ap (λ xs. front_with (Some kind) (length xs)) bytes;
+}
+
+begins_with_some_mark : (c : ℕ) (cs : List ℕ) (m : Option TokenKind) (f : Front) → mark_of c ≡ m → mark_front m ≡ Ok f → BeginsWith (c ∷ cs) f
+begins_with_some_mark c cs None f is found = absurd (cc)
+begins_with_some_mark c cs (Some kind) f is found =
+    let same : front_with (Some kind) 1 ≡ f = cc in
+    subst (BeginsWith (c ∷ cs)) same (begins_with_mark_of c cs kind (mark_of_is c kind is))
+
+one_more : (P : ℕ → Type 0) (n : ℕ) → P (suc n) → P (1 + n)
+one_more P n h = let e : suc n ≡ 1 + n = omega arith in subst P e h
+
+piece_begins : (c : ℕ) (cs : List ℕ) (f : Front) → piece_from c cs ≡ Ok f → BeginsWith (c ∷ cs) f
+piece_begins c cs f found =
+    one_found (BeginsWith (c ∷ cs)) (is_name_start c) _ _ f
+    (λ t. one_more (λ n. BeginsWith (c ∷ cs) (front_with (Some Name) n)) (prefix_len is_name_continue cs) (begins_with_name c cs t)) (
+    one_found (BeginsWith (c ∷ cs)) (is_blank c) _ _ f (begins_with_blank c cs) (
+    one_found (BeginsWith (c ∷ cs)) (c == 35) _ _ f
+    (λ t. one_more (λ n. BeginsWith (c ∷ cs) (front_with None n)) (prefix_len is_comment_byte cs) (begins_with_comment c cs t)) (
+    one_found (BeginsWith (c ∷ cs)) (is_byte_order_mark c cs) _ _ f (begins_with_byte_order_mark c cs) (
+    one_found (BeginsWith (c ∷ cs)) (is_spread c cs) _ _ f (begins_with_spread c cs) (
+    begins_with_some_mark c cs (mark_of c) f refl))))) found
+
+-- what is found where a piece of as many bytes stands begins the text
+piece_there : (text after : List ℕ) (p : Piece) (f : Front) → text ≡ piece_bytes p ++ after → IsPiece p → EndsBefore p after → outline p ≡ f → BeginsWith text f
+piece_there text after p f cut is ends told =
+    let rest : drop f.length text ≡ after = ap (drop f.length) cut ∙ drop_at (piece_bytes p) after f.length (ap (λ g. g.length) told) in
+    record {
+      piece = p;
+      cut = cut ∙ ap (λ xs. piece_bytes p ++ xs) (sym rest);
+      is = is;
+      ends = subst (EndsBefore p) (sym rest) ends;
+      told = told;
+    }
+
+le_is : (m n : ℕ) → nat_le m n ≡ true → m ≤ n
+le_is m n le = grind (arith, nat_tests)
+
+lt_is : (m n : ℕ) → nat_lt m n ≡ true → m < n
+lt_is m n lt = grind (arith, nat_tests)
+
+fits_small : (minus : Bool) (ws : List ℕ) → IsWhole ws → integer_fits (minus_bytes minus ++ ws) ≡ true → IsInRange minus (digits_value 10 ws)
+fits_small true ws is fits = le_is (digits_value 10 ws) (2 ^ 127) fits
+fits_small false [] is fits = absurd is
+fits_small false (c ∷ cs) is fits = lt_is (digits_value 10 (c ∷ cs)) (2 ^ 127) (sym (fits_plain c cs is.0) ∙ fits)
+
+integer_begins_with : (text : List ℕ) (end : ℕ) (f : Front) (there : IntegerThere text end) → integer_fits (take end text) ≡ true → front_with (Some Int) end ≡ f → BeginsWith text f
+integer_begins_with text end f there fits told =
+    let bytes : take end text ≡ minus_bytes there.minus ++ there.whole = ap (take end) there.cut ∙ take_at (minus_bytes there.minus ++ there.whole) (drop end text) end there.size in
+    piece_there text (drop end text) (token (number (minus_bytes there.minus ++ there.whole))) f there.cut
+    (record { minus = there.minus; whole = there.whole; cut = refl; is = there.is; small = fits_small there.minus there.whole there.is (sym (ap integer_fits bytes) ∙ fits) })
+    there.ends
+    (ap (front_with (Some Int)) there.size ∙ told)
+
+pub ok_same : (f g : Front) → ok f ≡ ok g → f ≡ g
+ok_same f g same = cc
+
+abbrev pub err : LexFault → Result Front LexFault
+err fault = Err fault
+
+pub err_same : (f g : LexFault) → err f ≡ err g → f ≡ g
+err_same f g same = cc
+
+pub not_found : (fault : LexFault) (f : Front) → err fault ≡ ok f → ⊥
+not_found fault f same = cc
+
+pub not_faulty : (fault : LexFault) (f : Front) → ok f ≡ err fault → ⊥
+not_faulty fault f same = cc
+
+number_begins_with : (text : List ℕ) (f : Front) (o : Option Found) → number_found text ≡ o → found_front text o ≡ Ok f → BeginsWith text f
+number_begins_with text f None is found = absurd (not_found (BadNumber 0) f found)
+number_begins_with text f (Some n) is found =
+    elim (cases_Bool n.is_float) [
+      | inl t ↦ absurd (not_found (FloatValue 0) f (rw t at found))
+      | inr whole ↦
+          elim (cases_Bool (integer_fits (take n.end text))) [
+            | inl fits ↦ integer_begins_with text n.end f (integer_is text n whole (number_is text n is)) fits (ok_same _ _ (rw (whole, fits) at found))
+            | inr no_fit ↦ absurd (not_found (BadNumber 0) f (rw (whole, no_fit) at found))
+          ]
+    ]
+
+string_begins_with : (text : List ℕ) (f : Front) → StringThere text f → BeginsWith text f
+string_begins_with text f s =
+    piece_there text s.after (token (string s.body)) f (s.cut ∙ sym (string_bytes_before s.body s.after)) s.sound (s.closed, s.single)
+    (ap (front_with (Some Str)) (sym (string_size s.body)) ∙ s.told)
+
+block_begins_with : (text : List ℕ) (f : Front) → BlockThere text f → BeginsWith text f
+block_begins_with text f s =
+    piece_there text s.after (token (block s.body)) f (s.cut ∙ sym (block_bytes_before s.body s.after)) s.sound s.closed
+    (ap (front_with (Some BlockStr)) (sym (block_size s.body)) ∙ s.told)
+
+text_begins_with : (cs : List ℕ) (f : Front) → text_front (34 ∷ cs) ≡ Ok f → BeginsWith (34 ∷ cs) f
+text_begins_with cs f found =
+    elim (cases_Bool (begins_with_marks (34 ∷ cs))) [
+      | inl t ↦ block_begins_with (34 ∷ cs) f (text_found_block (34 ∷ cs) f t found)
+      | inr single ↦ string_begins_with (34 ∷ cs) f (text_found_single cs f single found)
+    ]
+
+mark_begins_with : (c : ℕ) (cs : List ℕ) (f : Front) → c ≡ 34 → text_front (c ∷ cs) ≡ Ok f → BeginsWith (c ∷ cs) f
+mark_begins_with c cs f is found = subst (λ x. BeginsWith (x ∷ cs) f) (sym is) (text_begins_with cs f (sym (ap (λ x. text_front (x ∷ cs)) is) ∙ found))
+
+-- what is found at the front begins the text
+pub begins_with : (text : List ℕ) (f : Front) → front_of text ≡ Ok f → BeginsWith text f
+unfolding front_of
+begins_with [] f found = absurd (not_found (BadChar 0) f found)
+begins_with (c ∷ cs) f found =
+    elim (cases_Bool (is_number_start c)) [
+      | inl t ↦ number_begins_with (c ∷ cs) f (number_found (c ∷ cs)) refl (rw t at found)
+      | inr n ↦
+          elim (cases_Bool (c == 34)) [
+            | inl t ↦ mark_begins_with c cs f (eqb-true c 34 t) (rw (n, t) at found)
+            | inr m ↦ piece_begins c cs f (rw (n, m) at found)
+          ]
+    ]
+
+-- ---- the code's own cases
+
+pub front_of_nothing : (text : List ℕ) → length text < 1 → Err (BadChar 0) ≡ front_of text
+unfolding front_of
+front_of_nothing [] short = refl
+front_of_nothing (c ∷ cs) short = absurd (omega (arith, short))
+
+pub front_number : (text : List ℕ) → 0 < length text → is_number_start (get_or text 0 0) ≡ true → front_of text ≡ found_front text (number_found text)
+unfolding front_of
+front_number [] long is = absurd (omega (arith, long))
+front_number (c ∷ cs) long is = rw is refl
+
+pub front_text : (text : List ℕ) → 0 < length text → is_number_start (get_or text 0 0) ≡ false → (get_or text 0 0 == 34) ≡ true → front_of text ≡ text_front text
+unfolding front_of
+front_text [] long no_number is = absurd (omega (arith, long))
+front_text (c ∷ cs) long no_number is = rw no_number (rw is refl)
+
+pub front_other : (text : List ℕ) → 0 < length text → is_number_start (get_or text 0 0) ≡ false → (get_or text 0 0 == 34) ≡ false → front_of text ≡ piece_from (get_or text 0 0) (take (length text - 1) (drop 1 text))
+unfolding front_of
+front_other [] long no_number is = absurd (omega (arith, long))
+front_other (c ∷ cs) long no_number is = rw no_number (rw is (ap (piece_from c) (sym (rest_of (c ∷ cs) 1))))
+
+pub one_test : (c : ℕ) → c ≡ 34 → (c == 34) ≡ true
+one_test c is = rw is refl
+
+pub other_test : (c : ℕ) → (c ≡ 34 → ⊥) → (c == 34) ≡ false
+other_test c is = grind (arith, nat_tests)

@@ -1,0 +1,9 @@
+pub mod ValueLaws
+pub mod TypeLaws
+pub mod ValueSteps
+pub mod ArgumentLaws
+pub mod PartReadings
+pub mod AlikeTrees
+pub mod CountedParts
+pub mod OneTree
+pub mod OneFault

@@ -1,0 +1,15 @@
+pub mod Places
+pub mod ReadingLaws
+pub mod RepeatingLaws
+pub mod LevelLaws
+pub mod SymbolTests
+pub mod WordLaws
+pub mod Cursor
+pub mod Loops
+pub mod Readings
+pub mod AlikeSymbols
+pub mod AlikeLaws
+pub mod CountedLevels
+pub mod FirstPlace
+pub mod FaultPlaces
+pub mod OneTextFault

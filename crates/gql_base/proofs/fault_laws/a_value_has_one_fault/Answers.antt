@@ -1,9 +1,0 @@
-use Rattle.gql_base.proofs.CountedLevels.{value_counted, type_counted}
-use Rattle.gql_base.proofs.OneFault.{one_fault}
-use Rattle.gql_base.proofs.fault_laws.a_value_has_one_fault.Goals as goal
-
-pub returns-clause-values : goal.returns-clause-values
-returns-clause-values c = λ constant. one_fault (value_counted constant 0)
-
-pub returns-clause-types : goal.returns-clause-types
-returns-clause-types c = one_fault (type_counted 0)

@@ -1,5 +1,0 @@
-use Rattle.gql_base.proofs.TextSymbols.{symbols_textual}
-use Rattle.gql_base.proofs.printed_texts.symbols_of_a_text_are_textual.Goals as goal
-
-pub returns : goal.returns
-returns c = symbols_textual

@@ -1,8 +1,0 @@
-use Rattle.gql_base.proofs.AlikeSymbols.{within_alike, nested_alike}
-use Rattle.gql_base.proofs.tree_laws.offsets_change_no_nesting.Goals as goal
-
-pub returns-clause-alike : goal.returns-clause-alike
-returns-clause-alike c = nested_alike
-
-pub returns-clause-within : goal.returns-clause-within
-returns-clause-within c = within_alike

@@ -1,8 +1,0 @@
--- What a printer has printed.
-use Rattle.std.specs.Prelude.{string_bytes}
-use Rattle.gql_base.specs.declared.printer.Printer.{Printer}
-use Rattle.gql_base.specs.Printing.{Printed}
-
--- what was printed, and whether a space stands before what comes next
-abbrev pub printed_by : Printer → Printed
-printed_by printer = (string_bytes printer.text, printer.space)

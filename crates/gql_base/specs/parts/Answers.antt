@@ -1,0 +1,31 @@
+-- What the readers of values and types answer.
+use Rattle.std.specs.Prelude.{ℕ, ◌≡◌, List, [], ◌∷◌, Result, Ok, Err}
+use Rattle.gql_base.specs.declared.lexical.token.Token.{Token}
+use Rattle.gql_base.specs.declared.lexical.token.TokenKind.TheVariants.{Bang}
+use Rattle.gql_base.specs.declared.parts.readers.ValueFault.{ValueFault}
+use Rattle.gql_base.specs.declared.parts.readers.ValueFault.TheVariants.{Unexpected, TooDeep, Memory}
+use Rattle.gql_base.specs.ways.Symbols.{Symbols, punctuator, symbols_from}
+use Rattle.gql_base.specs.ways.Grammar.{Nested}
+use Rattle.gql_base.specs.ways.TextFaults.{TextFault, unexpected_at, too_deep_at, no_memory, IsFaultFrom}
+use Rattle.gql_base.specs.parts.TypeReferences.{TypeTree, non_null_type}
+
+-- The answer is this thing, and this is left, if memory didn't run out.
+abbrev pub Gives : {A V : Type 0} → (V → A) → List ℕ → List Token → A → Symbols → Result (V × ℕ) ValueFault → Type 0
+Gives view text tokens a rest (Ok x) = (view x.0 ≡ a) × (symbols_from text tokens x.1 ≡ rest)
+Gives view text tokens a rest (Err fault) = fault ≡ Memory
+
+-- what the fault tells
+abbrev pub told_of_value : ValueFault → TextFault
+told_of_value (Unexpected at) = unexpected_at at
+told_of_value (TooDeep at) = too_deep_at at
+told_of_value Memory = no_memory
+
+-- why nothing is read from a token on, with the offset of the first fault
+abbrev pub IsFault : {A : Type 0} → (A → Nested → Type 0) → List ℕ → List Token → ℕ → ValueFault → Type 0
+IsFault S text tokens from fault = IsFaultFrom S text tokens from (told_of_value fault)
+
+-- no `!` follows a type to which it would belong
+abbrev pub EndsBefore : TypeTree → Symbols → Type 0
+EndsBefore (non_null_type t) rest = Unit {0}
+EndsBefore t [] = Unit {0}
+EndsBefore t (w ∷ rest) = w ≡ punctuator Bang → ⊥

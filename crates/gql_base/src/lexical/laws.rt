@@ -1,0 +1,36 @@
+//! What holds of the tokens of every text. These functions do nothing: their contracts are the laws.
+
+ghost use Rattle.std.specs.Prelude.{◌≡◌, ◌⊎◌, ℕ, ◌<◌, ◌≤◌, List, All, length, map, IsUtf8, IsCharBoundary};
+ghost use Rattle.gql_base.specs.declared.lexical.token.Token.{Token};
+ghost use Rattle.gql_base.specs.lexical.Pieces.{Lexeme};
+ghost use Rattle.gql_base.specs.declared.lexical.lexing.LexFault.{LexFault};
+ghost use Rattle.gql_base.specs.declared.lexical.lexing.LexFault.TheVariants.{Memory};
+ghost use Rattle.gql_base.specs.lexical.Faults.{HasFault};
+ghost use Rattle.gql_base.specs.lexical.Tokens.{Lexes, HasLexemes, AreInOrder, lexeme_of};
+
+/// No text lexes as two lists of tokens, or has two lists of lexemes.
+pub fn a_text_lexes_in_one_way()
+    ensures tokens { (text : List ℕ) (tokens others : List Token) → Lexes text tokens → Lexes text others → tokens ≡ others }
+    ensures lexemes { (text : List ℕ) (lexemes others : List Lexeme) → HasLexemes text lexemes → HasLexemes text others → lexemes ≡ others }
+{}
+
+/// Each text lexes or has a fault, and not both. It has one fault at most, which is its first. Want of memory is none.
+pub fn a_text_lexes_or_has_one_fault()
+    ensures either { (text : List ℕ) → ((tokens : List Token) × Lexes text tokens) ⊎ ((fault : LexFault) × HasFault text fault) }
+    ensures not_both { (text : List ℕ) (tokens : List Token) (fault : LexFault) → Lexes text tokens → HasFault text fault → ⊥ }
+    ensures one_fault { (text : List ℕ) (fault other : LexFault) → HasFault text fault → HasFault text other → fault ≡ other }
+    ensures memory { (text : List ℕ) → HasFault text Memory → ⊥ }
+{}
+
+/// The lexemes of a UTF-8 text are those that its tokens are without their places.
+pub fn lexemes_are_tokens_without_places()
+    ensures of_tokens { (text : List ℕ) (tokens : List Token) → IsUtf8 text → Lexes text tokens → HasLexemes text (map (lexeme_of text) tokens) }
+    ensures have_tokens { (text : List ℕ) (lexemes : List Lexeme) → IsUtf8 text → HasLexemes text lexemes → (tokens : List Token) × Lexes text tokens × (map (lexeme_of text) tokens ≡ lexemes) }
+{}
+
+/// The tokens of a text lie in it, one after the other, and none is empty. They lie at borders of characters.
+pub fn tokens_lie_in_their_text()
+    ensures in_order { (text : List ℕ) (tokens : List Token) → Lexes text tokens → AreInOrder 0 (length text) tokens }
+    ensures within { (text : List ℕ) (tokens : List Token) → Lexes text tokens → All (λ token. (token.span.start < token.span.end) × (token.span.end ≤ length text)) tokens }
+    ensures at_borders { (text : List ℕ) (tokens : List Token) → IsUtf8 text → Lexes text tokens → All (λ token. IsCharBoundary text token.span.start × IsCharBoundary text token.span.end) tokens }
+{}
