@@ -1,0 +1,21 @@
+//! Runs the program on rows, each a command line with its files, and writes what each one came to.
+//!
+//! The words of this program are the names of lists. In a list a line that begins with `$` is a row: the words behind
+//! it, with spaces between them, are those of a command. Every other line is a heading or a note. The transcript has
+//! all lines of the list; below a row stand what it wrote on its output, each line behind `> `, and on its error stream,
+//! behind `! `, and then its status, behind `= `.
+#![tactic(auto)]
+
+mod padded_files;
+mod transcript;
+
+use std::{env, fs, io};
+use transcript::play;
+
+fn main(rt: HostRuntime) -> io::Result<()> {
+    for name in env::args(&rt)?.skip(1) {
+        let list = fs::read_to_string(&rt, name.as_str())?;
+        play(&rt, list.as_str())?;
+    }
+    Ok(())
+}
