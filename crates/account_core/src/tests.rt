@@ -43,11 +43,17 @@ fn reserve(
     let Limit { allowance, carry } = limit;
     let carried = account.carried;
     let most = if carry { CAP / 2 } else { CAP };
-    assert!(rt; covers(even(most), allowance) && covers(allowance, carried));
-    assert!(rt; carry || carried == NOTHING);
+    assert!(rt; allowance.types <= most && allowance.fields <= most);
+    if carry {
+        assert!(rt; carried.types <= allowance.types);
+        assert!(rt; carried.fields <= allowance.fields);
+    } else {
+        assert!(rt; carried.types == 0 && carried.fields == 0);
+    }
     let types = allowance.types + carried.types;
     let fields = allowance.fields + carried.fields;
-    assert!(rt; covers(Cost { types, fields }, account.settled));
+    assert!(rt; account.settled.types <= types);
+    assert!(rt; account.settled.fields <= fields);
     assert!(rt; account.held.types <= types - account.settled.types);
     assert!(rt; account.held.fields <= fields - account.settled.fields);
     account.reserve(limit, 3, 7, window, bound)
@@ -97,12 +103,13 @@ fn left_when_short(
 
 /// Settles a ticket, once it is seen that the account holds it.
 fn settle(rt: &impl Abort, account: &mut Account, ticket: Ticket, measured: Cost) {
-    assert!(rt; covers(ticket.bound, measured));
+    assert!(rt; measured.types <= ticket.bound.types && measured.fields <= ticket.bound.fields);
     assert!(rt; ticket.window <= account.window);
     if ticket.window == account.window {
-        assert!(rt; covers(account.held, ticket.bound));
+        assert!(rt; ticket.bound.types <= account.held.types);
+        assert!(rt; ticket.bound.fields <= account.held.fields);
     }
-    assert!(rt; covers(even(CAP), account.settled));
+    assert!(rt; account.settled.types <= CAP && account.settled.fields <= CAP);
     assert!(rt; account.held.types <= CAP - account.settled.types);
     assert!(rt; account.held.fields <= CAP - account.settled.fields);
     account.settle(ticket, measured);
