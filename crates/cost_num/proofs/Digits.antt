@@ -3,8 +3,7 @@ use Rattle.std.proofs.Common.{◌≡◌, ℕ, zero, suc, ◌+◌, ◌-◌, ◌/�
 use Rattle.std.proofs.Math.ListN.{length-append}
 pub use Rattle.std.proofs.lemmas.Fmt.{decimal_step, decimal_digit, length-decimal-le}
 use Rattle.std.specs.Fmt.{decimal}
-use Rattle.cost_num.specs.declared.TheConstants.{CAP, PLACES, UNIT}
-use Rattle.cost_num.specs.CostText.{last_digits, amount_text}
+use Rattle.cost_num.specs.CostText.{last_digits}
 
 pub length-last_digits : (places n : ℕ) → length (last_digits places n) ≡ places
 unfolding last_digits
@@ -27,13 +26,6 @@ length-decimal_digit n small = ap length (decimal_digit n small)
 pub length-decimal_step : (n : ℕ) → 10 ≤ n → n < 2 ^ 64 → length (decimal n) ≡ length (decimal (n / 10)) + 1
 length-decimal_step n large fits = ap length (decimal_step n large fits) ∙ length-append (decimal (n / 10)) ((48 + n % 10) ∷ [])
 
-pub length-amount_text : (n : ℕ) → length (amount_text n) ≡ length (decimal (n / UNIT)) + PLACES + 1
-length-amount_text n = omega (arith, length-append (decimal (n / UNIT)) (46 ∷ last_digits PLACES (n % UNIT)), length-last_digits PLACES (n % UNIT))
-
--- the whole part of an amount within the cap has at most thirteen digits
-pub amount_text_short : (n : ℕ) → n ≤ CAP → length (amount_text n) ≤ PLACES + 14
-amount_text_short n small = omega (arith, length-amount_text n, length-decimal-le 13 (n / UNIT) (omega arith) (omega arith) (omega arith))
-
 -- two pieces that are written one after the other
 pub written_twice : (before middle after first second : List ℕ) → after ≡ middle ++ second → middle ≡ before ++ first → after ≡ before ++ (first ++ second)
 written_twice before middle after first second later sooner = later ∙ ap (λ bytes. bytes ++ second) sooner ∙ append_assoc before first second
@@ -43,6 +35,3 @@ pub ruleset digit_by_digit = (length-decimal_digit, length-decimal_step, decimal
 
 -- the same for the last digits
 pub ruleset last_by_last = (last_digits_none, last_digits_step)
-
--- how long the texts of amounts are
-pub ruleset lengths = (length-amount_text, amount_text_short)

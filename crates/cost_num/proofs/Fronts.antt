@@ -3,7 +3,7 @@ use Rattle.std.proofs.Common.{◌≡◌, ◌≢◌, ℕ, suc, ◌+◌, ◌<◌, 
 use Rattle.std.proofs.Math.ListN.{length-append}
 use Rattle.std.proofs.lemmas.Bool.{cases_lt, cases_order}
 pub use Rattle.std.proofs.lemmas.List.Sums.{prefix_len-le-length}
-use Rattle.std.proofs.lemmas.List.{take_at, take-append-drop, take-take}
+use Rattle.std.proofs.lemmas.List.{nil_from_length, take_at, take-append-drop, take-take}
 use Rattle.std.proofs.lemmas.Bool.Decides.{nat_tests}
 use Rattle.std.specs.Char.{digit_value, is_ascii_digit}
 use Rattle.std.specs.List.{prefix_len}
@@ -170,13 +170,9 @@ misfit_here text front more c at is stands begun stuck =
 
 -- where splitting a text stops
 
-none_left : (xs : List ℕ) → length xs ≡ 0 → xs ≡ []
-none_left [] none = refl
-none_left (x ∷ xs) none = absurd (omega arith)
-
 pub stops_at_once : (text whole rest : List ℕ) → text ≡ whole ++ rest → length whole ≡ 0 → NoDigitFirst rest → StopsAt text 0
 stops_at_once text whole [] is none ends =
-    let blank : text ≡ [] = is ∙ append-nil whole ∙ none_left whole none in
+    let blank : text ≡ [] = is ∙ append-nil whole ∙ nil_from_length whole none in
     inr (
       record {
         begins = begins_from text (inl (subst (AllDigits 10) (sym blank) tt));
@@ -188,7 +184,7 @@ stops_at_once text whole [] is none ends =
       ap length (sym blank),
     )
 stops_at_once text whole (c ∷ more) is none ends =
-    inl (misfit_here text [] more c 0 (is ∙ ap (λ w. w ++ (c ∷ more)) (none_left whole none)) refl (inl tt) (digits_then [] c tt ends (λ _. refl)))
+    inl (misfit_here text [] more c 0 (is ∙ ap (λ w. w ++ (c ∷ more)) (nil_from_length whole none)) refl (inl tt) (digits_then [] c tt ends (λ _. refl)))
 
 pub stops_after_whole : (text whole rest more : List ℕ) (c at : ℕ) → text ≡ whole ++ rest → rest ≡ c ∷ more → at ≡ length whole → AllDigits 10 whole → NoDigitFirst rest → c ≢ 46 → StopsAt text at
 stops_after_whole text whole rest more c at is begins stands d ends no_dot =
@@ -197,7 +193,7 @@ stops_after_whole text whole rest more c at is begins stands d ends no_dot =
 stops_after_fraction : (text whole fraction end : List ℕ) (at : ℕ) → text ≡ whole ++ (46 ∷ (fraction ++ end)) → at ≡ length whole + 1 + length fraction → IsNumeral 10 whole → AllDigits 10 fraction → NoDigitFirst end → ¬ ((0 < length fraction) × (length end ≡ 0)) → StopsAt text at
 stops_after_fraction text whole fraction [] at is stands numeral d ends incomplete =
     let short : length fraction ≡ 0 = elim (cases_lt 0 (length fraction)) [ inl some ↦ absurd (incomplete (some, refl)) | inr none ↦ omega arith ] in
-    let bare : text ≡ whole ++ (46 ∷ []) = is ∙ ap (λ f. whole ++ (46 ∷ f)) (append-nil fraction ∙ none_left fraction short) in
+    let bare : text ≡ whole ++ (46 ∷ []) = is ∙ ap (λ f. whole ++ (46 ∷ f)) (append-nil fraction ∙ nil_from_length fraction short) in
     inr (
       record {
         begins = begins_from text (inr record { whole = whole; fraction = []; numeral = numeral; digits = tt; is = bare });

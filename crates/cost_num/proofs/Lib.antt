@@ -1,5 +1,6 @@
 pub mod CappedSums
 pub mod Digits
+pub mod ShownPlaces
 pub mod Room
 pub mod Fronts
 pub mod Values

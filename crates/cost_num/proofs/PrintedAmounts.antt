@@ -1,5 +1,5 @@
 -- A printed amount spells that amount.
-use Rattle.std.proofs.Common.{◌≡◌, ℕ, zero, suc, ◌+◌, ◌-◌, ◌*◌, ◌/◌, ◌%◌, ◌^◌, ◌<◌, ◌≤◌, inr, ◌++◌, ◌∷◌, [], List, length, take, refl, ap, sym, ◌∙◌, append-nil, arith}
+use Rattle.std.proofs.Common.{◌≡◌, ℕ, zero, suc, ◌+◌, ◌-◌, ◌*◌, ◌/◌, ◌%◌, ◌^◌, ◌<◌, ◌≤◌, inr, ◌++◌, ◌∷◌, [], List, length, refl, ap, sym, subst, ◌∙◌, arith}
 use Rattle.std.proofs.lemmas.Fmt.{decimal_is_IsNumeral}
 use Rattle.std.proofs.lemmas.List.{take_all}
 use Rattle.std.proofs.lemmas.Str.{digit_value_digit}
@@ -9,9 +9,10 @@ use Rattle.std.specs.Prelude.{replicate}
 use Rattle.std.specs.Str.Parse.{AllDigits, digits_value, digits_value_after}
 use Rattle.cost_num.specs.declared.TheConstants.{CAP, PLACES, UNIT}
 use Rattle.cost_num.specs.Amount.{places_of, Spells, IsAmount}
-use Rattle.cost_num.specs.CostText.{last_digits, amount_text}
+use Rattle.cost_num.specs.CostText.{last_digits, shown, amount_text}
 use Rattle.cost_num.proofs.Digits.{length-last_digits}
-use Rattle.cost_num.proofs.Fronts.{digits_joined}
+use Rattle.cost_num.proofs.Fronts.{digits_front, digits_joined}
+use Rattle.cost_num.proofs.ShownPlaces.{Shortened, shown_shortened}
 
 value_push : (n c : ℕ) (digits : List ℕ) → digits_value_after 10 n (digits ++ (c ∷ [])) ≡ digits_value_after 10 n digits * 10 + digit_value c
 value_push n c [] = refl
@@ -32,10 +33,15 @@ value_of_last (suc places) n small =
     value_push 0 (48 + n % 10) (last_digits places (n / 10))
     ∙ omega (arith, value_of_last places (n / 10) (omega arith), value_of_digit (n % 10) (omega arith))
 
-places_full : (fraction : List ℕ) → length fraction ≡ PLACES → places_of fraction ≡ fraction
-places_full fraction long =
-    let none : PLACES - length fraction ≡ 0 = omega arith in
-    ap (λ n. take PLACES fraction ++ replicate n 48) none ∙ append-nil (take PLACES fraction) ∙ take_all PLACES fraction (omega arith)
+-- the digits of places that are shown, with zeros for the others
+digits_of_shown : (digits short : List ℕ) → Shortened digits short → AllDigits 10 digits → AllDigits 10 short
+digits_of_shown digits short is d = digits_front short (replicate (length digits - length short) 48) (subst (AllDigits 10) (sym is.filled) d)
+
+places_of_shown : (digits short : List ℕ) → Shortened digits short → length digits ≡ PLACES → places_of short ≡ digits
+places_of_shown digits short is long =
+    ap (λ front. front ++ replicate (PLACES - length short) 48) (take_all PLACES short (omega (arith, is.most)))
+    ∙ ap (λ n. short ++ replicate (n - length short) 48) (sym long)
+    ∙ is.filled
 
 -- a unit has as many zeros as there are places
 pub unit_by_places : UNIT ≡ 10 ^ PLACES
@@ -43,15 +49,17 @@ unit_by_places = refl
 
 pub printed_spells : (amount : ℕ) → amount ≤ CAP → Spells (amount_text amount) amount
 printed_spells amount small =
-    let long = length-last_digits PLACES (amount % UNIT) in
+    let digits = last_digits PLACES (amount % UNIT) in
+    let long : length digits ≡ PLACES = length-last_digits PLACES (amount % UNIT) in
+    let short : Shortened digits (shown digits) = shown_shortened (amount % UNIT) in
     let numeral = decimal_is_IsNumeral (amount / UNIT) (omega arith) in
     let last = value_of_last PLACES (amount % UNIT) (omega (arith, unit_by_places)) in
     record {
       whole = decimal (amount / UNIT);
-      fraction = last_digits PLACES (amount % UNIT);
-      splits = record { digits = numeral.0; rest = inr ((omega (arith, long), digits_of_last PLACES (amount % UNIT)), refl) };
-      fine = λ k past inside. absurd (omega (arith, long));
-      value = sym ((λ i. numeral.1 i * UNIT + digits_value 10 (places_full (last_digits PLACES (amount % UNIT)) long i)) ∙ omega (arith, last));
+      fraction = shown digits;
+      splits = record { digits = numeral.0; rest = inr ((omega (arith, short.least), digits_of_shown digits (shown digits) short (digits_of_last PLACES (amount % UNIT))), refl) };
+      fine = λ k past inside. absurd (omega (arith, long, short.most));
+      value = sym ((λ i. numeral.1 i * UNIT + digits_value 10 (places_of_shown digits (shown digits) short long i)) ∙ omega (arith, last));
     }
 
 pub printed_read_back : (amount : ℕ) → amount ≤ CAP → IsAmount CAP (amount_text amount) amount

@@ -11,7 +11,7 @@ use Rattle.cost_num.specs.DecimalText.{Splits, IsFirstMisfit, EndsEarly}
 abbrev pub places_of : List ℕ → List ℕ
 places_of fraction = take PLACES fraction ++ replicate (PLACES - length fraction) 48
 
--- the amount in thousandths: the whole part times a thousand, and the first places
+-- the amount in millionths: the whole part times a million, and the first six places
 abbrev pub amount_of : List ℕ → List ℕ → ℕ
 amount_of whole fraction = digits_value 10 whole * UNIT + digits_value 10 (places_of fraction)
 

@@ -1,11 +1,11 @@
 //! What the definitions of this crate say by themselves, with no code.
 
-ghost use Rattle.std.specs.Prelude.{◌≡◌, ℕ, ◌≤◌, List, Result};
+ghost use Rattle.std.specs.Prelude.{◌≡◌, ℕ, ◌≤◌, List, Result, codes};
 ghost use Rattle.cost_num.specs.declared.weights.WeightFault.{WeightFault};
 ghost use Rattle.cost_num.specs.Amount.{IsAmount, Reads};
 ghost use Rattle.cost_num.specs.CostText.{amount_text};
 
-use crate::CAP;
+use crate::{CAP, Cost, WeightFault};
 
 /// Each text is read in exactly one way: as one amount in range, or as one first fault with its
 /// place, whatever the greatest amount is.
@@ -19,3 +19,20 @@ pub fn each_text_has_one_reading()
 pub fn printed_amounts_are_read_back()
     ensures { (amount : ℕ) → amount ≤ CAP → IsAmount CAP (amount_text amount) amount }
 {}
+
+/// Three decimal places are always printed, and the fourth to sixth up to the last that isn't 0.
+pub fn worked_amounts()
+    ensures none { amount_text 0 ≡ codes "0.000" }
+    ensures third { amount_text 7250000 ≡ codes "7.250" }
+    ensures fourth { amount_text 1234500 ≡ codes "1.2345" }
+    ensures fifth { amount_text 7000010 ≡ codes "7.00001" }
+    ensures sixth { amount_text 1 ≡ codes "0.000001" }
+{}
+
+/// Threads may share costs and the faults of weights.
+pub fn costs_are_shared() {
+    is_shared::<Cost>();
+    is_shared::<WeightFault>();
+}
+
+fn is_shared<T: Send + Sync>() {}

@@ -1,7 +1,7 @@
-//! Costs, in whole thousandths.
+//! Costs, in whole millionths.
 //!
 //! A cost has two components, as in the IBM GraphQL Cost Directives Specification: the cost of the
-//! types of a response and the cost of its fields. Both are whole numbers of thousandths.
+//! types of a response and the cost of its fields. Both are whole numbers of millionths.
 #![tactic(auto)]
 
 ghost use Rattle.std.specs.Prelude.{◌≡◌, ℕ, ◌+◌, ◌*◌, ◌<◌, ◌≤◌, ◌↔◌, ◌++◌, length, drop, IsTrue};
@@ -17,29 +17,35 @@ mod weights;
 
 pub use weights::{WeightFault, read_allowance, read_weight};
 
-/// The greatest cost that a component may have, in thousandths.
-pub const CAP: u64 = 1_000_000_000_000_000;
+/// How many decimal places a weight or an allowance has at most, leaving aside zeros at its end.
+pub const PLACES: usize = 6;
 
-/// How many decimal places a weight, an allowance or a printed cost has.
-pub const PLACES: usize = 3;
+/// How many decimal places a printed cost has at least.
+pub const LEAST_PLACES: usize = 3;
 
 /// How many of the smallest parts that costs are counted in make up one: ten to the power of
 /// `PLACES`.
-pub const UNIT: u64 = 1_000;
+pub const UNIT: u64 = 1_000_000;
 
-/// The greatest weight, in thousandths.
+/// The greatest cost that a component may have, in millionths: a million millions.
+pub const CAP: u64 = 1_000_000_000_000 * UNIT;
+
+/// The greatest weight, in millionths: a million.
 pub const GREATEST_WEIGHT: u64 = 1_000_000 * UNIT;
 
-/// A type cost and a field cost, each in thousandths.
+/// The greatest length of the text of a cost, in bytes.
+pub const COST_BYTES: usize = 39;
+
+/// A type cost and a field cost, each in millionths.
 #[derive(Clone, Copy, Debug, PartialEq, Eq)]
 pub struct Cost {
-    /// The type cost, in thousandths.
+    /// The type cost, in millionths.
     pub types: u64,
-    /// The field cost, in thousandths.
+    /// The field cost, in millionths.
     pub fields: u64,
 }
 
-/// The sum of two costs in thousandths, or `CAP + 1` where it exceeds `CAP`.
+/// The sum of two costs in millionths, or `CAP + 1` where it exceeds `CAP`.
 ///
 /// Each cost is at most `CAP + 1`, so that a sum which is past the cap may be added to.
 pub fn add_capped(a: u64, b: u64) -> u64
@@ -50,7 +56,7 @@ pub fn add_capped(a: u64, b: u64) -> u64
     (a + b).min(CAP + 1)
 }
 
-/// A cost in thousandths taken `n` times, or `CAP + 1` where that exceeds `CAP`.
+/// A cost in millionths taken `n` times, or `CAP + 1` where that exceeds `CAP`.
 ///
 /// The cost is at most `CAP + 1`, and `n` may be any number.
 pub fn times_capped(a: u64, n: u64) -> u64
@@ -70,13 +76,15 @@ pub fn covers(left: Cost, bound: Cost) -> bool
 
 /// Writes the text of a cost at the front of `into`, and gives its length in bytes.
 ///
-/// The text is the type cost, a space and the field cost, each with every decimal place, as in
-/// `21.000 7.250`. The bytes after it stay as they were.
-#[tactic(auto, using(crate::proofs::Digits::lengths))]
+/// The text is the type cost, a space and the field cost. Each has three decimal places, and then
+/// the fourth to sixth up to the last of these that isn't 0, as in `21.000 7.250001`. The bytes
+/// after the text stay as they were.
+#[tactic(auto, using(crate::proofs::ShownPlaces::lengths))]
 pub fn cost_bytes(cost: Cost, into: &mut [u8; 48]) -> usize
     requires types_in_range { cost.types ≤ CAP }
     requires fields_in_range { cost.fields ≤ CAP }
     ensures end { result ≡ length (cost_text cost) }
+    ensures within { result ≤ COST_BYTES }
     ensures written { into.new ≡ cost_text cost ++ drop result into.old }
 {
     let space = printed::write_amount(cost.types, into, 0);

@@ -5,9 +5,9 @@
 
 ghost use Rattle.std.specs.Prelude.{◌≡◌, ℕ, ◌+◌, ◌<◌, ◌≤◌, ◌++◌, ◌∷◌, [], length, take, drop};
 ghost use Rattle.std.specs.Fmt.{decimal};
-ghost use Rattle.cost_num.specs.CostText.{last_digits, amount_text};
+ghost use Rattle.cost_num.specs.CostText.{last_digits, shown, amount_text};
 
-use crate::{PLACES, UNIT};
+use crate::{LEAST_PLACES, PLACES, UNIT};
 
 /// Writes one byte.
 pub(crate) fn write_byte(byte: u8, into: &mut [u8], at: usize) -> usize
@@ -61,8 +61,24 @@ fn write_last_digits(number: u64, places: usize, into: &mut [u8], at: usize) -> 
     write_digit(number % 10, into, last)
 }
 
-/// Writes an amount of thousandths with every decimal place.
-#[tactic(auto, using(crate::proofs::Digits::lengths))]
+/// Writes the last `places` digits of a number, without the zeros at their end that needn't be
+/// shown.
+#[tactic(auto, using(crate::proofs::ShownPlaces::shown_by_shown))]
+fn write_shown(number: u64, places: usize, into: &mut [u8], at: usize) -> usize
+    requires enough { LEAST_PLACES ≤ places }
+    requires in_range { at + length (shown (last_digits places number)) ≤ length into.old }
+    ensures end { result ≡ at + length (shown (last_digits places number)) }
+    ensures written { take result into.new ≡ take at into.old ++ shown (last_digits places number) }
+    ensures rest { (k : ℕ) → result ≤ k → drop k into.new ≡ drop k into.old }
+{
+    if LEAST_PLACES < places && number % 10 == 0 {
+        return write_shown(number / 10, places - 1, into, at);
+    }
+    write_last_digits(number, places, into, at)
+}
+
+/// Writes an amount of millionths.
+#[tactic(auto, using(crate::proofs::ShownPlaces::lengths))]
 pub(crate) fn write_amount(amount: u64, into: &mut [u8], at: usize) -> usize
     requires { at + length (amount_text amount) ≤ length into.old }
     ensures end { result ≡ at + length (amount_text amount) }
@@ -71,5 +87,5 @@ pub(crate) fn write_amount(amount: u64, into: &mut [u8], at: usize) -> usize
 {
     let dot = write_decimal(amount / UNIT, into, at);
     let first_place = write_byte(b'.', into, dot);
-    write_last_digits(amount % UNIT, PLACES, into, first_place)
+    write_shown(amount % UNIT, PLACES, into, first_place)
 }

@@ -1,4 +1,4 @@
-//! Reading weights and allowances: decimal text, in thousandths.
+//! Reading weights and allowances: decimal text, in millionths.
 
 ghost use Rattle.std.specs.Prelude.{◌≡◌, ◌≢◌, ℕ, ◌+◌, ◌<◌, ◌≤◌, ◌↔◌, ◌++◌, length, slice_index, IsTrue, IfOk, IfErr, IfSome, IfNone, Result};
 ghost use Rattle.std.specs.Char.{is_ascii_digit};
@@ -10,30 +10,37 @@ ghost use Rattle.cost_num.specs.DecimalText.{Splits};
 ghost use Rattle.cost_num.specs.Reading.{IsFirstPast, IsMisfitFault, NoDigitFirst, StopsAt};
 
 use crate::{CAP, GREATEST_WEIGHT, PLACES, UNIT, add_capped, times_capped};
+use thiserror::Error;
 
 /// Why a text is no weight or allowance.
 ///
 /// The faults are tested in this order, and the first that the text has is given. Places are counted
 /// in bytes from the start of the text.
-#[derive(Debug, Clone, Copy, PartialEq, Eq)]
+#[derive(Debug, Clone, Copy, PartialEq, Eq, Error)]
 pub enum WeightFault {
     /// The text is empty.
+    #[error("the number is missing")]
     Empty,
     /// The text begins with `-`.
+    #[error("the number is negative")]
     Negative,
     /// The first character that doesn't fit is `e` or `E`, directly after a digit.
+    #[error("the number has an exponent")]
     Exponent,
     /// Another character is the first that doesn't fit, or the text ends too early.
+    #[error("the text stops being a decimal number at byte {at}")]
     BadDigit {
         /// The place of that character, or the length of the text.
         at: usize,
     },
-    /// The text has a digit other than 0 after the last decimal place.
+    /// The text has a digit other than 0 after the sixth decimal place.
+    #[error("the digit at byte {at} is finer than a millionth")]
     TooFine {
         /// The place of the first such digit.
         at: usize,
     },
     /// The number is greater than the greatest that is taken.
+    #[error("the number is too large")]
     TooLarge,
 }
 
@@ -46,10 +53,10 @@ struct Decimal<'a> {
     fraction: &'a [u8],
 }
 
-/// Reads a weight, which is at most a million, and gives it in thousandths.
+/// Reads a weight, which is at most a million, and gives it in millionths.
 ///
 /// A weight is one digit or more, and then perhaps a dot and one digit or more. Digits after the
-/// third place have to be 0. This is the text of the argument `weight` of the directive `@cost` of
+/// sixth place have to be 0. This is the text of the argument `weight` of the directive `@cost` of
 /// the IBM GraphQL Cost Directives Specification, without signs, exponents and finer places.
 pub fn read_weight(text: &str) -> Result<u64, WeightFault>
     ensures reads { Reads GREATEST_WEIGHT text.now result }
@@ -60,7 +67,7 @@ pub fn read_weight(text: &str) -> Result<u64, WeightFault>
 }
 
 /// Reads an allowance, which is a text like that of a weight and is at most `CAP`, and gives it in
-/// thousandths.
+/// millionths.
 pub fn read_allowance(text: &str) -> Result<u64, WeightFault>
     ensures reads { Reads CAP text.now result }
     ensures only { (other : Result ℕ WeightFault) → Reads CAP text.now other → other ≡ result }
@@ -69,7 +76,7 @@ pub fn read_allowance(text: &str) -> Result<u64, WeightFault>
     read_amount(text.as_bytes(), CAP)
 }
 
-/// Reads an amount of at most `greatest` thousandths.
+/// Reads an amount of at most `greatest` millionths.
 fn read_amount(text: &[u8], greatest: u64) -> Result<u64, WeightFault>
     requires { greatest ≤ CAP }
     ensures { Reads greatest text.now result }
@@ -178,7 +185,7 @@ fn first_too_fine(fraction: &[u8]) -> Option<usize>
     None
 }
 
-/// The amount that a decimal text spells, in thousandths, or `CAP + 1` where it exceeds `CAP`.
+/// The amount that a decimal text spells, in millionths, or `CAP + 1` where it exceeds `CAP`.
 fn amount_capped(whole: &[u8], fraction: &[u8]) -> u64
     requires whole_digits { AllDigits 10 whole.now }
     requires fraction_digits { AllDigits 10 fraction.now }
