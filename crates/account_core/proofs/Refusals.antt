@@ -1,12 +1,11 @@
 -- A history without its refusals leads to the same state.
-use Rattle.std.proofs.Common.{◌≡◌, ℕ, ◌<◌, Bool, true, false, ◌||◌, not, cond, nat_eq, List, [], ◌∷◌, ◌++◌, filter, refl, sym, ap, subst, ◌∙◌, ⊎_elim}
+use Rattle.std.proofs.Common.{◌≡◌, ℕ, Bool, true, false, ◌||◌, not, cond, nat_eq, List, [], ◌∷◌, ◌++◌, filter, refl, sym, ap, subst, ◌∙◌}
 use Rattle.std.proofs.lemmas.List.{append-nil}
 use Rattle.std.proofs.lemmas.List.Elements.{filter-append}
-use Rattle.std.proofs.lemmas.Bool.{cases_Bool}
 use Rattle.account_core.specs.Costs.{nothing, together}
 use Rattle.account_core.specs.declared.Limit.{Limit}
 use Rattle.account_core.specs.Machine.{Grant, State, Call, reservation, settlement, CallReply, granted, short, done, Entry, first, IsStep, state_after_call, state_past}
-use Rattle.account_core.specs.History.{state_from, state_after, entries_by, NumbersBelow, IsNext, IsLegal, is_refusal, without_refusals}
+use Rattle.account_core.specs.History.{state_from, entries_by, NumbersBelow, IsNext, IsLegal, is_refusal, without_refusals}
 use Rattle.account_core.specs.Sums.{grants_of_call, grants_made, settles_grant, is_settled, open_grants, spent_by, spent_in}
 use Rattle.account_core.proofs.CostSums.{nothing-together}
 use Rattle.account_core.proofs.Histories.{along, legal-empty, legal-push}

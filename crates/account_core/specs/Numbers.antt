@@ -1,5 +1,5 @@
 -- The seven numbers of an account, and the calls on them.
-use Rattle.std.specs.Prelude.{◌≡◌, ℕ, ◌≤◌, max, true, false, if◌then◌else◌, List}
+use Rattle.std.specs.Prelude.{◌≡◌, ℕ, ◌≤◌, max, true, false, if◌then◌else◌, List, Some}
 use Rattle.std.specs.List.{AllByRecursion}
 use Rattle.cost_num.specs.Within.{Within}
 use Rattle.cost_num.specs.declared.Cost.{Cost}
@@ -9,7 +9,8 @@ use Rattle.account_core.specs.declared.Reply.{Reply}
 use Rattle.account_core.specs.declared.Reply.TheVariants.{Granted, Short}
 use Rattle.account_core.specs.Costs.{nothing, together, remaining, is_within, counted_in}
 use Rattle.account_core.specs.declared.Limit.{Limit}
-use Rattle.account_core.specs.Machine.{Grant, State, Entry, CallReply, granted, short, account_of, used_of, carried_into, room, IsStep, state_past}
+use Rattle.account_core.specs.History.{state_after, IsLegal}
+use Rattle.account_core.specs.Machine.{Grant, State, Entry, entry, Call, reservation, settlement, CallReply, granted, short, grant, open_grant, account_of, used_of, carried_into, room, IsStep, state_past}
 
 -- no grant stands in a window past this one
 abbrev pub NoneLater : ℕ → List Grant → Type 0
@@ -19,9 +20,21 @@ NoneLater window gs = AllByRecursion (λ g. g.window ≤ window) gs
 abbrev pub StandsFor : Account → State → Type 0
 StandsFor account s = (account ≡ account_of s) × NoneLater s.window s.grants
 
+-- an account follows a legal history
+abbrev pub FollowsHistory : Limit → List Entry → Account → Type 0
+FollowsHistory limit history account = IsLegal limit history × StandsFor account (state_after limit history)
+
 -- an entry is a step from a state, and an account stands for what it leaves
 abbrev pub StepsTo : Limit → State → Entry → Account → Type 0
 StepsTo limit s e account = IsStep limit s e × StandsFor account (state_past limit s e)
+
+-- a caller has the grant of a ticket open
+abbrev pub HasOpen : ℕ → Ticket → State → Type 0
+HasOpen caller ticket s = open_grant caller ticket.seq s.grants ≡ Some (grant caller ticket.seq ticket.window ticket.bound)
+
+-- the settlement of a ticket
+abbrev pub settlement_of : Ticket → Cost → Call
+settlement_of ticket measured = settlement ticket.seq ticket.window ticket.bound measured
 
 -- a reply as a history keeps it
 abbrev pub reply_of : Reply → CallReply
@@ -81,6 +94,11 @@ account_at limit account at bound =
 -- the same for a reservation that asks for a window
 abbrev pub reservation_reply : Limit → Account → ℕ → Cost → CallReply
 reservation_reply limit account window bound = reply_at limit account (max account.window window) bound
+
+-- the entry that a reservation makes
+abbrev pub reservation_entry : Limit → Account → ℕ → ℕ → ℕ → Cost → Entry
+reservation_entry limit account caller number window bound =
+    entry caller number (reservation window bound) (reservation_reply limit account window bound)
 
 abbrev pub reserved_account : Limit → Account → ℕ → Cost → Account
 reserved_account limit account window bound = account_at limit account (max account.window window) bound

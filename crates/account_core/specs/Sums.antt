@@ -1,12 +1,12 @@
 -- What a history has spent, left open and carried in each window, and that what is spent and open keeps to what is carried
 -- and the allowance.
-use Rattle.std.specs.Prelude.{◌≡◌, ℕ, zero, suc, ◌==◌, if◌then◌else◌, not, Bool, false, List, [], ◌∷◌, ◌++◌}
+use Rattle.std.specs.Prelude.{◌≡◌, ℕ, zero, suc, ◌==◌, if◌then◌else◌, not, Bool, false, List, [], ◌∷◌, ◌++◌, Some}
 use Rattle.std.specs.List.{filter, flat_map, list_any}
 use Rattle.cost_num.specs.Within.{Within}
 use Rattle.cost_num.specs.declared.Cost.{Cost}
 use Rattle.account_core.specs.Costs.{nothing, together, counted_in}
 use Rattle.account_core.specs.declared.Limit.{Limit}
-use Rattle.account_core.specs.Machine.{Grant, Call, reservation, settlement, CallReply, granted, done, Entry, grant, is_grant, held_in, surplus}
+use Rattle.account_core.specs.Machine.{Grant, Call, reservation, settlement, CallReply, granted, done, Entry, entry, grant, is_grant, open_grant, held_in, surplus}
 
 -- the grant that a call made, or none
 abbrev pub grants_of_call : ℕ → ℕ → Call → CallReply → List Grant
@@ -28,6 +28,17 @@ is_settled history g = list_any (λ e. settles_grant e.caller e.call e.reply g) 
 -- the grants that a history made and that none of its entries settles
 abbrev pub open_grants : List Entry → List Grant
 open_grants history = filter (λ g. not (is_settled history g)) (grants_made history)
+
+-- the entry that opens a grant, by a reservation that asked for a window, and one that settles it
+abbrev pub opening_entry : ℕ → Grant → Entry
+opening_entry asked g = entry g.caller g.number (reservation asked g.bound) (granted g.window)
+
+abbrev pub settling_entry : ℕ → Cost → Grant → Entry
+settling_entry number measured g = entry g.caller number (settlement g.number g.window g.bound measured) done
+
+-- a list has this grant open
+abbrev pub HasGrant : Grant → List Grant → Type 0
+HasGrant g gs = open_grant g.caller g.number gs ≡ Some g
 
 -- the measured cost of a settlement, in the window of its grant, which a legal settlement names
 abbrev pub spent_by : ℕ → Call → CallReply → Cost

@@ -1,15 +1,15 @@
 //! Laws of the budget machine. Each is what a function ensures that does nothing.
 
-ghost use Rattle.std.specs.Prelude.{◌≡◌, ℕ, ◌≤◌, false, not, List, [], ◌∷◌, ◌++◌, Some};
+ghost use Rattle.std.specs.Prelude.{◌≡◌, ℕ, ◌≤◌, false, not, List, [], ◌∷◌, ◌++◌};
 ghost use Rattle.std.specs.List.{filter};
 ghost use Rattle.cost_num.specs.Within.{Within};
 ghost use Rattle.cost_num.specs.declared.Cost.{Cost};
 ghost use Rattle.account_core.specs.declared.Account.{Account};
 ghost use Rattle.account_core.specs.declared.Limit.{Limit};
-ghost use Rattle.account_core.specs.Machine.{Grant, State, Entry, reservation, settlement, granted, done, entry, is_grant, open_grant, account_of};
+ghost use Rattle.account_core.specs.Machine.{Grant, State, Entry, is_grant, open_grant, account_of};
 ghost use Rattle.account_core.specs.History.{state_from, state_after, AreSteps, entries_by, grants_by, NumbersBelow, NumbersRise, IsNext, IsLegal, without_refusals};
-ghost use Rattle.account_core.specs.Sums.{is_settled, open_grants, spent_in, carried_in, KeepsAllowance};
-ghost use Rattle.account_core.specs.Numbers.{StandsFor, StepsTo, KeepsLimit, reservation_reply, reserved_account, settled_account};
+ghost use Rattle.account_core.specs.Sums.{is_settled, open_grants, opening_entry, settling_entry, HasGrant, spent_in, carried_in, KeepsAllowance};
+ghost use Rattle.account_core.specs.Numbers.{StandsFor, FollowsHistory, StepsTo, KeepsLimit, reservation_entry, reserved_account, settled_account};
 
 /// Never more than the allowance: at every moment of a legal history and in every window, the
 /// settled costs and the bounds of the open grants are together at most what the window may take.
@@ -39,7 +39,7 @@ pub fn grows_legally()
 pub fn follows_its_history()
     ensures { (limit : Limit) (history : List Entry) (e : Entry) (account : Account) → IsLegal limit history
         → NumbersBelow e.number (entries_by e.caller history) → StepsTo limit (state_after limit history) e account
-        → IsLegal limit (history ++ e ∷ []) × StandsFor account (state_after limit (history ++ e ∷ [])) }
+        → FollowsHistory limit (history ++ e ∷ []) account }
 {}
 
 /// Entries that are steps one after the other: two such runs make one where the second begins at the
@@ -88,7 +88,7 @@ pub fn keeps_callers_apart()
 /// is part of what is held.
 pub fn holds_open_grants()
     ensures { (account : Account) (s : State) (g : Grant) → StandsFor account s
-        → open_grant g.caller g.number s.grants ≡ Some g
+        → HasGrant g s.grants
         → (g.window ≤ account.window) × (g.window ≡ account.window → Within account.held g.bound) }
 {}
 
@@ -97,11 +97,10 @@ pub fn holds_open_grants()
 pub fn steps_on_numbers()
     ensures reserves { (limit : Limit) (bound : Cost) (account : Account) (s : State) (caller number window : ℕ)
         → StandsFor account s → KeepsLimit limit account
-        → StepsTo limit s (entry caller number (reservation window bound) (reservation_reply limit account window bound))
-        (reserved_account limit account window bound) }
+        → StepsTo limit s (reservation_entry limit account caller number window bound) (reserved_account limit account window bound) }
     ensures settles { (limit : Limit) (measured : Cost) (account : Account) (s : State) (number : ℕ) (g : Grant)
-        → StandsFor account s → open_grant g.caller g.number s.grants ≡ Some g → Within g.bound measured
-        → StepsTo limit s (entry g.caller number (settlement g.number g.window g.bound measured) done)
+        → StandsFor account s → HasGrant g s.grants → Within g.bound measured
+        → StepsTo limit s (settling_entry number measured g)
         (settled_account account g.window g.bound measured) }
 {}
 
@@ -112,12 +111,12 @@ pub fn opens_and_closes()
     ensures new_numbers { (limit : Limit) (history : List Entry) (g : Grant) → IsLegal limit history
         → NumbersBelow g.number (entries_by g.caller history) → is_settled history g ≡ false }
     ensures opens { (history : List Entry) (window : ℕ) (g : Grant) → is_settled history g ≡ false
-        → open_grants (history ++ entry g.caller g.number (reservation window g.bound) (granted g.window) ∷ [])
+        → open_grants (history ++ opening_entry window g ∷ [])
         ≡ open_grants history ++ g ∷ [] }
     ensures closes { (history : List Entry) (number : ℕ) (measured : Cost) (g : Grant)
-        → open_grants (history ++ entry g.caller number (settlement g.number g.window g.bound measured) done ∷ [])
+        → open_grants (history ++ settling_entry number measured g ∷ [])
         ≡ filter (λ other. not (is_grant g.caller g.number other)) (open_grants history) }
     ensures owed { (limit : Limit) (history : List Entry) (window : ℕ) (g : Grant)
-        → IsLegal limit (history ++ entry g.caller g.number (reservation window g.bound) (granted g.window) ∷ [])
-        → open_grant g.caller g.number (open_grants (entries_by g.caller (history ++ entry g.caller g.number (reservation window g.bound) (granted g.window) ∷ []))) ≡ Some g }
+        → IsLegal limit (history ++ opening_entry window g ∷ [])
+        → HasGrant g (open_grants (entries_by g.caller (history ++ opening_entry window g ∷ []))) }
 {}

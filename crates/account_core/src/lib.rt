@@ -10,12 +10,12 @@
 //! Costs are in the units of `cost_num`, and no meaning here hangs on what a unit is.
 #![tactic(auto)]
 
-ghost use Rattle.std.specs.Prelude.{◌≡◌, ℕ, ◌+◌, ◌≤◌, ◌<◌, ◌^◌, Some, max, IfOk, IfErr};
+ghost use Rattle.std.specs.Prelude.{◌≡◌, ℕ, ◌+◌, ◌≤◌, ◌<◌, ◌^◌, max, IfOk, IfErr};
 ghost use Rattle.cost_num.specs.Within.{Within};
 ghost use Rattle.account_core.specs.declared.Limit as limit_type;
 ghost use Rattle.account_core.specs.Costs.{cost, together, remaining, smaller};
-ghost use Rattle.account_core.specs.Machine.{State, used_of, carried_past, first, entry, reservation, settlement, granted, short, done, grant, open_grant};
-ghost use Rattle.account_core.specs.Numbers.{StandsFor, StepsTo, reply_of, ticket_for, HasTicket, FitsCap, moved_to, KeepsLimit, UnchangedIfShort, account_holding, reservation_reply, reserved_account, settled_account};
+ghost use Rattle.account_core.specs.Machine.{State, used_of, carried_past, first, entry, reservation, granted, short, done};
+ghost use Rattle.account_core.specs.Numbers.{StandsFor, StepsTo, HasOpen, settlement_of, reply_of, ticket_for, HasTicket, FitsCap, moved_to, KeepsLimit, UnchangedIfShort, account_holding, reservation_reply, reserved_account, settled_account};
 
 use cost_num::{CAP, Cost, covers};
 
@@ -253,8 +253,7 @@ impl Account {
         requires inside { Within (cost CAP CAP) (used_of self.old) }
         // A step of the machine, from each state that the account stands for and where the caller has this grant open.
         ensures step { (limit : limit_type.Limit) (s : State) (caller number : ℕ) → StandsFor self.old s
-            → open_grant caller ticket.seq s.grants ≡ Some (grant caller ticket.seq ticket.window ticket.bound)
-            → StepsTo limit s (entry caller number (settlement ticket.seq ticket.window ticket.bound measured) done) self.new }
+            → HasOpen caller ticket s → StepsTo limit s (entry caller number (settlement_of ticket measured) done) self.new }
         // The same on the seven numbers, which a late settlement leaves as they are.
         ensures account { self.new ≡ settled_account self.old ticket.window ticket.bound measured }
         ensures late { ticket.window < self.old.window → self.new ≡ self.old }
