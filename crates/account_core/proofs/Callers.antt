@@ -1,20 +1,22 @@
 -- The open grants of one caller, and what an account that stands for a state knows of an open grant.
-use Rattle.std.proofs.Common.{◌≡◌, ℕ, ◌+◌, ◌≤◌, Bool, true, false, ◌&&◌, not, cond, nat_eq, List, [], ◌∷◌, ◌++◌, length, filter, Some, refl, sym, ap, subst, ◌∙◌, ⊎_elim, arith}
+use Rattle.std.proofs.Common.{◌≡◌, ℕ, ◌+◌, ◌≤◌, Bool, true, false, ◌&&◌, not, cond, nat_eq, List, [], ◌∷◌, ◌++◌, length, filter, Some, refl, sym, ap, subst, ◌∙◌, ⊎_elim, arith, le_refl}
 use Rattle.std.proofs.lemmas.List.Elements.{filter-append}
 use Rattle.std.proofs.lemmas.Map.Views.{any-filter_same}
-use Rattle.std.proofs.lemmas.Bool.{and_parts, cases_Bool, cond-true, cond-false, eq-eqb, eqb-true}
+use Rattle.std.proofs.lemmas.Bool.{and_from, and_parts, cases_Bool, cond-true, cond-false, eq-eqb, eqb-true}
 use Rattle.cost_num.specs.Within.{Within}
+use Rattle.cost_num.specs.declared.Cost.{Cost}
 use Rattle.account_core.specs.declared.Account.{Account}
 use Rattle.account_core.specs.Costs.{together}
-use Rattle.account_core.specs.Machine.{Limit, Grant, State, Call, reservation, settlement, CallReply, granted, short, done, Entry, grant, held_in, is_grant, open_grant, grants_without, account_of, state_after_call, IsReplied}
+use Rattle.account_core.specs.declared.Limit.{Limit}
+use Rattle.account_core.specs.Machine.{Grant, State, Call, reservation, settlement, CallReply, granted, short, done, Entry, entry, grant, held_in, is_grant, open_grant, grants_without, account_of, state_after_call, IsReplied}
 use Rattle.account_core.specs.History.{state_after, entries_by, grants_by, NumbersBelow, IsLegal}
 use Rattle.account_core.specs.Sums.{grants_of_call, grants_made, settles_grant, is_settled, open_grants}
-use Rattle.account_core.specs.Numbers.{NoneLater, StandsFor, StepsTo, used_of}
+use Rattle.account_core.specs.Numbers.{NoneLater, StandsFor, StepsTo, KeepsLimit}
 use Rattle.account_core.proofs.CostSums.{types_of, fields_of, counted_own}
-use Rattle.account_core.proofs.GrantLists.{held_in-without, found-window, none_later-more, none_later-push, none_later-without}
-use Rattle.account_core.proofs.Histories.{legal-push, state_after-push, along}
+use Rattle.account_core.proofs.GrantLists.{held_in-without, found-window, found_last, none_later-more, none_later-push, none_later-without}
+use Rattle.account_core.proofs.Histories.{legal-front, legal-push, state_after-push, along}
 use Rattle.account_core.proofs.OpenGrants.{in_order}
-use Rattle.account_core.proofs.AllowanceLaw.{balanced_state}
+use Rattle.account_core.proofs.AllowanceLaw.{balanced_state, numbers_keep}
 
 -- ---- the open grants of a caller hang on its own entries alone
 
@@ -60,7 +62,7 @@ settles-own caller (settlement of window bound measured) (short left) g is = abs
 settles-own caller (settlement of window bound measured) done g is =
     eq-eqb caller g.caller (sym (eqb-true g.caller caller (and_parts (nat_eq g.caller caller) (nat_eq g.number of) is).0))
 
-is_settled-own : (h : List Entry) (g : Grant) → is_settled (entries_by g.caller h) g ≡ is_settled h g
+pub is_settled-own : (h : List Entry) (g : Grant) → is_settled (entries_by g.caller h) g ≡ is_settled h g
 is_settled-own h g =
     any-filter_same (λ (e : Entry). settles_grant e.caller e.call e.reply g) (λ (e : Entry). nat_eq e.caller g.caller) true (λ e is. settles-own e.caller e.call e.reply g is) h
 
@@ -94,7 +96,7 @@ open_grant-own owner number (g ∷ gs) = ⊎_elim
     (cases_Bool (nat_eq g.caller owner))
 
 -- what a caller's own entries leave open under a number is what the state has open there
-pub own_grant : (limit : Limit) (h : List Entry) (owner number : ℕ) → IsLegal limit h → open_grant owner number (open_grants (entries_by owner h)) ≡ open_grant owner number (state_after h).grants
+pub own_grant : (limit : Limit) (h : List Entry) (owner number : ℕ) → IsLegal limit h → open_grant owner number (open_grants (entries_by owner h)) ≡ open_grant owner number (state_after limit h).grants
 own_grant limit h owner number legal =
     ap (open_grant owner number) (open_grants-own owner h)
     ∙ (open_grant-own owner number (open_grants h) ∙ ap (open_grant owner number) (sym (in_order limit h legal).listed))
@@ -106,13 +108,13 @@ none_by_any (g ∷ gs) none =
     absurd (omega (arith, ap (λ (l : List Grant). length l) mine))
 
 -- where no caller's own entries leave a grant open, none is
-pub nothing_open : (limit : Limit) (h : List Entry) → IsLegal limit h → ((owner : ℕ) → open_grants (entries_by owner h) ≡ []) → (state_after h).grants ≡ []
+pub nothing_open : (limit : Limit) (h : List Entry) → IsLegal limit h → ((owner : ℕ) → open_grants (entries_by owner h) ≡ []) → (state_after limit h).grants ≡ []
 nothing_open limit h legal none = (in_order limit h legal).listed ∙ none_by_any (open_grants h) (λ owner. sym (open_grants-own owner h) ∙ none owner)
 
 -- ---- the numbers of a legal history's state
 
-none_later-call : (limit : Limit) (s : State) (caller number : ℕ) (call : Call) (reply : CallReply) → IsReplied limit s caller call reply → NoneLater s.window s.grants
-    → NoneLater (state_after_call s caller number call reply).window (state_after_call s caller number call reply).grants
+pub none_later-call : (limit : Limit) (s : State) (caller number : ℕ) (call : Call) (reply : CallReply) → IsReplied limit s caller call reply → NoneLater s.window s.grants
+    → NoneLater (state_after_call limit s caller number call reply).window (state_after_call limit s caller number call reply).grants
 none_later-call limit s caller number (reservation window bound) (granted at) is order =
     let standing = is.0 in
     none_later-push at s.grants (grant caller number at bound) (none_later-more s.window at s.grants (omega arith) order) (omega arith)
@@ -122,27 +124,24 @@ none_later-call limit s caller number (settlement of window bound measured) (gra
 none_later-call limit s caller number (settlement of window bound measured) (short left) is order = absurd is
 none_later-call limit s caller number (settlement of window bound measured) done is order = none_later-without s.window caller of s.grants order
 
-abbrev StateUpToDate : List Entry → Type 0
-StateUpToDate h = NoneLater (state_after h).window (state_after h).grants
+abbrev StateUpToDate : Limit → List Entry → Type 0
+StateUpToDate limit h = NoneLater (state_after limit h).window (state_after limit h).grants
 
-pub numbers_stand : (limit : Limit) (h : List Entry) → IsLegal limit h → StandsFor (account_of (state_after h)) (state_after h)
+pub numbers_stand : (limit : Limit) (h : List Entry) → IsLegal limit h → StandsFor (account_of (state_after limit h)) (state_after limit h)
 numbers_stand limit h legal = (
   refl,
-  along StateUpToDate limit tt
-      (λ h e next order. subst (λ (s : State). NoneLater s.window s.grants) (sym (state_after-push h e))
-      (none_later-call limit (state_after h) e.caller e.number e.call e.reply next.0 order)) h legal,
+  along (StateUpToDate limit) limit tt
+      (λ h e next order. subst (λ (s : State). NoneLater s.window s.grants) (sym (state_after-push limit h e))
+      (none_later-call limit (state_after limit h) e.caller e.number e.call e.reply next.0 order)) h legal,
 )
 
-pub numbers_within : (limit : Limit) (h : List Entry) → IsLegal limit h → Within limit (used_of (account_of (state_after h)))
-numbers_within limit h legal =
-    let balanced = balanced_state limit h legal in
-    let s = state_after h in
-    subst (λ c. Within limit (together c (held_in s.window s.grants))) balanced.now (balanced.within s.window)
+pub numbers_within : (limit : Limit) (h : List Entry) → IsLegal limit h → KeepsLimit limit (account_of (state_after limit h))
+numbers_within limit h legal = numbers_keep limit h (state_after limit h) (balanced_state limit h legal)
 
 -- an account follows its history by one step
-pub follows : (limit : Limit) (h : List Entry) (e : Entry) (a : Account) → IsLegal limit h → NumbersBelow e.number (entries_by e.caller h) → StepsTo limit (state_after h) e a
-    → IsLegal limit (h ++ e ∷ []) × StandsFor a (state_after (h ++ e ∷ []))
-follows limit h e a legal below step = (legal-push limit h e legal (step.0, below), subst (StandsFor a) (sym (state_after-push h e)) step.1)
+pub follows : (limit : Limit) (h : List Entry) (e : Entry) (a : Account) → IsLegal limit h → NumbersBelow e.number (entries_by e.caller h) → StepsTo limit (state_after limit h) e a
+    → IsLegal limit (h ++ e ∷ []) × StandsFor a (state_after limit (h ++ e ∷ []))
+follows limit h e a legal below step = (legal-push limit h e legal (step.0, below), subst (StandsFor a) (sym (state_after-push limit h e)) step.1)
 
 -- an open grant isn't of a later window, and where it is of the account's, its bound is held
 pub grant_is_held : (a : Account) (s : State) (g : Grant) → StandsFor a s → open_grant g.caller g.number s.grants ≡ Some g → (g.window ≤ a.window) × (g.window ≡ a.window → Within a.held g.bound)
@@ -157,3 +156,15 @@ grant_is_held a s g stands there =
           let fields : left.fields + g.bound.fields ≡ (held_in s.window s.grants).fields = fields_of sum in
           record { types = omega arith; fields = omega arith },
     )
+
+-- a granted reservation stands open among its caller's own entries
+pub owed_when_granted : (limit : Limit) (h : List Entry) (caller number window at : ℕ) (bound : Cost) → IsLegal limit (h ++ entry caller number (reservation window bound) (granted at) ∷ [])
+    → open_grant caller number (open_grants (entries_by caller (h ++ entry caller number (reservation window bound) (granted at) ∷ []))) ≡ Some (grant caller number at bound)
+owed_when_granted limit h caller number window at bound legal =
+    let e = entry caller number (reservation window bound) (granted at) in
+    let g = grant caller number at bound in
+    let next = legal h [] e refl in
+    let free = (in_order limit h (legal-front limit (h ++ e ∷ []) h (e ∷ []) refl legal)).numbered g number next.1 (le_refl number) in
+    own_grant limit (h ++ e ∷ []) caller number legal
+    ∙ (ap (λ (s : State). open_grant caller number s.grants) (state_after-push limit h e)
+    ∙ found_last caller number (state_after limit h).grants g free.0 (and_from (nat_eq caller caller) (nat_eq number number) (eq-eqb caller caller refl) (eq-eqb number number refl)))

@@ -3,5 +3,8 @@ pub mod GrantLists
 pub mod NumberSteps
 pub mod Histories
 pub mod OpenGrants
+pub mod Carried
 pub mod AllowanceLaw
 pub mod Callers
+pub mod Runs
+pub mod Refusals

@@ -1,5 +1,5 @@
--- Costs of two components, in thousandths: sums, differences, and whether one is within another.
-use Rattle.std.specs.Prelude.{ℕ, ◌+◌, ◌-◌, Bool, nat_le, ◌&&◌, ◌==◌, if◌then◌else◌}
+-- Costs of two components: sums, differences, and whether one is within another.
+use Rattle.std.specs.Prelude.{ℕ, min, ◌+◌, ◌-◌, Bool, nat_le, ◌&&◌, ◌==◌, if◌then◌else◌}
 use Rattle.cost_num.specs.declared.Cost.{Cost}
 
 abbrev pub cost : ℕ → ℕ → Cost
@@ -15,6 +15,10 @@ together a b = cost (a.types + b.types) (a.fields + b.fields)
 -- what is left of a whole when a part is taken off it, and zero in a component that has no more
 abbrev pub remaining : Cost → Cost → Cost
 remaining whole part = cost (whole.types - part.types) (whole.fields - part.fields)
+
+-- the smaller of two costs, component by component
+abbrev pub smaller : Cost → Cost → Cost
+smaller a b = cost (min a.types b.types) (min a.fields b.fields)
 
 -- whether a cost is within a limit, in both components
 abbrev pub is_within : Cost → Cost → Bool

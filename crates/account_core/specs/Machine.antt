@@ -1,14 +1,11 @@
 -- The budget machine of one client: its states, the calls on it with their replies, and its steps.
-use Rattle.std.specs.Prelude.{◌≡◌, ℕ, ◌==◌, ◌&&◌, if◌then◌else◌, max, Bool, List, [], ◌∷◌, ◌++◌, Option, Some}
+use Rattle.std.specs.Prelude.{◌≡◌, ℕ, ◌+◌, ◌==◌, ◌&&◌, if◌then◌else◌, max, Bool, List, [], ◌∷◌, ◌++◌, Option, Some}
 use Rattle.std.specs.List.{find}
 use Rattle.cost_num.specs.Within.{Within}
 use Rattle.cost_num.specs.declared.Cost.{Cost}
 use Rattle.account_core.specs.declared.Account.{Account}
-use Rattle.account_core.specs.Costs.{nothing, together, remaining, counted_in}
-
--- what a client may spend: an allowance for each window
-abbrev pub Limit : Type 0
-Limit = Cost
+use Rattle.account_core.specs.declared.Limit.{Limit}
+use Rattle.account_core.specs.Costs.{nothing, together, remaining, smaller, counted_in}
 
 -- A granted reservation: its caller, that caller's own number of the call, the window in which it stands, and the most
 -- that it may come to.
@@ -18,11 +15,12 @@ pub record Grant : Type 0 where
   pub window : ℕ
   pub bound : Cost
 
--- The window that the machine has come to, the cost settled in it, and the open grants: those that aren't settled yet,
--- of this window or an earlier one.
+-- The window that the machine has come to, the cost settled in it, what was carried into it from windows before, and the
+-- open grants: those that aren't settled yet, of this window or an earlier one.
 pub record State : Type 0 where
   pub window : ℕ
   pub settled : Cost
+  pub carried : Cost
   pub grants : List Grant
 
 -- A reservation asks for a bound in a window. A settlement gives back the caller's own grant of a number, which stands
@@ -50,9 +48,9 @@ grant caller number window bound = record { caller = caller; number = number; wi
 abbrev pub entry : ℕ → ℕ → Call → CallReply → Entry
 entry caller number call reply = record { caller = caller; number = number; call = call; reply = reply }
 
--- window 0, with nothing settled and nothing open
+-- window 0, with nothing settled, nothing carried and nothing open
 abbrev pub first : State
-first = record { window = 0; settled = nothing; grants = [] }
+first = record { window = 0; settled = nothing; carried = nothing; grants = [] }
 
 -- the bounds of the grants of one window, added up
 abbrev pub held_in : ℕ → List Grant → Cost
@@ -71,14 +69,34 @@ abbrev pub grants_without : ℕ → ℕ → List Grant → List Grant
 grants_without caller number [] = []
 grants_without caller number (g ∷ gs) = if is_grant caller number g then gs else g ∷ grants_without caller number gs
 
--- The five numbers of a state: its window, what is settled, and what the open grants of the window hold.
+-- The seven numbers of a state: its window and three costs, which are what is settled, what the open grants of the window
+-- hold, and what is carried.
 abbrev pub account_of : State → Account
-account_of s = record { window = s.window; settled = s.settled; held = held_in s.window s.grants }
+account_of s = record { window = s.window; settled = s.settled; held = held_in s.window s.grants; carried = s.carried }
 
--- What a window may take in all, by the numbers before it: the allowance, whatever they are. A limit that carries
--- something over from window to window would change this word.
+-- what counts against a window's budget: what is settled and what is held
+abbrev pub used_of : Account → Cost
+used_of account = together account.settled account.held
+
+-- What a window hands on to the next one, by what was carried into it and what is used of it: all that it has left, but
+-- never more than one allowance.
+abbrev pub surplus : Limit → Cost → Cost → Cost
+surplus limit carried used = smaller limit.allowance (remaining (together limit.allowance carried) used)
+
+-- What is carried into a later window. Without carry it is nothing. With carry it is the surplus of the account's window
+-- where that comes just before. Where windows lie between, nobody used them, and it is a whole allowance.
+abbrev pub carried_past : Limit → Account → ℕ → Cost
+carried_past limit account window =
+    if limit.carry then (if window == account.window + 1 then surplus limit account.carried (used_of account) else limit.allowance)
+    else nothing
+
+-- what is carried into a window that the account has come to, or comes to
+abbrev pub carried_into : Limit → Account → ℕ → Cost
+carried_into limit account window = if window == account.window then account.carried else carried_past limit account window
+
+-- what a window may take in all, by the numbers before it: an allowance and what is carried into it
 abbrev pub room : Limit → Account → ℕ → Cost
-room allowance before window = allowance
+room limit before window = together limit.allowance (carried_into limit before window)
 
 -- a reservation stands in the window that it asks for, or in the machine's if that is later
 abbrev pub standing_window : State → ℕ → ℕ
@@ -107,22 +125,28 @@ IsReplied limit s caller (settlement number window bound measured) done =
     (open_grant caller number s.grants ≡ Some (grant caller number window bound)) × Within bound measured
 IsReplied limit s caller _ _ = ⊥
 
--- What a call leaves. A grant brings the machine to its window and opens. A refusal changes nothing. A settlement
+-- What a call leaves. A grant brings the machine to its window, with what is carried into it, and opens. A refusal changes nothing. A settlement
 -- closes its grant, and adds the measured cost to what is settled, unless it is late: the grant's window is over.
-abbrev pub state_after_call : State → ℕ → ℕ → Call → CallReply → State
-state_after_call s caller number (reservation window bound) (granted at) =
-    record { window = at; settled = counted_in at s.window s.settled; grants = s.grants ++ grant caller number at bound ∷ [] }
-state_after_call s caller number (settlement of window bound measured) done =
+abbrev pub state_after_call : Limit → State → ℕ → ℕ → Call → CallReply → State
+state_after_call limit s caller number (reservation window bound) (granted at) =
+    record {
+      window = at;
+      settled = counted_in at s.window s.settled;
+      carried = carried_into limit (account_of s) at;
+      grants = s.grants ++ grant caller number at bound ∷ [];
+    }
+state_after_call limit s caller number (settlement of window bound measured) done =
     record {
       window = s.window;
       settled = together s.settled (counted_in s.window window measured);
+      carried = s.carried;
       grants = grants_without caller of s.grants;
     }
-state_after_call s caller number _ _ = s
+state_after_call limit s caller number _ _ = s
 
 -- an entry is a step from a state, and what it leaves
 abbrev pub IsStep : Limit → State → Entry → Type 0
 IsStep limit s e = IsReplied limit s e.caller e.call e.reply
 
-abbrev pub state_past : State → Entry → State
-state_past s e = state_after_call s e.caller e.number e.call e.reply
+abbrev pub state_past : Limit → State → Entry → State
+state_past limit s e = state_after_call limit s e.caller e.number e.call e.reply

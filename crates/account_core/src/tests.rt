@@ -1,9 +1,17 @@
 use super::*;
 use std::process::Abort;
 
-const ALLOWANCE: Cost = Cost {
-    types: 6_000,
-    fields: 6_000,
+const PLAIN: Limit = Limit {
+    allowance: Cost {
+        types: 6_000,
+        fields: 6_000,
+    },
+    carry: false,
+};
+
+const CARRYING: Limit = Limit {
+    carry: true,
+    ..PLAIN
 };
 
 const BOUND: Cost = Cost {
@@ -16,33 +24,51 @@ const ONE: Cost = Cost {
     fields: 1_000,
 };
 
-/// Reserves for the fourth client, once it is seen that the account keeps to the allowance.
+/// The same cost in both components.
+fn even(amount: u64) -> Cost {
+    Cost {
+        types: amount,
+        fields: amount,
+    }
+}
+
+/// Reserves for the fourth client, once it is seen that the account keeps to its limit.
 fn reserve(
     rt: &impl Abort,
     account: &mut Account,
-    allowance: Cost,
+    limit: Limit,
     window: u64,
     bound: Cost,
 ) -> Reply {
-    assert!(rt; allowance.types <= CAP && allowance.fields <= CAP);
-    assert!(rt; account.settled.types <= allowance.types);
-    assert!(rt; account.held.types <= allowance.types - account.settled.types);
-    assert!(rt; account.settled.fields <= allowance.fields);
-    assert!(rt; account.held.fields <= allowance.fields - account.settled.fields);
-    account.reserve(allowance, 3, 7, window, bound)
+    let Limit { allowance, carry } = limit;
+    let carried = account.carried;
+    let most = if carry { CAP / 2 } else { CAP };
+    assert!(rt; allowance.types <= most && allowance.fields <= most);
+    if carry {
+        assert!(rt; carried.types <= allowance.types);
+        assert!(rt; carried.fields <= allowance.fields);
+    } else {
+        assert!(rt; carried.types == 0 && carried.fields == 0);
+    }
+    let types = allowance.types + carried.types;
+    let fields = allowance.fields + carried.fields;
+    assert!(rt; account.settled.types <= types);
+    assert!(rt; account.settled.fields <= fields);
+    assert!(rt; account.held.types <= types - account.settled.types);
+    assert!(rt; account.held.fields <= fields - account.settled.fields);
+    account.reserve(limit, 3, 7, window, bound)
 }
 
 fn granted(
     rt: &impl Abort,
     account: &mut Account,
-    allowance: Cost,
+    limit: Limit,
     window: u64,
     bound: Cost,
 ) -> Ticket {
-    match reserve(rt, account, allowance, window, bound) {
+    match reserve(rt, account, limit, window, bound) {
         Reply::Granted(ticket) => {
-            assert_eq!(rt; ticket.client, 3);
-            assert_eq!(rt; ticket.seq, 7);
+            assert_eq!(rt; (ticket.client, ticket.seq), (3, 7));
             assert_eq!(rt; ticket.window, account.window);
             assert_eq!(rt; ticket.bound, bound);
             ticket
@@ -54,12 +80,12 @@ fn granted(
 fn left_when_short(
     rt: &impl Abort,
     account: &mut Account,
-    allowance: Cost,
+    limit: Limit,
     window: u64,
     bound: Cost,
 ) -> Cost {
     let before = *account;
-    match reserve(rt, account, allowance, window, bound) {
+    match reserve(rt, account, limit, window, bound) {
         Reply::Granted(
             Ticket {
                 client: _,
@@ -89,69 +115,37 @@ fn settle(rt: &impl Abort, account: &mut Account, ticket: Ticket, measured: Cost
     account.settle(ticket, measured);
 }
 
-fn cost(types: u64, fields: u64) -> Cost {
-    Cost { types, fields }
-}
-
-#[test]
-fn starts_with_nothing(rt: HostRuntime) {
-    assert_eq!(rt;
-        fresh(),
-        Account {
-            window: 0,
-            settled: cost(0, 0),
-            held: cost(0, 0)
-        }
-    );
-}
-
 #[test]
 fn grants_until_the_window_is_full(rt: HostRuntime) {
     let mut account = fresh();
-    let first = granted(&rt, &mut account, ALLOWANCE, 0, BOUND);
-    let second = granted(&rt, &mut account, ALLOWANCE, 0, BOUND);
-    let third = granted(&rt, &mut account, ALLOWANCE, 0, BOUND);
-    assert_eq!(rt; account.held, cost(6_000, 3_000));
-    assert_eq!(rt;
-        left_when_short(&rt, &mut account, ALLOWANCE, 0, BOUND),
-        cost(0, 3_000)
-    );
+    let first = granted(&rt, &mut account, PLAIN, 0, BOUND);
+    let second = granted(&rt, &mut account, PLAIN, 0, BOUND);
+    let third = granted(&rt, &mut account, PLAIN, 0, BOUND);
+    let left = left_when_short(&rt, &mut account, PLAIN, 0, BOUND);
+    assert_eq!(rt; (left.types, left.fields), (0, 3_000));
 
     settle(&rt, &mut account, first, ONE);
-    assert_eq!(rt;
-        account,
-        Account {
-            window: 0,
-            settled: ONE,
-            held: cost(4_000, 2_000)
-        }
-    );
-    assert_eq!(rt;
-        left_when_short(&rt, &mut account, ALLOWANCE, 0, BOUND),
-        cost(1_000, 3_000)
-    );
+    let left = left_when_short(&rt, &mut account, PLAIN, 0, BOUND);
+    assert_eq!(rt; (left.types, left.fields), (1_000, 3_000));
 
     settle(&rt, &mut account, second, BOUND);
     settle(&rt, &mut account, third, BOUND);
-    assert_eq!(rt;
-        account,
-        Account {
-            window: 0,
-            settled: cost(5_000, 3_000),
-            held: cost(0, 0)
-        }
-    );
+    let settled = Cost {
+        types: 5_000,
+        fields: 3_000,
+    };
+    assert_eq!(rt; account, Account { settled, ..fresh() });
 }
 
 #[test]
 fn keeps_windows_apart(rt: HostRuntime) {
     let mut account = fresh();
-    let first = granted(&rt, &mut account, ALLOWANCE, 7, BOUND);
-    let second = granted(&rt, &mut account, ALLOWANCE, 8, BOUND);
+    let first = granted(&rt, &mut account, PLAIN, 7, BOUND);
+    let second = granted(&rt, &mut account, PLAIN, 8, BOUND);
     let before = Account {
         window: 8,
-        settled: cost(0, 0),
         held: BOUND,
+        ..fresh()
     };
     assert_eq!(rt; account, before);
 
@@ -160,74 +154,95 @@ fn keeps_windows_apart(rt: HostRuntime) {
     assert_eq!(rt; account, before);
 
     // A moment of the window that is over counts in the account's window.
-    let third = granted(&rt, &mut account, ALLOWANCE, 7, BOUND);
-    let fourth = granted(&rt, &mut account, ALLOWANCE, 8, BOUND);
-    assert_eq!(rt;
-        left_when_short(&rt, &mut account, ALLOWANCE, 8, BOUND),
-        cost(0, 3_000)
-    );
-
+    let third = granted(&rt, &mut account, PLAIN, 7, BOUND);
     settle(&rt, &mut account, second, BOUND);
     settle(&rt, &mut account, third, BOUND);
-    settle(&rt, &mut account, fourth, BOUND);
-    assert_eq!(rt;
-        account,
-        Account {
-            window: 8,
-            settled: cost(6_000, 3_000),
-            held: cost(0, 0)
-        }
-    );
+    let settled = Cost {
+        types: 4_000,
+        fields: 2_000,
+    };
+    let full = Account {
+        window: 8,
+        settled,
+        ..fresh()
+    };
+    assert_eq!(rt; account, full);
 
     // Short in a window to come: all of the allowance is left there, and the account stays in its own.
-    assert_eq!(rt;
-        left_when_short(&rt, &mut account, ALLOWANCE, 9, cost(6_001, 0)),
-        ALLOWANCE
-    );
-    let ninth = granted(&rt, &mut account, ALLOWANCE, 9, ALLOWANCE);
-    assert_eq!(rt;
-        account,
-        Account {
-            window: 9,
-            settled: cost(0, 0),
-            held: ALLOWANCE
-        }
-    );
-    settle(&rt, &mut account, ninth, cost(0, 0));
+    let left = left_when_short(&rt, &mut account, PLAIN, 9, even(6_001));
+    assert_eq!(rt; left, PLAIN.allowance);
 }
 
 #[test]
-fn grants_at_the_limits(rt: HostRuntime) {
-    let nothing = cost(0, 0);
-    let greatest = cost(CAP, CAP);
-    // An allowance, a bound that takes all of it, and bounds that are more than what is left then.
-    for (allowance, over) in [
-        (nothing, cost(1, 0)),
-        (nothing, cost(0, 1)),
-        (nothing, greatest),
-        (ALLOWANCE, cost(0, 1)),
-        (greatest, cost(1, 0)),
-        (greatest, greatest),
+fn grants_all_of_what_is_left(rt: HostRuntime) {
+    let greatest = Limit {
+        allowance: even(CAP),
+        carry: false,
+    };
+    let half = Limit {
+        allowance: even(CAP / 2),
+        carry: true,
+    };
+    // A limit, a window, all that is left in it, and a bound that is more than what is left then.
+    for (limit, window, all, over) in [
+        (greatest, 0, CAP, ONE),
+        (greatest, 1, CAP, even(CAP)),
+        (half, 0, CAP / 2, ONE),
+        (half, 1, CAP / 2 * 2, ONE),
     ] {
         let mut account = fresh();
-        let all = granted(&rt, &mut account, allowance, 0, allowance);
+        let whole = granted(&rt, &mut account, limit, window, even(all));
         assert_eq!(rt;
-            left_when_short(&rt, &mut account, allowance, 0, over),
-            nothing,
-            "{allowance:?}"
+            left_when_short(&rt, &mut account, limit, window, over),
+            NOTHING
         );
         // A bound of zero is granted though nothing is left.
-        let none = granted(&rt, &mut account, allowance, 0, nothing);
-        settle(&rt, &mut account, none, nothing);
-        settle(&rt, &mut account, all, allowance);
-        assert_eq!(rt;
-            account,
-            Account {
-                window: 0,
-                settled: allowance,
-                held: nothing
-            },
-            "{allowance:?}"
-        );
+        let none = granted(&rt, &mut account, limit, window, NOTHING);
+        settle(&rt, &mut account, none, NOTHING);
+        settle(&rt, &mut account, whole, even(all));
+        assert_eq!(rt; account.settled, even(all));
     }
+}
+
+#[test]
+fn carries_what_the_window_before_left(rt: HostRuntime) {
+    let carried = Cost {
+        types: 4_000,
+        fields: 5_000,
+    };
+    let mut account = fresh();
+    let late = granted(&rt, &mut account, CARRYING, 0, BOUND);
+    // Once in window 1 as its first moment, and four times more.
+    for at in 0..5 {
+        let ticket = granted(&rt, &mut account, CARRYING, 1, BOUND);
+        settle(&rt, &mut account, ticket, BOUND);
+        assert_eq!(rt; account.carried, carried, "{at}");
+    }
+    let left = left_when_short(&rt, &mut account, CARRYING, 1, BOUND);
+    assert_eq!(rt; (left.types, left.fields), (0, 6_000));
+
+    // Settled late, the first grant changes neither what is settled nor what is carried.
+    let before = account;
+    settle(&rt, &mut account, late, ONE);
+    assert_eq!(rt; account, before);
+    assert_eq!(rt;
+        (account.settled.types, account.settled.fields),
+        (10_000, 5_000)
+    );
+}
+
+#[test]
+fn carries_an_allowance_past_windows_without_grants(rt: HostRuntime) {
+    let mut account = fresh();
+    for window in [0, 3] {
+        let ticket = granted(&rt, &mut account, CARRYING, window, BOUND);
+        settle(&rt, &mut account, ticket, BOUND);
+    }
+    let after = Account {
+        window: 3,
+        settled: BOUND,
+        carried: CARRYING.allowance,
+        ..fresh()
+    };
+    assert_eq!(rt; account, after);
 }

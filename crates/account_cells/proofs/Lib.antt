@@ -1,0 +1,9 @@
+pub mod Places
+pub mod Beginnings
+pub mod Names
+pub mod Steps
+pub mod Splits
+pub mod Joins
+pub mod Picked
+pub mod Loops
+pub mod Callers
