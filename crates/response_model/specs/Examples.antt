@@ -2,7 +2,7 @@
 use Rattle.std.specs.Prelude.{ℕ, ◌+◌, ◌*◌, ◌/◌, List, [], ◌∷◌, codes, Bool, true, false, cond, eqb, Option, Some, None}
 use Rattle.serde_json.specs.Data.{Data, null as json_null, boolean, number, string, array, object as json_object, no_items, item, Members, no_members, member}
 use Rattle.response_model.specs.Plan.{Form, single, listed, Selected, type_name, numbered, Plan, leaf_plan, position, ObjectTypes, no_type, object_type, Nodes, no_node, node}
-use Rattle.response_model.specs.Errors.{key_segment, index_segment, ResponseError}
+use Rattle.response_model.specs.Errors.{key_segment, index_segment, ResponseError, pathless}
 use Rattle.response_model.specs.Response.{Tree, leaf, list_of, object, Elements, no_element, element, no_entry, entry}
 
 -- One, in the unit that the examples count in, and parts of it.
@@ -141,7 +141,7 @@ abbrev pub failed : ResponseError
 failed = record { message = codes "x"; path = Some (key_segment (codes "search") ∷ index_segment 1 ∷ []) }
 
 abbrev pub unplaced : ResponseError
-unplaced = record { message = codes "y"; path = None }
+unplaced = pathless (codes "y")
 
 -- The same as JSON, the first with a path to come and a further member, the second with a path that is null.
 abbrev pub failed_json : Data → Data
