@@ -1,16 +1,8 @@
--- Known bytes that grow twice, and the pieces of a text one after the other.
-use Rattle.std.proofs.Common.{sym, subst, ◌≡◌, ◌+◌, ◌-◌, ◌≤◌, ◌++◌, ℕ, List, length, take, drop, Option, Some, None, arith}
+-- The pieces of a text, one after the other.
+use Rattle.std.proofs.Common.{sym, subst, ◌≡◌, ◌+◌, ◌-◌, ◌≤◌, ◌++◌, ℕ, List, length, take, drop, arith}
 use Rattle.std.proofs.Math.Seq.{take-add}
 use Rattle.std.proofs.lemmas.Grind.{common_steps}
 use Rattle.std.proofs.lemmas.List.{take_all, length-drop}
-use Rattle.std.specs.Io.KnownBytes.{Appends}
-
--- what grew by some bytes and then by others grew by all of them
-pub appends_then : (first middle last : Option (List ℕ)) (some others : List ℕ) → Appends first middle some → Appends middle last others → Appends first last (some ++ others)
-appends_then None middle last some others here there = tt
-appends_then (Some xs) None last some others here there = absurd here
-appends_then (Some xs) (Some ys) None some others here there = absurd there
-appends_then (Some xs) (Some ys) (Some zs) some others here there = grind (arith, common_steps)
 
 -- the items after `done`, by their number
 whole_rest : (done : ℕ) (text : List ℕ) → take (length text - done) (drop done text) ≡ drop done text

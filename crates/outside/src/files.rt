@@ -7,13 +7,16 @@ ghost use Rattle.outside.specs.Contents.{content_of, has_name, Fails};
 
 use crate::failures::Failures;
 use std::alloc::Global;
+use thiserror::Error;
 
 /// Why a file was not read.
-#[derive(Clone, Copy, Debug, Drop, PartialEq, Eq)]
+#[derive(Clone, Copy, Debug, Drop, PartialEq, Eq, Error)]
 pub enum FileFault {
     /// It could not be read. The count of its name's faults rose.
+    #[error("the file could not be read")]
     Failed,
     /// There was no memory for its content.
+    #[error("there was not enough memory for the file")]
     Memory,
 }
 

@@ -2,13 +2,16 @@
 
 ghost use Rattle.std.specs.Prelude.{◌≡◌, ◌<◌, ◌≤◌, [], ℕ, List, Option, Some, IfOk, OnOk, OnErr, IsErr, Contains, length};
 ghost use Rattle.std.specs.Io.KnownBytes.{Appends, WriteAppends};
+ghost use Rattle.outside.specs.Contents.{AppendsFront};
 ghost use Rattle.outside.specs.Faults.{Rose, next_count};
 
 use crate::failures::Failures;
 use std::alloc::Global;
+use thiserror::Error;
 
 /// That a stream took nothing. The count of faults rose.
-#[derive(Clone, Copy, Debug, Drop, PartialEq, Eq)]
+#[derive(Clone, Copy, Debug, Drop, PartialEq, Eq, Error)]
+#[error("the stream took nothing")]
 pub struct WriteFault;
 
 /// A stream that is written from its front to its end.
@@ -28,11 +31,12 @@ pub trait Sink {
         ensures cause { OnErr result (Rose (faults self.old) (faults self.new)) };
 }
 
-/// Writes all of `text`, piece by piece, or stops at the first fault.
+/// Writes all of `text`, piece by piece, or stops at the first fault, with some front of `text` written.
 pub fn write_whole<K: Sink>(to: &mut K, text: &[u8]) -> Result<(), WriteFault>
     ensures whole { OnOk result (Appends (K.written to.old) (K.written to.new) text.now) }
     ensures count { K.faults to.old ≤ K.faults to.new }
     ensures cause { OnErr result (Rose (K.faults to.old) (K.faults to.new)) }
+    ensures front { OnErr result (AppendsFront (K.written to.old) (K.written to.new) text.now) }
 {
     let mut done = 0;
     while done < text.len() {

@@ -1,6 +1,7 @@
 //! The files of the system.
 
-ghost use Rattle.std.specs.Prelude.{◌≡◌, ◌+◌, ◌≤◌, IfOk, IfSome, length, vec_len};
+ghost use Rattle.std.specs.Prelude.{◌≡◌, ◌+◌, ◌≤◌, IfOk, IfSome, length, take, vec_len};
+ghost use Rattle.outside.specs.Contents.{Gives};
 
 use crate::files::{FileFault, Files};
 use std::alloc::Global;
@@ -30,7 +31,8 @@ impl<R: rt::Files + Drop> StdFiles<R> {
 
 // What one call of the reader gave, tried again where it was interrupted; nothing where it failed.
 fn given<R: Read>(from: &mut R, into: &mut [u8]) -> Option<usize>
-    ensures { IfSome result (λ count. count ≤ length into.new) }
+    ensures within { IfSome result (λ count. count ≤ length into.new) }
+    ensures bytes { IfSome result (λ count. Gives (R.remaining from.old) (R.remaining from.new) count into.new) }
 {
     for _ in 0..u64::MAX {
         match from.read(into) {
@@ -44,14 +46,13 @@ fn given<R: Read>(from: &mut R, into: &mut [u8]) -> Option<usize>
 
 // What the reader has left, and of more than `limit` + 1 bytes the first so many.
 fn read_most<R: Read>(alloc: Global, from: &mut R, limit: usize) -> Result<Vec<u8>, FileFault>
-    ensures { IfOk result (λ read. vec_len read ≤ limit + 1) }
+    ensures bytes { IfOk result (λ read. IfSome (R.remaining from.old)
+        (λ left. read.items ≡ take (limit + 1) left)) }
+    ensures most { IfOk result (λ read. vec_len read ≤ limit + 1) }
 {
     let mut all: Vec<u8> = Vec::new(alloc);
     let mut piece = [0u8; PIECE];
-    'pieces: for _ in 0..u64::MAX {
-        if all.len() > limit {
-            break;
-        }
+    while all.len() <= limit {
         let wanted = (limit - all.len()).min(PIECE - 1) + 1;
         let Some(count) = given(from, &mut piece[..wanted]) else {
             return Err(FileFault::Failed);

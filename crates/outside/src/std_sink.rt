@@ -1,11 +1,13 @@
 //! Standard output, standard error and every other writer of the system, as a sink.
 
-ghost use Rattle.std.specs.Prelude.{◌≡◌, ◌≤◌, IfSome, length};
+ghost use Rattle.std.specs.Prelude.{◌≡◌, ◌≤◌, IfSome, MatchOption, length, take};
+ghost use Rattle.std.specs.Io.KnownBytes.{Appends, Keeps};
 
 use crate::sink::{Sink, WriteFault};
 use std::io::{ErrorKind, Write};
 
-/// A writer of the system. It does not tell what was written.
+/// A writer of the system. It tells what was written where the writer does, as a vector does and a stream
+/// of the system doesn't.
 #[derive(Drop)]
 pub struct StdSink<W: Write + Drop> {
     to: W,
@@ -24,7 +26,9 @@ impl<W: Write + Drop> StdSink<W> {
 
 // What one call of the writer took, tried again where it was interrupted; nothing where it failed.
 fn taken<W: Write>(to: &mut W, piece: &[u8]) -> Option<usize>
-    ensures { IfSome result (λ count. count ≤ length piece.now) }
+    ensures within { IfSome result (λ count. count ≤ length piece.now) }
+    ensures bytes { MatchOption result (Keeps (W.contents to.old) (W.contents to.new))
+        (λ count. Appends (W.contents to.old) (W.contents to.new) (take count piece.now)) }
 {
     for _ in 0..u64::MAX {
         match to.write(piece) {
@@ -37,9 +41,7 @@ fn taken<W: Write>(to: &mut W, piece: &[u8]) -> Option<usize>
 }
 
 impl<W: Write + Drop> Sink for StdSink<W> {
-    ghost use Rattle.std.specs.Prelude.{None};
-
-    ghost written = { λ _. None };
+    ghost written = { λ sink. W.contents sink.to };
 
     ghost faults = { λ sink. sink.faults };
 

@@ -4,6 +4,7 @@ use crate::{
     write_whole,
 };
 use std::alloc::Global;
+use std::fmt::InlineText;
 use std::fs;
 use std::test::Fail;
 
@@ -60,17 +61,37 @@ fn no_failure_is_planned(rt: HostRuntime) -> Result<(), Fail> {
     Ok(())
 }
 
+// A text that several calls of the system give, whose bytes change from place to place.
+fn long_text(alloc: Global) -> Result<Vec<u8>, Fail> {
+    let mut text = Vec::new(alloc);
+    for place in 0..13_000u32 {
+        text.push((place % 251) as u8)?;
+    }
+    Ok(text)
+}
+
 #[test]
 fn files_of_the_system_are_read_to_the_limit(rt: HostRuntime) -> Result<(), Fail> {
     let alloc = rt.alloc();
-    fs::write(&rt, "first.graphql", "type Query { a: Int }")?;
+    let text = long_text(alloc)?;
+    fs::write(&rt, "first.graphql", &text)?;
     let mut files = StdFiles::new(rt.clone()?);
-    let whole = files.read(alloc, "first.graphql", 21);
-    assert!(rt;
-        matches!(&whole, Ok(read) if read.as_slice() == b"type Query { a: Int }".as_slice())
-    );
-    let front = files.read(alloc, "first.graphql", 9);
-    assert!(rt; matches!(&front, Ok(read) if read.as_slice() == b"type Query".as_slice()));
+    for (limit, length) in [
+        (13_001, 13_000),
+        (13_000, 13_000),
+        (12_999, 13_000),
+        (12_998, 12_999),
+        (0, 1),
+    ] {
+        let read = files.read(alloc, "first.graphql", limit);
+        let front = &text.as_slice()[..text.len().min(length)];
+        assert!(rt;
+            matches!(&read, Ok(read) if read.as_slice() == front),
+            "{limit}"
+        );
+    }
+    let mut unwritable = StdSink::new(fs::open(&rt, "first.graphql")?);
+    assert_eq!(rt; unwritable.write(b"2.000"), Err(WriteFault));
     fs::remove_file(&rt, "first.graphql")?;
     assert!(rt;
         matches!(
@@ -82,9 +103,15 @@ fn files_of_the_system_are_read_to_the_limit(rt: HostRuntime) -> Result<(), Fail
 }
 
 #[test]
-fn a_writer_of_the_system_takes_a_piece(rt: HostRuntime) -> Result<(), Fail> {
+fn a_writer_of_the_system_takes_what_it_has_room_for(rt: HostRuntime) -> Result<(), Fail> {
     let mut sink = StdSink::new(Vec::new(rt.alloc()));
     assert_eq!(rt; sink.write(b"2.000 1.000"), Ok(11));
     assert_eq!(rt; write_whole(&mut sink, b"\n"), Ok(()));
+    let mut room = [b' '; 3];
+    let mut narrow = StdSink::new(room.as_mut_slice());
+    assert_eq!(rt; write_whole(&mut narrow, b"2.000"), Err(WriteFault));
+    assert_eq!(rt; &room, b"2.0");
+    let told = InlineText::<64>::of(WriteFault);
+    assert_eq!(rt; told.as_str(), "the stream took nothing");
     Ok(())
 }

@@ -9,8 +9,7 @@ use Rattle.response_model.specs.Cost.{entries_cost}
 use Rattle.response_model.specs.Reading.{has_key}
 use Rattle.static_cost.specs.declared.first.FirstNode.{FirstNode}
 use Rattle.static_cost.specs.declared.first.FirstNode.TheViews.{out-FirstNode}
-use Rattle.static_cost.specs.declared.first.FirstNode.TheFolds.{fold_out-FirstNode}
-use Rattle.static_cost.specs.Nodes.{First, first, first_step, first_of, firsts_of}
+use Rattle.static_cost.specs.Nodes.{First, first, first_of}
 use Rattle.static_cost.specs.FirstPlan.{node_then}
 use Rattle.static_cost.proofs.OneField.{open_node}
 use Rattle.response_meter.specs.declared.fault.MeterFault.{MeterFault}

@@ -1,5 +1,5 @@
 -- Loops over the entries of an object and the elements of a list: what was done and what is left give the whole.
-use Rattle.std.proofs.Common.{◌≡◌, ◌+◌, ◌≤◌, ℕ, List, ◌++◌, Option, None, Ok, sym, ap, ◌∙◌, arith, append_assoc}
+use Rattle.std.proofs.Common.{◌≡◌, ◌+◌, ◌≤◌, ℕ, List, ◌++◌, Option, None, Ok, sym, ap, ◌∙◌, arith}
 use Rattle.std.specs.Option.{option_or}
 use Rattle.cost_num.specs.Capped.{capped}
 use Rattle.cost_num.specs.declared.Cost.{Cost}

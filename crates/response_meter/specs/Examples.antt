@@ -1,6 +1,6 @@
 -- Small replies, by which the order of the tests is read aloud and computed.
 use Rattle.std.specs.Prelude.{ℕ, List, ◌++◌, codes, Option}
-use Rattle.serde_json.specs.Data.{Data, array, object as json_object, Items, Members, no_members, member}
+use Rattle.serde_json.specs.Data.{array, object as json_object, Items, Members, no_members, member}
 use Rattle.response_model.specs.Examples.{name_of_type, holds_string, added_alias, search, friends_of_friends}
 use Rattle.response_meter.specs.Faults.{Fault, key_step, item_step}
 use Rattle.response_meter.specs.FirstFault.{data_fault}

@@ -1,5 +1,5 @@
 -- What the parts of the walk over a reply's data do: each tests a value, counts it, and writes its text.
-use Rattle.std.specs.Prelude.{◌≡◌, ◌+◌, ℕ, List, [], ◌∷◌, ◌++◌, Bool, true, false, Option, Some, None, option_map, Result, Ok, Err, ⊤}
+use Rattle.std.specs.Prelude.{◌≡◌, ◌+◌, ℕ, List, [], ◌++◌, Bool, false, Option, Some, None, option_map, Result, Ok, Err, ⊤}
 use Rattle.cost_num.specs.Capped.{capped}
 use Rattle.cost_num.specs.declared.Cost.{Cost}
 use Rattle.serde_json.specs.Data.{Data, Members, object}

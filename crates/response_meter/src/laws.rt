@@ -4,6 +4,7 @@ ghost use Rattle.std.specs.Prelude.{ℕ, List, [], Bool, Option, Some, None, ◌
 ghost use Rattle.serde_json.specs.Data.{Data};
 ghost use Rattle.response_model.specs.Plan.{Plan};
 ghost use Rattle.response_model.specs.Response.{Tree};
+ghost use Rattle.response_model.specs.Reading.{NamesDiffer};
 ghost use Rattle.static_cost.specs.declared.first.FirstNode.{FirstNode as NodeType};
 ghost use Rattle.static_cost.specs.FirstPlan.{plan_of};
 ghost use Rattle.static_cost.specs.Leaves.{holds};
@@ -18,13 +19,13 @@ ghost use Rattle.response_meter.specs.FirstForm.{own_name};
 /// is a first fault exactly where it does not. Object types have different names here, and what fills a
 /// type name is a string.
 pub fn fault_or_reading()
-    ensures passes { (holds : ℕ → Data → Bool) (name : ℕ → List ℕ) (alias : List ℕ) (plan : Plan) (bytes : List ℕ) → ((T U : ℕ) → name T ≡ name U → T ≡ U) → NamesFilled plan → ((first_fault holds name alias plan bytes ≡ None) ↔ IsReadable holds name alias plan bytes) }
-    ensures refused { (holds : ℕ → Data → Bool) (name : ℕ → List ℕ) (alias : List ℕ) (plan : Plan) (bytes : List ℕ) → ((T U : ℕ) → name T ≡ name U → T ≡ U) → NamesFilled plan → (((fault : Fault) × (first_fault holds name alias plan bytes ≡ Some fault)) ↔ (IsReadable holds name alias plan bytes → ⊥)) }
+    ensures passes { (holds : ℕ → Data → Bool) (name : ℕ → List ℕ) (alias : List ℕ) (plan : Plan) (bytes : List ℕ) → NamesDiffer name → NamesFilled plan → ((first_fault holds name alias plan bytes ≡ None) ↔ IsReadable holds name alias plan bytes) }
+    ensures refused { (holds : ℕ → Data → Bool) (name : ℕ → List ℕ) (alias : List ℕ) (plan : Plan) (bytes : List ℕ) → NamesDiffer name → NamesFilled plan → (((fault : Fault) × (first_fault holds name alias plan bytes ≡ Some fault)) ↔ (IsReadable holds name alias plan bytes → ⊥)) }
 {}
 
 /// A reply reads as one tree or none, and with one list of errors, where object types have different names.
 pub fn one_reply()
-    ensures { (name : ℕ → List ℕ) (alias : List ℕ) (plan : Plan) (bytes : List ℕ) (t s : Option Tree) (es fs : List ResponseError) → ((T U : ℕ) → name T ≡ name U → T ≡ U) → ReplyReads name alias plan bytes t es → ReplyReads name alias plan bytes s fs → (t ≡ s) × (es ≡ fs) }
+    ensures { (name : ℕ → List ℕ) (alias : List ℕ) (plan : Plan) (bytes : List ℕ) (t s : Option Tree) (es fs : List ResponseError) → NamesDiffer name → ReplyReads name alias plan bytes t es → ReplyReads name alias plan bytes s fs → (t ≡ s) × (es ≡ fs) }
 {}
 
 /// The same of an operation of the first form: a reply passes every test exactly where it reads and its

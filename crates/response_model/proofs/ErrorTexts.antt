@@ -1,13 +1,13 @@
 -- The errors of a response, read and written.
-use Rattle.std.proofs.Common.{◌≡◌, ◌<◌, ◌≤◌, ◌+◌, ℕ, List, [], ◌∷◌, ◌++◌, length, drop, get_or, true, false, true≢false, ◌||◌, is_some, codes, option_map, option_and_then, Option, Some, None, refl, sym, ap, ◌∙◌, subst, append_assoc}
+use Rattle.std.proofs.Common.{◌≡◌, ◌<◌, ◌≤◌, ◌+◌, ℕ, List, [], ◌∷◌, ◌++◌, length, drop, get_or, true, false, true≢false, ◌||◌, is_some, codes, option_map, option_and_then, Option, Some, None, refl, sym, ap, ◌∙◌, subst, append_assoc, append-nil}
 use Rattle.std.proofs.lemmas.List.{drop_all}
 use Rattle.serde_json.specs.Data.{Data, null as json_null, boolean, number, string, array, object as json_object, unsigned, negative, float, Items, no_items, item}
 use Rattle.serde_json.specs.Find.{get, as_str, as_array}
 use Rattle.serde_json.specs.Written.{has_float, items_have_float, compact_text}
 use Rattle.serde_json.specs.View.{view, items_view}
 use Rattle.serde_json.specs.declared.value.Value.{Value}
-use Rattle.response_model.specs.Errors.{PathSegment, key_segment, index_segment, ResponseError, read_then, segment_of, segments_of, path_of, error_of, error_from, errors_in, has_errors}
-use Rattle.response_model.specs.ResponseText.{comma, segment_json, segments_json, path_text, error_text, errors_text, errors_part}
+use Rattle.response_model.specs.Errors.{PathSegment, key_segment, index_segment, ResponseError, pathless, read_then, segment_of, segments_of, path_of, error_of, error_from, errors_in, has_errors}
+use Rattle.response_model.specs.ResponseText.{comma, segment_json, segments_json, path_text, error_text, errors_text, errors_part, response_text}
 use Rattle.response_model.proofs.Pieces.{text_left, items_from}
 
 -- a path that is well formed has no floats, and is written as its steps
@@ -123,3 +123,18 @@ some_errors (v ∷ vs) es h r = some_then (error_of (view v)) (errors_in (items_
 pub part_written : (before mid after : List ℕ) (es : List ResponseError) → true ≡ has_errors es → mid ≡ before ++ codes "\"errors\":[" → after ≡ mid ++ errors_text [] es → after ≡ before ++ errors_part es
 part_written before mid after [] h e w = absurd (true≢false h)
 part_written before mid after (x ∷ es) h e w = w ∙ ap (λ u. u ++ errors_text [] (x ∷ es)) e ∙ append_assoc before (codes "\"errors\":[") (errors_text [] (x ∷ es))
+
+-- a response of one error, written in three pieces
+closed : (q : List ℕ) → ((((q ++ []) ++ codes "}") ++ codes "]") ++ []) ++ codes "}" ≡ q ++ codes "}]}"
+closed q =
+    ap (λ x. (((x ++ codes "}") ++ codes "]") ++ []) ++ codes "}") (append-nil q)
+    ∙ ap (λ x. x ++ codes "}") (append-nil ((q ++ codes "}") ++ codes "]"))
+    ∙ append_assoc (q ++ codes "}") (codes "]") (codes "}")
+    ∙ append_assoc q (codes "}") (codes "]}")
+
+pub one_error_written : (a b c d message : List ℕ) → b ≡ a ++ codes "{\"errors\":[{\"message\":" → c ≡ b ++ compact_text (string message) → d ≡ c ++ codes "}]}"
+    → d ≡ a ++ response_text None (pathless message ∷ [])
+one_error_written a b c d message head quoted end =
+    let text = compact_text (string message) in
+    end ∙ ap (λ x. x ++ codes "}]}") (quoted ∙ ap (λ x. x ++ text) head) ∙ append_assoc (a ++ codes "{\"errors\":[{\"message\":") text (codes "}]}")
+    ∙ append_assoc a (codes "{\"errors\":[{\"message\":") (text ++ codes "}]}") ∙ ap (λ x. a ++ (codes "{\"errors\":[{\"message\":" ++ x)) (sym (closed text))

@@ -130,12 +130,6 @@ module _ (holds : ℕ → Data → Bool) where
   }
 
 -- Two filled trees are the same tree.
-count_apart : (n : ℕ) → zero ≡ suc n → ⊥
-count_apart n e = omega arith
-
-count_down : (n m : ℕ) → suc n ≡ suc m → n ≡ m
-count_down n m e = omega arith
-
 mutual
   pub same_filled : (part : Part) (form : Form) (size : Option ℕ) (plan : Plan) (t s : Tree) → IsFilled part form size plan t → IsFilled part form size plan s → t ≡ s
   same_filled part form size plan null s p q = absurd p
@@ -170,11 +164,11 @@ mutual
 
   same_elements : (part : Part) (plan : Plan) (ts us : Elements) → count ts ≡ count us → ElementsFilled part plan ts → ElementsFilled part plan us → ts ≡ us
   same_elements part plan no_element no_element e p q = refl
-  same_elements part plan no_element (element u us) e p q = absurd (count_apart (count us) e)
-  same_elements part plan (element t ts) no_element e p q = absurd (count_apart (count ts) (sym e))
+  same_elements part plan no_element (element u us) e p q = absurd (omega (arith, e))
+  same_elements part plan (element t ts) no_element e p q = absurd (omega (arith, e))
   same_elements part plan (element t ts) (element u us) e p q =
       ap (λ (x : Tree). element x ts) (same_filled part (single true) None plan t u p.0 q.0)
-      ∙ ap (λ (x : Elements). element u x) (same_elements part plan ts us (count_down (count ts) (count us) e) p.1 q.1)
+      ∙ ap (λ (x : Elements). element u x) (same_elements part plan ts us (omega (arith, e)) p.1 q.1)
 
 -- Some response exceeds a number exactly where the greatest cost does.
 module _ (holds : ℕ → Data → Bool) where

@@ -13,6 +13,10 @@ pub record ResponseError : Type 0 where
   pub message : List ℕ
   pub path : Option (List PathSegment)
 
+-- An error without a path.
+abbrev pub pathless : List ℕ → ResponseError
+pathless message = record { message = message; path = None }
+
 -- An element before others, where both are read.
 abbrev pub read_then : {A : Type 0} → Option A → Option (List A) → Option (List A)
 read_then None others = None

@@ -2,7 +2,8 @@
 use Rattle.std.specs.Prelude.{ℕ, ◌+◌, ◌*◌, ◌/◌, List, [], ◌∷◌, codes, Bool, true, false, cond, eqb, Option, Some, None}
 use Rattle.serde_json.specs.Data.{Data, null as json_null, boolean, number, string, array, object as json_object, no_items, item, Members, no_members, member}
 use Rattle.response_model.specs.Plan.{Form, single, listed, Selected, type_name, numbered, Plan, leaf_plan, position, ObjectTypes, no_type, object_type, Nodes, no_node, node}
-use Rattle.response_model.specs.Errors.{key_segment, index_segment, ResponseError}
+use Rattle.response_model.specs.Rows.{Row, type_row, node_row, leaf_in}
+use Rattle.response_model.specs.Errors.{key_segment, index_segment, ResponseError, pathless}
 use Rattle.response_model.specs.Response.{Tree, leaf, list_of, object, Elements, no_element, element, no_entry, entry}
 
 -- One, in the unit that the examples count in, and parts of it.
@@ -141,7 +142,7 @@ abbrev pub failed : ResponseError
 failed = record { message = codes "x"; path = Some (key_segment (codes "search") ∷ index_segment 1 ∷ []) }
 
 abbrev pub unplaced : ResponseError
-unplaced = record { message = codes "y"; path = None }
+unplaced = pathless (codes "y")
 
 -- The same as JSON, the first with a path to come and a further member, the second with a path that is null.
 abbrev pub failed_json : Data → Data
@@ -156,3 +157,18 @@ aliased key = record { key = key; field = codes "user"; asked = false; form = si
 
 abbrev pub two_users : Plan
 two_users = query (node (aliased (codes "a")) (user (name_then no_node)) (node (aliased (codes "b")) (user (name_then no_node)) no_node))
+
+-- The rows of `search`, and those of the two users.
+abbrev pub id_row : ℕ → List Row → List Row
+id_row depth others = node_row depth (plain (codes "id") (single false) None 0) (leaf_in text) ∷ others
+
+abbrev pub rows_of_search : List Row
+rows_of_search = type_row 0 0 one ∷ node_row 0 asked_search None
+    ∷ type_row 1 1 one ∷ node_row 1 (plain (codes "friends") (listed false false) (Some 3) one) None ∷ type_row 2 1 one ∷ id_row 2
+    (type_row 1 2 (2 * one + half) ∷ node_row 1 (plain (codes "author") (single true) None (4 * one)) None ∷ type_row 2 1 one ∷ id_row 2 [])
+
+abbrev pub user_rows : List ℕ → List Row → List Row
+user_rows key others = node_row 0 (aliased key) None ∷ type_row 1 1 one ∷ node_row 1 (plain (codes "name") (single true) None quarter) (leaf_in text) ∷ others
+
+abbrev pub rows_of_two_users : List Row
+rows_of_two_users = type_row 0 0 one ∷ user_rows (codes "a") (user_rows (codes "b") [])

@@ -1,5 +1,5 @@
 -- A plan: what an operation may get, position by position, with the weights and declared sizes that decide what it costs.
--- Numbers of weights and costs are thousandths. Texts are lists of bytes. Object types and leaf types are told by numbers.
+-- Weights and costs are whole numbers of one unit. Texts are lists of bytes. Object types and leaf types are told by numbers.
 use Rattle.std.specs.Prelude.{ℕ, List, Bool, false, cond, ◌||◌, eqb, Option}
 use Rattle.serde_json.specs.Data.{Data}
 

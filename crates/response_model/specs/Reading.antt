@@ -16,6 +16,10 @@ IsOnlyType T no_type = ⊥
 IsOnlyType T (object_type U weight nodes no_type) = U ≡ T
 IsOnlyType T (object_type U weight nodes (object_type V w ns others)) = ⊥
 
+-- Object types have different names, where `name` gives the name of each.
+abbrev pub NamesDiffer : (ℕ → List ℕ) → Type 0
+NamesDiffer name = (T U : ℕ) → name T ≡ name U → T ≡ U
+
 -- `name` gives the name of each object type, `alias` is the response key under which a type name was added.
 module _ (name : ℕ → List ℕ) (alias : List ℕ) where
   -- A JSON object is of this type: where the type name is asked, its entry under the alias is the name of this possible type; elsewhere one type alone is possible.

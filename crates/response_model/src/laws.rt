@@ -4,7 +4,7 @@ ghost use Rattle.std.specs.Prelude.{ℕ, Bool, true, List, None, ◌≡◌, ◌<
 ghost use Rattle.serde_json.specs.Data.{Data};
 ghost use Rattle.response_model.specs.Plan.{Form, Plan, ObjectTypes, single, position};
 ghost use Rattle.response_model.specs.Response.{Tree};
-ghost use Rattle.response_model.specs.Reading.{Reads};
+ghost use Rattle.response_model.specs.Reading.{NamesDiffer, Reads};
 ghost use Rattle.response_model.specs.Cost.{Part, cost};
 ghost use Rattle.response_model.specs.Bound.{IsBound, IsResponse, Exceeds, IsSound, greatest_cost};
 ghost use Rattle.response_model.specs.Filled.{IsFilled, filled};
@@ -42,7 +42,7 @@ pub fn one_filled()
 
 /// A JSON value reads as at most one tree, where object types have different names.
 pub fn one_reading()
-    ensures { (name : ℕ → List ℕ) (alias : List ℕ) (form : Form) (asked : Bool) (plan : Plan) (json : Data) (t s : Tree) → ((T U : ℕ) → name T ≡ name U → T ≡ U) → Reads name alias form asked plan json t → Reads name alias form asked plan json s → t ≡ s }
+    ensures { (name : ℕ → List ℕ) (alias : List ℕ) (form : Form) (asked : Bool) (plan : Plan) (json : Data) (t s : Tree) → NamesDiffer name → Reads name alias form asked plan json t → Reads name alias form asked plan json s → t ≡ s }
 {}
 
 /// Going over flat rows once, from the last to the first, gives the greatest cost of the plan that they stand for.

@@ -16,4 +16,4 @@ pub mod examples;
 pub mod laws;
 mod writing;
 
-pub use writing::{write_key, write_value};
+pub use writing::{write_error_response, write_key, write_string, write_value};

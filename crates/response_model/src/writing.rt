@@ -1,9 +1,11 @@
 //! Writing the pieces of a response's text.
 
-ghost use Rattle.std.specs.Prelude.{◌≡◌, ◌++◌, false, OnOk, string_bytes};
+ghost use Rattle.std.specs.Prelude.{◌≡◌, ◌++◌, ◌∷◌, [], false, None, OnOk, string_bytes};
+ghost use Rattle.serde_json.specs.Data.{string};
 ghost use Rattle.serde_json.specs.View.{view};
 ghost use Rattle.serde_json.specs.Written.{has_float, compact_text};
-ghost use Rattle.response_model.specs.ResponseText.{key_text};
+ghost use Rattle.response_model.specs.Errors.{pathless};
+ghost use Rattle.response_model.specs.ResponseText.{key_text, response_text};
 
 use serde_json::Value;
 use std::alloc::{AllocError, Global};
@@ -21,6 +23,18 @@ pub fn write_value(alloc: Global, value: &Value, into: &mut String) -> Result<()
     into.push_str(text.as_str())
 }
 
+/// Appends a text as a JSON string.
+///
+/// # Errors
+///
+/// `AllocError` where there was not enough memory; then some part of it may have been appended.
+pub fn write_string(alloc: Global, text: &str, into: &mut String) -> Result<(), AllocError>
+    ensures { OnOk result (string_bytes into.new ≡ string_bytes into.old ++ compact_text (string text.now)) }
+{
+    let quoted = Value::String(String::from_str(alloc, text)?);
+    write_value(alloc, &quoted, into)
+}
+
 /// Appends a response key as a JSON string, and a colon.
 ///
 /// # Errors
@@ -29,7 +43,24 @@ pub fn write_value(alloc: Global, value: &Value, into: &mut String) -> Result<()
 pub fn write_key(alloc: Global, key: &str, into: &mut String) -> Result<(), AllocError>
     ensures { OnOk result (string_bytes into.new ≡ string_bytes into.old ++ key_text key.now) }
 {
-    let quoted = Value::String(String::from_str(alloc, key)?);
-    write_value(alloc, &quoted, into)?;
+    write_string(alloc, key, into)?;
     into.push_str(":")
+}
+
+/// Appends the text of a response that has no data and one error, with this message and no path.
+///
+/// # Errors
+///
+/// `AllocError` where there was not enough memory; then some part of it may have been appended.
+pub fn write_error_response(
+    alloc: Global,
+    message: &str,
+    into: &mut String,
+) -> Result<(), AllocError>
+    ensures { OnOk result (string_bytes into.new ≡ string_bytes into.old ++ response_text None (pathless message.now ∷ [])) }
+{
+    into.push_str("{\"errors\":[{\"message\":")?;
+    write_string(alloc, message, into)?;
+    into.push_str("}]}")?;
+    Ok(())
 }

@@ -1,0 +1,6 @@
+-- Interrupted calls took nothing.
+use Rattle.std.specs.Io.KnownBytes.{Keeps}
+use Rattle.outside.proofs.std_sink.taken.Given as goal
+
+abbrev pub invariant-loop : goal.invariant-loop
+invariant-loop g l = Keeps (g.W.Write.contents l.initial.to) (g.W.Write.contents l.to)
