@@ -1,5 +1,5 @@
 -- What two files hold excludes all else.
-use Rattle.std.proofs.Common.{◌≡◌, ◌≢◌, ◌<◌, ◌≤◌, ◌⊎◌, inl, inr, refl, sym, ap, subst, ℕ, List, Option, Some, None, map, arith}
+use Rattle.std.proofs.Common.{◌≡◌, ◌≢◌, ◌≤◌, ◌⊎◌, inl, inr, refl, ap, subst, ℕ, List, Option, None, map, arith}
 use Rattle.cost_num.specs.declared.TheConstants.{CAP}
 use Rattle.response_model.specs.Cost.{Part, types, fields}
 use Rattle.response_model.specs.Bound.{IsBound, Exceeds}
@@ -24,7 +24,7 @@ use Rattle.gateway_run.specs.declared.operation.TheConstants.{DOCUMENT_LIMIT}
 use Rattle.gateway_run.specs.declared.operation.Refusal.{Refusal}
 use Rattle.gateway_run.specs.declared.operation.Refusal.TheVariants.{SchemaNotBuilt, NoDocument, DocumentNotBuilt, TypesTooCostly, FieldsTooCostly, BothTooCostly}
 use Rattle.gateway_run.specs.Reading.{IsText}
-use Rattle.gateway_run.specs.Operations.{HoldsSchema, HoldsDocument, HoldsNoDocument, HoldsOtherDocument, HoldOperation, OfOperation, IsAffordable, IsTooCostly, IsRefused}
+use Rattle.gateway_run.specs.Operations.{HoldsSchema, HoldsDocument, HoldsNoDocument, HoldsOtherDocument, HoldOperation, OfOperation, IsAffordable, IsRefused}
 
 -- A text is read in one way.
 pub record OneWay : Type 0 where

@@ -7,12 +7,12 @@ use Rattle.gateway_run.specs.declared.command.Command.{Command}
 use Rattle.gateway_run.specs.declared.command.Command.TheVariants.{Price, Meter}
 use Rattle.gateway_run.specs.declared.outcome.Outcome.{Outcome}
 use Rattle.gateway_run.specs.declared.outcome.Outcome.TheVariants.{Done, Refused, FileFailed, Faulty, Usage, Memory}
-use Rattle.gateway_run.specs.declared.outcome.TheConstants.{DONE, REFUSED, USAGE, FILE_FAILED, STREAM_FAILED, NO_MEMORY, SIZE_BROKEN, NOT_RESPONSE}
+use Rattle.gateway_run.specs.declared.outcome.TheConstants.{DONE, REFUSED, USAGE, FILE_FAILED, STREAM_FAILED, SIZE_BROKEN, NOT_RESPONSE}
 use Rattle.gateway_run.specs.Commands.{Asks, IsNoCommand}
-use Rattle.gateway_run.specs.Outcomes.{FilesTold, StreamTold, IsKept, HasFailed, Ends}
+use Rattle.gateway_run.specs.Outcomes.{FilesTold, StreamTold, IsKept, Ends}
 use Rattle.gateway_run.specs.Price.{PriceOf}
 use Rattle.gateway_run.specs.Meter.{status_of, MeterOf}
-use Rattle.gateway_run.specs.Program.{CameTo, ComeTo, IsFileOf, Runs, NamesFile, OneFailed}
+use Rattle.gateway_run.specs.Program.{CameTo, ComeTo, IsFileOf, NamesFile, OneFailed}
 
 -- the bytes that were read come to no file that failed, and to no wrong use
 price_file : (schema document name : List ℕ) → PriceOf schema document (FileFailed name) → ⊥

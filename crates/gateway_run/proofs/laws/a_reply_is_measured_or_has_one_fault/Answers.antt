@@ -1,5 +1,5 @@
 -- The operation is one, and so is its reply's first fault.
-use Rattle.std.proofs.Common.{subst, sym, ◌∙◌}
+use Rattle.std.proofs.Common.{subst, ◌∙◌}
 use Rattle.response_meter.specs.Faults.{Tells}
 use Rattle.gateway_run.proofs.Exclusions.{OneWay, alike, fault_alike, told_of_none, told_once}
 use Rattle.static_cost.specs.FirstPlan.{plan_of}
