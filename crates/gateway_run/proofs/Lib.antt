@@ -1,3 +1,5 @@
 mod Words
 mod Refusals
 mod Replies
+mod Exclusions
+mod Statuses

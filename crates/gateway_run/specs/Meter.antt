@@ -2,18 +2,16 @@
 use Rattle.std.specs.Prelude.{◌≡◌, ◌⊎◌, ◌<◌, ◌≤◌, ◌++◌, ◌∷◌, ℕ, List, Option, length}
 use Rattle.cost_num.specs.CostText.{cost_text}
 use Rattle.static_cost.specs.declared.first.FirstNode.{FirstNode}
-use Rattle.static_cost.specs.FirstPlan.{plan_of}
 use Rattle.response_meter.specs.declared.metered.FirstMetered.{FirstMetered}
 use Rattle.response_meter.specs.declared.fault.MeterFault.{MeterFault}
 use Rattle.response_meter.specs.declared.fault.MeterFault.TheVariants.{NotResponse, SizeBroken, Memory as MeterMemory}
-use Rattle.response_meter.specs.Metered.{IsMetered}
 use Rattle.gateway_run.specs.declared.meter.TheConstants.{REPLY_LIMIT}
 use Rattle.gateway_run.specs.declared.outcome.Outcome.{Outcome}
 use Rattle.gateway_run.specs.declared.outcome.Outcome.TheVariants.{Memory}
 use Rattle.gateway_run.specs.declared.outcome.TheConstants.{SIZE_BROKEN, NOT_RESPONSE, NO_MEMORY}
 use Rattle.gateway_run.specs.Texts.{meter_text, too_large_text}
 use Rattle.gateway_run.specs.Reading.{IsRead, OfFiles}
-use Rattle.gateway_run.specs.Operations.{IsMeasured, IsFirstFault, IsFaulty}
+use Rattle.gateway_run.specs.Operations.{IsPassing, IsMeasured, IsFirstFault, IsFaulty}
 use Rattle.gateway_run.specs.Refusals.{IsRefusedOperation}
 use Rattle.gateway_run.specs.Outcomes.{FilesTold, IsStopped, IsDone, IsRefusedAs, IsFaultyAs}
 
@@ -34,7 +32,7 @@ IsReplyFault fault outcome = IsFaultyAs (status_of fault) (meter_text fault) out
 -- A reply to this operation is measured, or does not pass a test, or there was no memory.
 abbrev pub MeterOfOperation : List FirstNode → List ℕ → Outcome → Type 0
 MeterOfOperation operation reply outcome = (outcome ≡ Memory)
-    ⊎ ((metered : FirstMetered) × IsMetered (plan_of operation) reply metered × IsDone (measure_text metered) outcome)
+    ⊎ ((metered : FirstMetered) × IsPassing operation reply metered × IsDone (measure_text metered) outcome)
     ⊎ ((fault : MeterFault) × IsFirstFault operation reply fault × IsReplyFault fault outcome)
 
 -- By the bytes that were read of the three files: the measure is the output, or the reply does not pass a test,

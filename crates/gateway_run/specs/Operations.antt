@@ -1,5 +1,5 @@
 -- What two files hold, by the bytes that were read of them, and what it costs.
-use Rattle.std.specs.Prelude.{◌⊎◌, ◌≢◌, ℕ, List}
+use Rattle.std.specs.Prelude.{◌≡◌, ◌⊎◌, ◌≢◌, ℕ, List, None}
 use Rattle.cost_num.specs.declared.Cost.{Cost}
 use Rattle.response_model.specs.Cost.{types, fields}
 use Rattle.document_reader.specs.declared.trees.Document.{Document}
@@ -90,9 +90,13 @@ IsRefused schema document BothTooCostly = OfOperation schema document (λ operat
 abbrev pub IsAffordable : List FirstNode → Type 0
 IsAffordable operation = (bound : Cost) × IsBoundOf operation bound × IsWithinCap bound
 
--- The operation of the two files is one whose bound is within the cap, and the reply to it is measured so.
+-- The reply passes every test, and is measured so.
+abbrev pub IsPassing : List FirstNode → List ℕ → FirstMetered → Type 0
+IsPassing operation reply metered = IsMetered (plan_of operation) reply metered × (first_fault (plan_of operation) reply ≡ None)
+
+-- The operation of the two files is one whose bound is within the cap, and the reply to it passes every test and is measured so.
 abbrev pub IsMeasured : List ℕ → List ℕ → List ℕ → FirstMetered → Type 0
-IsMeasured schema document reply metered = OfOperation schema document (λ operation. IsAffordable operation × IsMetered (plan_of operation) reply metered)
+IsMeasured schema document reply metered = OfOperation schema document (λ operation. IsAffordable operation × IsPassing operation reply metered)
 
 -- This is the first test that the reply does not pass; want of memory is none.
 abbrev pub IsFirstFault : List FirstNode → List ℕ → MeterFault → Type 0

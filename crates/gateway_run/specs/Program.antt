@@ -7,7 +7,9 @@ use Rattle.gateway_run.specs.declared.command.WordsFault.TheVariants.{Usage as N
 use Rattle.gateway_run.specs.declared.outcome.Outcome.{Outcome}
 use Rattle.gateway_run.specs.declared.outcome.Outcome.TheVariants.{Usage, Memory}
 use Rattle.gateway_run.specs.Commands.{Asks, IsNoCommand}
-use Rattle.gateway_run.specs.Outcomes.{FilesTold, StreamTold, Ends}
+use Rattle.outside.specs.Faults.{Rose}
+use Rattle.gateway_run.specs.Texts.{line, file_text}
+use Rattle.gateway_run.specs.Outcomes.{FilesTold, StreamTold, Gains, IsKept, HasFailed, Ends}
 use Rattle.gateway_run.specs.Price.{PriceCameTo}
 use Rattle.gateway_run.specs.Meter.{MeterCameTo}
 
@@ -30,3 +32,21 @@ ComeTo words files outcome = ((command : Command) × Asks words command × CameT
 -- What words came to was written, and the status is its own.
 abbrev pub Runs : List (List ℕ) → ℕ → FilesTold → StreamTold → StreamTold → Type 0
 Runs words status files out err = (outcome : Outcome) × ComeTo words files outcome × Ends outcome status out err
+
+-- The names of the command's files.
+abbrev pub IsFileOf : Command → List ℕ → Type 0
+IsFileOf (Price schema document) name = (name ≡ schema) ⊎ (name ≡ document)
+IsFileOf (Meter schema document reply) name = (name ≡ schema) ⊎ (name ≡ document) ⊎ (name ≡ reply)
+
+-- A file of the command that the words ask for was not read; and the error stream took the line that names it, or failed.
+pub record NamesFile (words : List (List ℕ)) (files : FilesTold) (err : StreamTold) : Type 0 where
+  pub command : Command
+  pub asks : Asks words command
+  pub name : List ℕ
+  pub of_command : IsFileOf command name
+  pub unread : Rose (files.faults_before name) (files.faults_after name)
+  pub told : Gains err (line (file_text name)) ⊎ HasFailed err
+
+-- One of the streams failed, and nothing was written on the other.
+abbrev pub OneFailed : StreamTold → StreamTold → Type 0
+OneFailed out err = (HasFailed out × IsKept err) ⊎ (IsKept out × HasFailed err)

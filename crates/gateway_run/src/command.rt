@@ -5,6 +5,7 @@ ghost use Rattle.gateway_run.specs.Commands.{price_words, meter_words, IsNoPrice
 
 use gql_base::Text;
 use std::alloc::{AllocError, Global};
+use thiserror::Error;
 
 /// A command, with the names of its files.
 #[derive(Drop)]
@@ -23,11 +24,13 @@ pub enum Command {
 }
 
 /// Why words were not read into a command.
-#[derive(Clone, Copy, Debug, Drop, PartialEq, Eq)]
+#[derive(Clone, Copy, Debug, Drop, PartialEq, Eq, Error)]
 pub enum WordsFault {
     /// They are those of no command.
+    #[error("the words ask for no command")]
     Usage,
     /// There was no memory.
+    #[error("there was no memory for the words")]
     Memory,
 }
 

@@ -6,18 +6,24 @@
 mod command;
 mod finish;
 mod inputs;
+mod laws;
 mod meter;
 mod operation;
 mod outcome;
 mod price;
 mod program;
 mod reply_texts;
+mod status_laws;
 #[cfg(test)]
 mod tests;
 mod texts;
 
 pub use command::WordsFault;
+pub use laws::{
+    a_refusal_excludes_all_else, a_reply_is_measured_or_has_one_fault, two_files_have_one_refusal,
+};
 pub use outcome::{
     DONE, FILE_FAILED, NO_MEMORY, NOT_RESPONSE, REFUSED, SIZE_BROKEN, STREAM_FAILED, USAGE,
 };
 pub use program::{end_without_command, run};
+pub use status_laws::a_status_says_what_was_done;

@@ -4,9 +4,9 @@ ghost use Rattle.std.specs.Prelude.{◌≡◌, ◌≤◌, ◌⊎◌, ℕ, List, 
 ghost use Rattle.static_cost.specs.FirstPlan.{plan_of};
 ghost use Rattle.static_cost.specs.FirstBound.{IsWithinCap};
 ghost use Rattle.response_meter.specs.Faults.{Tells};
-ghost use Rattle.response_meter.specs.Metered.{IsMetered, first_fault};
+ghost use Rattle.response_meter.specs.Metered.{first_fault};
 ghost use Rattle.gateway_run.specs.Reading.{IsRead};
-ghost use Rattle.gateway_run.specs.Operations.{IsAffordable};
+ghost use Rattle.gateway_run.specs.Operations.{IsAffordable, IsPassing};
 ghost use Rattle.gateway_run.specs.Outcomes.{files_told, IsStopped, IsDone};
 ghost use Rattle.gateway_run.specs.Meter.{measure_text, MeterOfOperation, MeterOf, MeterCameTo};
 
@@ -39,7 +39,7 @@ fn measure_bounded(
     reply: &[u8],
 ) -> Result<FirstMetered, MeterFault>
     requires { IsAffordable operation.now }
-    ensures measured { IfOk result (IsMetered (plan_of operation.now) reply.now) }
+    ensures measured { IfOk result (IsPassing operation.now reply.now) }
     ensures within_cap { IfOk result (λ metered. IsWithinCap metered.cost) }
     ensures faulty { IfErr result (λ fault. Tells fault (first_fault (plan_of operation.now) reply.now)) }
 {

@@ -16,6 +16,7 @@ use first_form::{FirstFault, FirstPart, read_first};
 use gql_base::Text;
 use static_cost::{FirstNode, TooCostly, first_bound};
 use std::alloc::Global;
+use thiserror::Error;
 
 /// How many bytes a schema file may have.
 pub const SCHEMA_LIMIT: usize = 4_194_304;
@@ -23,19 +24,25 @@ pub const SCHEMA_LIMIT: usize = 4_194_304;
 pub const DOCUMENT_LIMIT: usize = 262_144;
 
 /// Why an operation has no price.
-#[derive(Clone, Copy, Debug, Drop, PartialEq, Eq)]
+#[derive(Clone, Copy, Debug, Drop, PartialEq, Eq, Error)]
 pub enum Refusal {
     /// The schema hasn't the form that can be priced.
+    #[error("the schema hasn't the form that can be priced")]
     SchemaNotBuilt,
     /// The document's text is no document of GraphQL. The fault is not want of memory.
+    #[error("the text is no document of GraphQL")]
     NoDocument(DocFault),
     /// The document hasn't the form that can be priced.
+    #[error("the document hasn't the form that can be priced")]
     DocumentNotBuilt,
     /// The greatest type cost exceeds the cap.
+    #[error("the greatest type cost exceeds the cap")]
     TypesTooCostly,
     /// The greatest field cost exceeds the cap.
+    #[error("the greatest field cost exceeds the cap")]
     FieldsTooCostly,
     /// Both exceed the cap.
+    #[error("the greatest type cost and the greatest field cost exceed the cap")]
     BothTooCostly,
 }
 
@@ -48,9 +55,13 @@ pub struct Bounded {
 }
 
 /// Why an operation was not read or has no price.
-#[derive(Clone, Copy, Debug, Drop, PartialEq, Eq)]
+#[derive(Clone, Copy, Debug, Drop, PartialEq, Eq, Error)]
 pub enum OperationFault {
+    /// It is refused.
+    #[error("the operation is refused: {0}")]
     Refused(Refusal),
+    /// There was no memory.
+    #[error("there was no memory for the operation")]
     Memory,
 }
 

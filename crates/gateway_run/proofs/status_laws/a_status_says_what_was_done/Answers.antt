@@ -1,0 +1,21 @@
+-- By cases on the outcome.
+use Rattle.gateway_run.proofs.Statuses.{known, usage, other_words, file_failed, stream_failed, done}
+use Rattle.gateway_run.proofs.status_laws.a_status_says_what_was_done.Goals as goal
+
+pub returns-clause-known : goal.returns-clause-known
+returns-clause-known c words status files out err runs = known words files status out err runs.0 runs.1 runs.2
+
+pub returns-clause-usage : goal.returns-clause-usage
+returns-clause-usage c words files out err runs = usage words files out err runs.0 runs.1 runs.2
+
+pub returns-clause-other_words : goal.returns-clause-other_words
+returns-clause-other_words c words status files out err none runs = other_words words files status out err runs.0 none runs.1 runs.2
+
+pub returns-clause-file_failed : goal.returns-clause-file_failed
+returns-clause-file_failed c words files out err runs = file_failed words files out err runs.0 runs.1 runs.2
+
+pub returns-clause-stream_failed : goal.returns-clause-stream_failed
+returns-clause-stream_failed c words files out err runs = stream_failed words files out err runs.0 runs.1 runs.2
+
+pub returns-clause-done : goal.returns-clause-done
+returns-clause-done c words files out err runs = done words files out err runs.0 runs.1 runs.2
