@@ -19,17 +19,22 @@ use crate::definitions::definition;
 use crate::trees::{Definition, Document};
 use gql_base::{Halt, LEVEL_LIMIT, LexFault, Source, lex};
 use std::alloc::Global;
+use thiserror::Error;
 
 /// Why a text is no document.
-#[derive(Clone, Copy, Debug, PartialEq, Eq)]
+#[derive(Clone, Copy, Debug, PartialEq, Eq, Error)]
 pub enum DocFault {
     /// The text has no tokens.
+    #[error("the text has no tokens: {0}")]
     Lex(LexFault),
     /// The first token with which no document goes on begins at `at`; there is none, and `at` is the text's length.
+    #[error("no document goes on with what stands at byte {at}")]
     Unexpected { at: usize },
     /// The token at `at` opens a level above the limit.
+    #[error("more than {LEVEL_LIMIT} levels are open at byte {at}")]
     TooDeep { at: usize },
     /// There was no memory for the document.
+    #[error("there was not enough memory for the document")]
     Memory,
 }
 

@@ -6,15 +6,19 @@ ghost use Rattle.document_reader.specs.declared.trees.Definition.TheVariants.{Op
 ghost use Rattle.document_reader.specs.Picking.{is_operation, is_named, first_where, count_where, picked, asked};
 
 use crate::trees::{Definition, Document, Operation};
+use thiserror::Error;
 
 /// Why no operation is picked.
-#[derive(Clone, Copy, Debug, PartialEq, Eq)]
+#[derive(Clone, Copy, Debug, PartialEq, Eq, Error)]
 pub enum PickFault {
     /// The document has no operation.
+    #[error("the document has no operation")]
     NoOperation,
     /// No name was given, and there are so many operations.
+    #[error("no operation is named, and the document has {count}")]
     Several { count: usize },
     /// No operation has that name.
+    #[error("the document has no operation of that name")]
     NotThere,
 }
 

@@ -17,3 +17,6 @@ pub mod BlockMarks
 pub mod BlockUtf8
 pub mod EscapedTexts
 pub mod DecimalTexts
+pub mod ScannedStrings
+pub mod ScannedBlocks
+pub mod ScannedClosings

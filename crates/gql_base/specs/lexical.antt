@@ -4,10 +4,13 @@
 pub mod Characters
 pub mod Numbers
 pub mod Strings
+pub mod BlockStrings
 pub mod Blocks
 pub mod Pieces
+pub mod Closings
 pub mod Faults
 pub mod Tokens
 pub mod Literals
--- What serves proofs: how a piece is found at the front of a text.
+-- What serves proofs: how strings are scanned, and how a piece is found at the front of a text.
+pub mod Scans
 pub mod Fronts

@@ -5,12 +5,13 @@
 mod lexical;
 mod parts;
 mod printing;
+mod sharing;
 mod ways;
 
 pub use lexical::blocks::block_value;
 pub use lexical::laws::{
     a_text_lexes_in_one_way, a_text_lexes_or_has_one_fault, lexemes_are_tokens_without_places,
-    tokens_lie_in_their_text,
+    strings_stand_for_their_characters, tokens_lie_in_their_text,
 };
 pub use lexical::lexing::{LexFault, lex};
 pub use lexical::literals::{integer_at, string_at, string_value};
@@ -35,4 +36,5 @@ pub use printing::printed_texts::{
 pub use printing::printer::Printer;
 pub use printing::printing_laws::what_is_printed_is_written_as_the_same_tree;
 pub use printing::reading_back::what_is_printed_reads_back;
+pub use sharing::texts_and_trees_are_shared;
 pub use ways::source::{Halt, Source};

@@ -4,7 +4,8 @@ use Rattle.std.specs.List.{AllPass, prefix_len}
 use Rattle.std.proofs.lemmas.Bool.{eqb-true}
 use Rattle.std.proofs.lemmas.List.{drop-drop, drop_all, take-append-drop}
 use Rattle.std.proofs.lemmas.List.Elements.{All-head, All-tail}
-use Rattle.gql_base.specs.lexical.Strings.{begins_with_marks, is_plain_byte}
+use Rattle.gql_base.specs.lexical.Strings.{begins_with_marks}
+use Rattle.gql_base.specs.lexical.Scans.{is_plain_byte}
 use Rattle.gql_base.specs.lexical.Blocks.{unescaped}
 use Rattle.gql_base.proofs.LexicalLaws.Runs.{run_passes}
 use Rattle.gql_base.proofs.LexicalLaws.StringScans.{drop_head}

@@ -10,7 +10,8 @@ use Rattle.std.proofs.lemmas.List.{length-append}
 use Rattle.std.proofs.lemmas.List.Elements.{All-nil, All-cons, All-head, All-tail}
 use Rattle.std.proofs.lemmas.Str.{IsUtf8-nil, IsUtf8-append, IsUtf8-encode, encode_ascii, inside_one, encodes-chars, scalars-chars}
 use Rattle.gql_base.specs.lexical.Characters.{is_line_end, is_comment_byte}
-use Rattle.gql_base.specs.lexical.Strings.{closed_at, begins_with_marks, letter_escape, escape_with, escape_at, text_step, text_fault, text_value}
+use Rattle.gql_base.specs.lexical.Strings.{begins_with_marks, letter_escape}
+use Rattle.gql_base.specs.lexical.Scans.{closed_at, escape_with, escape_at, text_step, text_fault, text_value}
 use Rattle.gql_base.specs.printing.Printing.{escaped, all_escaped}
 use Rattle.gql_base.specs.printing.PrintableSymbols.{is_printable_byte}
 use Rattle.gql_base.proofs.LexicalLaws.Escapes.{no_escape}

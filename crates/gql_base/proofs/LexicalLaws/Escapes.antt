@@ -7,7 +7,8 @@ use Rattle.std.proofs.lemmas.Bool.Decides.{nat_tests}
 use Rattle.std.proofs.lemmas.List.{get_or-drop}
 use Rattle.gql_base.specs.declared.lexical.strings.Escape.{Escape}
 use Rattle.gql_base.specs.lexical.Characters.{is_hex, hex_value}
-use Rattle.gql_base.specs.lexical.Strings.{letter_escape, letter_at, four_digits, code_unit, is_leading, is_trailing, joined, escape_with, pair_with, code_escape, letter_or, escape_at}
+use Rattle.gql_base.specs.lexical.Strings.{letter_escape, is_leading, is_trailing, joined}
+use Rattle.gql_base.specs.lexical.Scans.{letter_at, four_digits, code_unit, escape_with, pair_with, code_escape, letter_or, escape_at}
 
 pub IsEscape : List ℕ → Escape → Type 0
 IsEscape text e = (0 < e.length) × (get_or text (e.length - 1) 0 < 128) × InScalarRange e.character

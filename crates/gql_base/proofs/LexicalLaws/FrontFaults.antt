@@ -10,11 +10,14 @@ use Rattle.gql_base.specs.declared.lexical.token.TokenKind.{TokenKind}
 use Rattle.gql_base.specs.declared.lexical.token.TokenKind.TheVariants.{Int}
 use Rattle.gql_base.specs.lexical.Characters.{is_name_start, is_blank}
 use Rattle.gql_base.specs.lexical.Numbers.{IsWhole, minus_bytes, numeral_bytes}
-use Rattle.gql_base.specs.lexical.Strings.{begins_with_mark, closing_of, fault_before}
+use Rattle.gql_base.specs.lexical.Strings.{begins_with_mark}
+use Rattle.gql_base.specs.lexical.Scans.{closing_of, fault_before}
 use Rattle.gql_base.specs.lexical.Pieces.{BeginsNothing}
-use Rattle.gql_base.specs.lexical.Faults.{BeginsWithFloat, begins_as_number, HasFaultInside, IsFaultInFront, BeginsWithFault}
+use Rattle.gql_base.specs.lexical.Closings.{HasFaultInside}
+use Rattle.gql_base.specs.lexical.Faults.{BeginsWithFloat, begins_as_number, IsFaultInFront, BeginsWithFault}
 use Rattle.gql_base.specs.lexical.Fronts.{mark_of, is_byte_order_mark, is_spread, piece_from, front_with, mark_front, found_front, number_found, integer_fits, sound_text, closed_text, text_front, front_of}
 use Rattle.gql_base.proofs.LexicalLaws.Numerals.{number_there, NumberThere, number_is, found_at}
+use Rattle.gql_base.proofs.LexicalLaws.ScannedClosings.{no_closing, never_closed, fault_inside, inside_found}
 use Rattle.gql_base.proofs.LexicalLaws.FrontPieces.{err, err_same, not_faulty, front_of_number, mark_no_number, BeginsWith, begins_with, begins_nothing}
 
 -- ---- where a float begins
@@ -66,12 +69,12 @@ number_faulty text fault (Some n) nothing start is found =
 -- ---- strings
 
 text_faulty : (text : List ℕ) (fault : LexFault) (o : Option ℕ) → begins_with_mark text ≡ true → closing_of text ≡ o → closed_text text o ≡ Err fault → BeginsWithFault text fault
-text_faulty text fault None start is found = inl (subst (IsFaultInFront text) (err_same (OpenText 0) fault found) (refl, start, is))
+text_faulty text fault None start is found = inl (subst (IsFaultInFront text) (err_same (OpenText 0) fault found) (refl, start, no_closing text is))
 text_faulty text fault (Some closing) start is found = inr (inside (fault_before closing text) refl found)
   where
     inside : (o : Option LexFault) → fault_before closing text ≡ o → sound_text text closing o ≡ Err fault → HasFaultInside text fault
     inside None none sound = absurd (not_faulty fault _ sound)
-    inside (Some other) here sound = (start, closing, is, here ∙ ap Some (err_same other fault sound))
+    inside (Some other) here sound = fault_inside text closing fault start is (here ∙ ap Some (err_same other fault sound))
 
 -- ---- other characters
 
@@ -149,14 +152,14 @@ front_fault : (text : List ℕ) (fault : LexFault) → IsFaultInFront text fault
 front_fault text (BadChar at) is = char_found text (front_of text) refl is.1 is.2 is.3 ∙ ap (λ n. err (BadChar n)) (sym is.0)
 front_fault text (BadNumber at) is =
     front_of_number text is.1 ∙ number_fault_found text (number_found text) refl is.2 is.3 (front_of_number text is.1) ∙ ap (λ n. err (BadNumber n)) (sym is.0)
-front_fault text (OpenText at) is = front_of_text text is.1 ∙ ap (closed_text text) is.2 ∙ ap (λ n. err (OpenText n)) (sym is.0)
+front_fault text (OpenText at) is = front_of_text text is.1 ∙ ap (closed_text text) (never_closed text is.1 is.2) ∙ ap (λ n. err (OpenText n)) (sym is.0)
 front_fault text (BadEscape at) is = absurd is
 front_fault text (FloatValue at) is =
     front_of_number text (float_starts text is.1) ∙ ap (found_front text) (float_found text is.1) ∙ ap (λ n. err (FloatValue n)) (sym is.0)
 front_fault text Memory is = absurd is
 
 inside_fault : (text : List ℕ) (fault : LexFault) → HasFaultInside text fault → front_of text ≡ Err fault
-inside_fault text fault is = front_of_text text is.0 ∙ ap (closed_text text) is.2 ∙ ap (sound_text text is.1) is.3
+inside_fault text fault is = let f = inside_found text fault is in front_of_text text f.1 ∙ ap (closed_text text) f.2 ∙ ap (sound_text text f.0) f.3
 
 pub fault_found : (text : List ℕ) (fault : LexFault) → BeginsWithFault text fault → front_of text ≡ Err fault
 fault_found text fault is =

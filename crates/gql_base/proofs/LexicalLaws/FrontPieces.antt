@@ -23,6 +23,8 @@ use Rattle.gql_base.specs.lexical.Fronts.{mark_of, is_byte_order_mark, is_spread
 use Rattle.gql_base.proofs.LexicalLaws.Runs.{run_is_whole, run_passes, run_stops, rest_of}
 use Rattle.gql_base.proofs.LexicalLaws.Integers.{fits_plain}
 use Rattle.gql_base.proofs.LexicalLaws.Numerals.{number_there, number_is, IntegerThere, integer_is, found_at}
+use Rattle.gql_base.proofs.LexicalLaws.ScannedStrings.{body_faultless, body_closed, body_scanned, single, ends_apart}
+use Rattle.gql_base.proofs.LexicalLaws.ScannedBlocks.{block_body_faultless, block_body_closed, block_body_scanned}
 use Rattle.gql_base.proofs.LexicalLaws.Texts.{string_there, block_there, StringThere, BlockThere, text_found_single, text_found_block}
 
 abbrev pub piece_kind : Piece → Option TokenKind
@@ -128,9 +130,9 @@ front_is (token (word (c ∷ cs))) after is ends =
     size same = ap (kind_front Name) (omega (arith, same))
 front_is (token (number bytes)) after is ends = integer_fronts bytes after is ends
 front_is (token (string body)) after is ends =
-    ap front_of (string_bytes_before body after) ∙ front_of_mark (body ++ 34 ∷ after) ∙ string_there body after ends.0 ends.1 is ∙ ap (kind_front Str) (string_size body)
+    ap front_of (string_bytes_before body after) ∙ front_of_mark (body ++ 34 ∷ after) ∙ string_there body after (body_closed is.0 body after is.1) (single is.0 body after is.1 ends) (body_faultless is.0 body is.1) ∙ ap (kind_front Str) (string_size body)
 front_is (token (block body)) after is ends =
-    ap front_of (block_bytes_before body after) ∙ front_of_mark (34 ∷ 34 ∷ (body ++ 34 ∷ 34 ∷ 34 ∷ after)) ∙ block_there body after ends is ∙ ap (kind_front BlockStr) (block_size body)
+    ap front_of (block_bytes_before body after) ∙ front_of_mark (34 ∷ 34 ∷ (body ++ 34 ∷ 34 ∷ 34 ∷ after)) ∙ block_there body after (block_body_closed is.0 body after is.1) (block_body_faultless is.0 body is.1) ∙ ap (kind_front BlockStr) (block_size body)
 front_is (token (mark Bang)) after is ends = refl
 front_is (token (mark Dollar)) after is ends = refl
 front_is (token (mark Amp)) after is ends = refl
@@ -345,12 +347,12 @@ number_begins_with text f (Some n) is found =
 
 string_begins_with : (text : List ℕ) (f : Front) → StringThere text f → BeginsWith text f
 string_begins_with text f s =
-    piece_there text s.after (token (string s.body)) f (s.cut ∙ sym (string_bytes_before s.body s.after)) s.sound (s.closed, s.single)
+    piece_there text s.after (token (string s.body)) f (s.cut ∙ sym (string_bytes_before s.body s.after)) (body_scanned s.body s.after s.sound s.closed) (ends_apart s.body s.after s.single)
     (ap (front_with (Some Str)) (sym (string_size s.body)) ∙ s.told)
 
 block_begins_with : (text : List ℕ) (f : Front) → BlockThere text f → BeginsWith text f
 block_begins_with text f s =
-    piece_there text s.after (token (block s.body)) f (s.cut ∙ sym (block_bytes_before s.body s.after)) s.sound s.closed
+    piece_there text s.after (token (block s.body)) f (s.cut ∙ sym (block_bytes_before s.body s.after)) (block_body_scanned s.body s.after s.sound s.closed) tt
     (ap (front_with (Some BlockStr)) (sym (block_size s.body)) ∙ s.told)
 
 text_begins_with : (cs : List ℕ) (f : Front) → text_front (34 ∷ cs) ≡ Ok f → BeginsWith (34 ∷ cs) f

@@ -8,7 +8,8 @@ use Rattle.std.specs.Prelude.{nat_lt}
 use Rattle.std.proofs.lemmas.Bool.Decides.{nat_tests}
 use Rattle.gql_base.specs.declared.lexical.lexing.LexFault.TheVariants.{BadChar}
 use Rattle.gql_base.specs.lexical.Characters.{is_line_end, is_block_byte}
-use Rattle.gql_base.specs.lexical.Strings.{closed_at, begins_with_marks, block_closed_at, text_step, text_fault_at, text_fault, block_fault}
+use Rattle.gql_base.specs.lexical.Strings.{begins_with_marks}
+use Rattle.gql_base.specs.lexical.Scans.{closed_at, block_closed_at, text_step, text_fault_at, text_fault, block_fault}
 
 pub drop_head : (text : List ℕ) (at : ℕ) → at < length text → drop at text ≡ get_or text at 0 ∷ drop (at + 1) text
 drop_head [] at below = absurd (omega (arith, below))

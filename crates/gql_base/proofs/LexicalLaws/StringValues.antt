@@ -8,7 +8,7 @@ use Rattle.std.proofs.lemmas.List.Elements.{All-head, All-tail}
 use Rattle.std.proofs.lemmas.List.Sums.{prefix_len_stops, prefix_len-le-length}
 use Rattle.std.proofs.lemmas.Str.{IsCharBoundary-end, IsCharBoundary-before_ascii, IsCharBoundary-after_ascii}
 use Rattle.gql_base.specs.declared.lexical.strings.Escape.{Escape}
-use Rattle.gql_base.specs.lexical.Strings.{escape_at, part_value, step_with, text_value, is_plain_byte}
+use Rattle.gql_base.specs.lexical.Scans.{escape_at, part_value, step_with, text_value, is_plain_byte}
 use Rattle.gql_base.proofs.LexicalLaws.Runs.{run_passes}
 use Rattle.gql_base.proofs.LexicalLaws.StringScans.{drop_head}
 use Rattle.gql_base.proofs.LexicalLaws.Escapes.{no_escape}

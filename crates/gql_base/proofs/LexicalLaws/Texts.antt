@@ -7,7 +7,8 @@ use Rattle.gql_base.specs.declared.lexical.lexing.Front.{Front}
 use Rattle.gql_base.specs.declared.lexical.lexing.LexFault.{LexFault}
 use Rattle.gql_base.specs.declared.lexical.token.TokenKind.TheVariants.{Str, BlockStr}
 use Rattle.gql_base.specs.lexical.Characters.{is_line_end}
-use Rattle.gql_base.specs.lexical.Strings.{closed_at, begins_with_marks, block_closed_at, text_fault, block_fault, closing_of, fault_before}
+use Rattle.gql_base.specs.lexical.Strings.{begins_with_marks}
+use Rattle.gql_base.specs.lexical.Scans.{closed_at, block_closed_at, text_fault, block_fault, closing_of, fault_before}
 use Rattle.gql_base.specs.lexical.Fronts.{front_with, sound_text, closed_text, text_front}
 
 pub record Closed (text : List ℕ) (mark : List ℕ) (at closing : ℕ) : Type 0 where
@@ -64,12 +65,12 @@ block_closed_is zero at (c ∷ cs) closing is =
 
 -- ---- what is there is found
 
-inner_string : (body after : List ℕ) → drop 1 (take (1 + length body) (34 ∷ (body ++ after))) ≡ body
+pub inner_string : (body after : List ℕ) → drop 1 (take (1 + length body) (34 ∷ (body ++ after))) ≡ body
 inner_string body after =
     let e : 1 + length body ≡ suc (length body) = omega arith in
     ap (λ k. drop 1 (take k (34 ∷ (body ++ after)))) e ∙ take_at body after (length body) refl
 
-inner_block : (body after : List ℕ) → drop 3 (take (3 + length body) (34 ∷ 34 ∷ 34 ∷ (body ++ after))) ≡ body
+pub inner_block : (body after : List ℕ) → drop 3 (take (3 + length body) (34 ∷ 34 ∷ 34 ∷ (body ++ after))) ≡ body
 inner_block body after =
     let e : 3 + length body ≡ suc (suc (suc (length body))) = omega arith in
     ap (λ k. drop 3 (take k (34 ∷ 34 ∷ 34 ∷ (body ++ after)))) e ∙ take_at body after (length body) refl

@@ -12,6 +12,7 @@ use Rattle.gql_base.specs.ways.Symbols.{Symbol, punctuator, identifier, integer,
 use Rattle.gql_base.specs.printing.Printing.{all_escaped, symbol_text, symbol_is_tight, Printed, with_space, put, put_all, printed}
 use Rattle.gql_base.specs.printing.PlacelessSymbols.{placeless_symbol}
 use Rattle.gql_base.specs.printing.PrintableSymbols.{IsTextual, IsPrintable}
+use Rattle.gql_base.proofs.LexicalLaws.ScannedStrings.{body_scanned, ends_apart}
 use Rattle.gql_base.proofs.LexicalLaws.EscapedTexts.{utf8_ascii, escaped_sound, escaped_closed, escaped_single, escaped_value, escaped_utf8}
 use Rattle.gql_base.proofs.LexicalLaws.DecimalTexts.{printed_integer, printed_integer_value, printed_integer_utf8}
 use Rattle.gql_base.proofs.WayLaws.Places.{name_is_ascii}
@@ -66,7 +67,7 @@ unfolding lexeme_for
 is_lexeme (punctuator kind) is = is.0
 is_lexeme (identifier bytes at) is = is.0
 is_lexeme (integer value) is = printed_integer value is.0
-is_lexeme (string value) is = escaped_sound value is.0 is.1
+is_lexeme (string value) is = body_scanned (all_escaped value) [] (escaped_sound value is.0 is.1) (escaped_closed value [] is.0 is.1)
 
 -- what comes after a symbol that isn't tight
 ends_at_space : (w : Symbol) (ws : Symbols) → IsPrintable w → EndsBefore (token (lexeme_for w)) (text_after true ws)
@@ -76,8 +77,8 @@ ends_at_space (identifier bytes at) [] is = tt
 ends_at_space (identifier bytes at) (v ∷ ws) is = refl
 ends_at_space (integer value) [] is = tt
 ends_at_space (integer value) (v ∷ ws) is = refl
-ends_at_space (string value) [] is = (escaped_closed value [] is.0 is.1, escaped_single value [] is.0 is.1 refl)
-ends_at_space (string value) (v ∷ ws) is = (escaped_closed value (text_after true (v ∷ ws)) is.0 is.1, escaped_single value (text_after true (v ∷ ws)) is.0 is.1 refl)
+ends_at_space (string value) [] is = ends_apart (all_escaped value) [] (escaped_single value [] is.0 is.1 refl)
+ends_at_space (string value) (v ∷ ws) is = ends_apart (all_escaped value) (text_after true (v ∷ ws)) (escaped_single value (text_after true (v ∷ ws)) is.0 is.1 refl)
 
 ends_before : (w : Symbol) (ws : Symbols) → IsPrintable w → EndsBefore (token (lexeme_for w)) (text_after (not (symbol_is_tight w)) ws)
 unfolding lexeme_for

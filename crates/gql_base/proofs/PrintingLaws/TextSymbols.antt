@@ -10,7 +10,7 @@ use Rattle.std.proofs.lemmas.List.Elements.{All-nil, All-cons}
 use Rattle.std.proofs.lemmas.Str.{IsUtf8-nil, IsUtf8-append, IsUtf8-encode, IsUtf8-take, IsUtf8-drop, IsCharBoundary-after_ascii, IsCharBoundary-before_ascii, encode_ascii, length-le-encodes}
 use Rattle.gql_base.specs.declared.lexical.strings.Escape.{Escape}
 use Rattle.gql_base.specs.declared.lexical.token.Token.{Token}
-use Rattle.gql_base.specs.lexical.Strings.{escape_at, text_value, is_plain_byte}
+use Rattle.gql_base.specs.lexical.Scans.{escape_at, text_value, is_plain_byte}
 use Rattle.gql_base.specs.lexical.Pieces.{Lexeme, word, number, string as text_lexeme, block, mark, Piece, token, byte_order_mark, blank, comment, lexeme_bytes, IsLexeme, Divides}
 use Rattle.gql_base.specs.lexical.Tokens.{Lexes}
 use Rattle.gql_base.specs.ways.Symbols.{symbols_from}

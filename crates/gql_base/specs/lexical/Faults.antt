@@ -4,7 +4,8 @@ use Rattle.gql_base.specs.declared.lexical.lexing.LexFault.{LexFault}
 use Rattle.gql_base.specs.declared.lexical.lexing.LexFault.TheVariants.{BadChar, BadNumber, OpenText, BadEscape, FloatValue, Memory}
 use Rattle.gql_base.specs.lexical.Characters.{is_number_start, follows_no_number}
 use Rattle.gql_base.specs.lexical.Numbers.{Numeral, numeral_bytes, IsNumeral, is_float}
-use Rattle.gql_base.specs.lexical.Strings.{begins_with_mark, closing_of, fault_before}
+use Rattle.gql_base.specs.lexical.Strings.{begins_with_mark}
+use Rattle.gql_base.specs.lexical.Closings.{HasClosing, HasFaultInside}
 use Rattle.gql_base.specs.lexical.Pieces.{Piece, Divides, BeginsWithout, BeginsNothing}
 
 -- a float begins the text, and isn't followed by a digit, a dot or a name
@@ -21,16 +22,12 @@ abbrev pub begins_as_number : List ℕ → Bool
 begins_as_number [] = false
 begins_as_number (c ∷ cs) = is_number_start c
 
--- a string or block string begins the text that is closed at some place, and this is the first fault before it
-abbrev pub HasFaultInside : List ℕ → LexFault → Type 0
-HasFaultInside text fault = IsTrue (begins_with_mark text) × (closing : ℕ) × (closing_of text ≡ Some closing) × (fault_before closing text ≡ Some fault)
-
 -- A fault at the text's first place: a character that begins nothing, and neither a number nor a string; a number
 -- that is neither an integer in range nor a float; a string that isn't closed; a float.
 abbrev pub IsFaultInFront : List ℕ → LexFault → Type 0
 IsFaultInFront text (BadChar at) = (at ≡ 0) × (begins_as_number text ≡ false) × (begins_with_mark text ≡ false) × BeginsNothing text
 IsFaultInFront text (BadNumber at) = (at ≡ 0) × IsTrue (begins_as_number text) × BeginsNothing text × (BeginsWithFloat text → ⊥)
-IsFaultInFront text (OpenText at) = (at ≡ 0) × IsTrue (begins_with_mark text) × (closing_of text ≡ None)
+IsFaultInFront text (OpenText at) = (at ≡ 0) × IsTrue (begins_with_mark text) × (HasClosing text → ⊥)
 IsFaultInFront text (BadEscape at) = ⊥
 IsFaultInFront text (FloatValue at) = (at ≡ 0) × BeginsWithFloat text
 IsFaultInFront text Memory = ⊥

@@ -11,7 +11,8 @@ use Rattle.gql_base.specs.declared.lexical.numbers.Found.{Found}
 use Rattle.gql_base.specs.declared.lexical.token.TokenKind.{TokenKind}
 use Rattle.gql_base.specs.declared.lexical.token.TokenKind.TheVariants.{Name, Int, Str, BlockStr, Bang, Dollar, Amp, OpenParen, CloseParen, Spread, Colon, Equals, At, OpenBracket, CloseBracket, OpenBrace, Pipe, CloseBrace}
 use Rattle.gql_base.specs.lexical.Characters.{is_name_start, is_name_continue, is_blank, is_comment_byte, is_number_start, follows_no_number, is_exponent_mark, is_sign}
-use Rattle.gql_base.specs.lexical.Strings.{begins_with_marks, closing_of, fault_before}
+use Rattle.gql_base.specs.lexical.Strings.{begins_with_marks}
+use Rattle.gql_base.specs.lexical.Scans.{closing_of, fault_before}
 
 -- the fault's place is no greater than this
 abbrev pub IsWithin : ℕ → LexFault → Type 0

@@ -6,7 +6,7 @@ use Rattle.gql_base.specs.declared.lexical.token.Token.{Token}
 use Rattle.gql_base.specs.declared.lexical.token.TokenKind.{TokenKind}
 use Rattle.gql_base.specs.declared.lexical.token.TokenKind.TheVariants.{BlockStr}
 use Rattle.gql_base.specs.declared.lexical.token.Span.{Span}
-use Rattle.gql_base.specs.lexical.Strings.{text_value}
+use Rattle.gql_base.specs.lexical.Scans.{text_value}
 use Rattle.gql_base.specs.lexical.Blocks.{block_text}
 use Rattle.gql_base.specs.lexical.Tokens.{bytes_at}
 

@@ -7,7 +7,8 @@ use Rattle.gql_base.specs.declared.lexical.token.TokenKind.{TokenKind}
 use Rattle.gql_base.specs.declared.lexical.token.TokenKind.TheVariants.{Name, Int, Str, BlockStr, Bang, Dollar, Amp, OpenParen, CloseParen, Spread, Colon, Equals, At, OpenBracket, CloseBracket, OpenBrace, Pipe, CloseBrace}
 use Rattle.gql_base.specs.lexical.Characters.{is_name_start, is_name_continue, is_blank, is_comment_byte, follows_no_number}
 use Rattle.gql_base.specs.lexical.Numbers.{IsWhole, minus_bytes}
-use Rattle.gql_base.specs.lexical.Strings.{closed_at, block_closed_at, begins_with_marks, text_fault, block_fault}
+use Rattle.gql_base.specs.lexical.Strings.{begins_with_mark, StringCharacter, IsBody}
+use Rattle.gql_base.specs.lexical.BlockStrings.{BlockCharacter, IsBlockBody}
 
 -- A token without its place: a name or an integer with its bytes, a string or a block string with what stands
 -- between its marks, or a punctuator, which its kind tells.
@@ -88,8 +89,8 @@ pub record IsInteger (bytes : List ℕ) : Type 0 where
 abbrev pub IsLexeme : Lexeme → Type 0
 IsLexeme (word bytes) = IsName bytes
 IsLexeme (number bytes) = IsInteger bytes
-IsLexeme (string body) = text_fault 0 1 body ≡ None
-IsLexeme (block body) = block_fault 3 body ≡ None
+IsLexeme (string body) = (characters : List StringCharacter) × IsBody characters body
+IsLexeme (block body) = (characters : List BlockCharacter) × IsBlockBody characters body
 IsLexeme (mark kind) = 0 < length (mark_bytes kind)
 
 abbrev pub IsPiece : Piece → Type 0
@@ -104,14 +105,13 @@ BeginsWithout test [] = Unit {0}
 BeginsWithout test (c ∷ cs) = test c ≡ false
 
 -- The piece ends where it must, with this after it: a name isn't followed by a name character, an integer by a
--- digit, a dot or a name, or a comment by what it may hold. A string ends with the first mark that closes it,
--- and isn't the beginning of a block string, which ends with the first three marks that close it.
+-- digit, a dot or a name, or a comment by what it may hold. An empty string isn't followed by a mark, which would make
+-- it the beginning of a block string.
 abbrev pub EndsBefore : Piece → List ℕ → Type 0
 EndsBefore (token (word bytes)) after = BeginsWithout is_name_continue after
 EndsBefore (token (number bytes)) after = BeginsWithout follows_no_number after
-EndsBefore (token (string body)) after =
-    (closed_at false 1 (body ++ 34 ∷ after) ≡ Some (1 + length body)) × (begins_with_marks (34 ∷ (body ++ 34 ∷ after)) ≡ false)
-EndsBefore (token (block body)) after = block_closed_at 0 3 (body ++ 34 ∷ 34 ∷ 34 ∷ after) ≡ Some (3 + length body)
+EndsBefore (token (string body)) after = body ≡ [] → begins_with_mark after ≡ false
+EndsBefore (token (block body)) after = Unit {0}
 EndsBefore (token (mark kind)) after = Unit {0}
 EndsBefore byte_order_mark after = Unit {0}
 EndsBefore (blank byte) after = Unit {0}

@@ -2,6 +2,10 @@
 
 ghost use Rattle.std.specs.Prelude.{◌≡◌, ◌⊎◌, ℕ, ◌<◌, ◌≤◌, List, All, length, map, IsUtf8, IsCharBoundary};
 ghost use Rattle.gql_base.specs.declared.lexical.token.Token.{Token};
+ghost use Rattle.gql_base.specs.lexical.Strings.{StringCharacter, IsBody, characters_value};
+ghost use Rattle.gql_base.specs.lexical.BlockStrings.{BlockCharacter, IsBlockBody, block_characters_value};
+ghost use Rattle.gql_base.specs.lexical.Blocks.{unescaped};
+ghost use Rattle.gql_base.specs.lexical.Scans.{text_value};
 ghost use Rattle.gql_base.specs.lexical.Pieces.{Lexeme};
 ghost use Rattle.gql_base.specs.declared.lexical.lexing.LexFault.{LexFault};
 ghost use Rattle.gql_base.specs.declared.lexical.lexing.LexFault.TheVariants.{Memory};
@@ -33,4 +37,11 @@ pub fn tokens_lie_in_their_text()
     ensures in_order { (text : List ℕ) (tokens : List Token) → Lexes text tokens → AreInOrder 0 (length text) tokens }
     ensures within { (text : List ℕ) (tokens : List Token) → Lexes text tokens → All (λ token. (token.span.start < token.span.end) × (token.span.end ≤ length text)) tokens }
     ensures at_borders { (text : List ℕ) (tokens : List Token) → IsUtf8 text → Lexes text tokens → All (λ token. IsCharBoundary text token.span.start × IsCharBoundary text token.span.end) tokens }
+{}
+
+/// The value of a string is what its characters stand for, one after the other. That of a block string is made of the
+/// lines of what its characters stand for.
+pub fn strings_stand_for_their_characters()
+    ensures strings { (characters : List StringCharacter) (body : List ℕ) → IsBody characters body → text_value 0 body ≡ characters_value characters }
+    ensures blocks { (characters : List BlockCharacter) (body : List ℕ) → IsBlockBody characters body → unescaped body ≡ block_characters_value characters }
 {}

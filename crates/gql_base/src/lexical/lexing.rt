@@ -18,25 +18,32 @@ use crate::lexical::numbers::{integer_fits, is_number_start, number_found};
 use crate::lexical::strings::{begins_with_marks, closing_of, fault_before};
 use crate::lexical::token::{Span, Token, TokenKind};
 use std::alloc::{AllocFailed, Global};
+use thiserror::Error;
 
 /// Why a text has no tokens. Places are bytes, counted from the start of the text. All before the fault is
 /// tokens and what is ignored between them.
-#[derive(Clone, Copy, Debug, PartialEq, Eq)]
+#[derive(Clone, Copy, Debug, PartialEq, Eq, Error)]
 pub enum LexFault {
     /// The character whose first byte is at `at` begins no token and isn't ignored, or it is a control
     /// character inside a string. `.` and `..` begin no token.
+    #[error("no token begins with the character at byte {at}")]
     BadChar { at: usize },
     /// A digit or `-` at `at` begins neither an integer nor a float, or an integer outside the range of 128
     /// bits.
+    #[error("the number at byte {at} is neither an integer of 128 bits nor a float")]
     BadNumber { at: usize },
     /// The string or block string that begins at `at` isn't closed.
+    #[error("the string at byte {at} isn't closed")]
     OpenText { at: usize },
     /// The `\` at `at`, inside a string, begins no escape, or it begins that of a surrogate without its other
     /// half.
+    #[error("the escape at byte {at} stands for no character")]
     BadEscape { at: usize },
     /// A float begins at `at`.
+    #[error("a float stands at byte {at}")]
     FloatValue { at: usize },
     /// There was no memory for the tokens.
+    #[error("there was not enough memory for the tokens")]
     Memory,
 }
 

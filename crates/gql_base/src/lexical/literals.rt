@@ -3,7 +3,7 @@
 ghost use Rattle.std.specs.Prelude.{◌≡◌, ◌+◌, ◌≤◌, length, drop, IfOk};
 ghost use Rattle.std.specs.List.{prefix_len};
 ghost use Rattle.std.specs.Char.{InScalarRange};
-ghost use Rattle.gql_base.specs.lexical.Strings.{text_value, is_plain_byte};
+ghost use Rattle.gql_base.specs.lexical.Scans.{text_value, is_plain_byte};
 ghost use Rattle.gql_base.specs.lexical.Literals.{integer_of, integer_value, inner_span, mark_length, marked_value, string_of};
 
 use crate::lexical::blocks::block_value;

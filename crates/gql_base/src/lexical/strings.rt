@@ -7,7 +7,8 @@ ghost use Rattle.std.specs.Option.{IsSome};
 ghost use Rattle.std.specs.Bool.{OnTrue};
 ghost use Rattle.gql_base.specs.lexical.Characters.{is_comment_byte, is_line_end, is_block_byte};
 ghost use Rattle.gql_base.specs.lexical.Fronts.{IsWithin, mark_size};
-ghost use Rattle.gql_base.specs.lexical.Strings.{closed_at, begins_with_marks, block_closed_at, letter_escape, letter_at, four_digits, code_unit, is_leading, is_trailing, joined, pair_with, code_escape, escape_at, byte_step, step_with, text_step, text_fault_at, text_fault, block_fault, closing_of, fault_before};
+ghost use Rattle.gql_base.specs.lexical.Strings.{begins_with_marks, letter_escape, is_leading, is_trailing, joined};
+ghost use Rattle.gql_base.specs.lexical.Scans.{closed_at, block_closed_at, letter_at, four_digits, code_unit, pair_with, code_escape, escape_at, byte_step, step_with, text_step, text_fault_at, text_fault, block_fault, closing_of, fault_before};
 
 use crate::lexical::characters::{hex_value, is_block_byte, is_comment_byte, is_hex, is_line_end};
 use crate::lexical::lexing::LexFault;
@@ -247,7 +248,7 @@ fn code_escape(unit: Option<u32>, next: Option<u32>) -> Option<Escape>
 }
 
 /// The escape at the front, if one begins there.
-#[tactic(auto, unfolding(crate::specs::lexical::Strings::escape_at))]
+#[tactic(auto, unfolding(crate::specs::lexical::Scans::escape_at))]
 pub fn escape_at(bytes: &[u8]) -> Option<Escape>
     ensures escape { result ≡ escape_at bytes.now }
     ensures within { IfSome result (λ escape. (0 < escape.length) × (escape.length ≤ length bytes.now)) }
@@ -280,7 +281,7 @@ fn byte_step(bytes: &[u8]) -> usize
 }
 
 /// How many bytes the escape or the byte at the front has, 0 where it is a fault.
-#[tactic(auto, unfolding(crate::specs::lexical::Strings::text_step))]
+#[tactic(auto, unfolding(crate::specs::lexical::Scans::text_step))]
 fn text_step(bytes: &[u8]) -> usize
     ensures size { result ≡ text_step bytes.now }
     ensures within { result ≤ length bytes.now }

@@ -16,18 +16,22 @@ use crate::parts::types::type_reference;
 use crate::parts::values::value;
 use crate::ways::source::{Halt, Source};
 use std::alloc::Global;
+use thiserror::Error;
 
 /// The number of levels that may be open at once: selection sets, lists, objects and list types.
 pub const LEVEL_LIMIT: usize = 50;
 
 /// Why no value or type is read.
-#[derive(Clone, Copy, Debug, PartialEq, Eq)]
+#[derive(Clone, Copy, Debug, PartialEq, Eq, Error)]
 pub enum ValueFault {
     /// The first token with which no value goes on begins at `at`; there is none, and `at` is the text's length.
+    #[error("no value or type goes on with what stands at byte {at}")]
     Unexpected { at: usize },
     /// The token at `at` opens a level above the limit.
+    #[error("more than {LEVEL_LIMIT} levels are open at byte {at}")]
     TooDeep { at: usize },
     /// There was no memory for the value.
+    #[error("there was not enough memory for the value")]
     Memory,
 }
 

@@ -1,7 +1,8 @@
 use Rattle.std.proofs.Common.{◌≡◌, ◌+◌, ◌-◌, ◌++◌, ◌∷◌, [], ◌&&◌, ◌==◌, true, false, ◌∙◌, sym, ap, arith, length, drop, take, get_or, string_bytes}
 use Rattle.std.specs.List.{prefix_len}
 use Rattle.std.proofs.lemmas.Str.{IsCharBoundary-start}
-use Rattle.gql_base.specs.lexical.Strings.{begins_with_marks, is_plain_byte}
+use Rattle.gql_base.specs.lexical.Strings.{begins_with_marks}
+use Rattle.gql_base.specs.lexical.Scans.{is_plain_byte}
 use Rattle.gql_base.specs.lexical.Blocks.{unescaped}
 use Rattle.gql_base.proofs.LexicalLaws.StringValues.{border_of_run, border_of_escape, added, nothing_added}
 use Rattle.gql_base.proofs.LexicalLaws.BlockMarks.{copy_of_marks, copy_of_run, copy_of_none, mark_is_ascii, both_are}

@@ -3,7 +3,7 @@ use Rattle.std.specs.Char.{encode_utf8}
 use Rattle.std.specs.List.{prefix_len}
 use Rattle.std.proofs.lemmas.List.{length-drop}
 use Rattle.std.proofs.lemmas.Str.{IsCharBoundary-start}
-use Rattle.gql_base.specs.lexical.Strings.{escape_at, text_value, is_plain_byte}
+use Rattle.gql_base.specs.lexical.Scans.{escape_at, text_value, is_plain_byte}
 use Rattle.gql_base.proofs.LexicalLaws.Escapes.{escape_scalar, escape_some, escape_last}
 use Rattle.gql_base.proofs.LexicalLaws.StringValues.{value_of_escape, value_of_run, value_of_none, border_of_run, border_of_escape, added, nothing_added}
 use Rattle.gql_base.proofs.lexical.literals.string_value.Goals as goal

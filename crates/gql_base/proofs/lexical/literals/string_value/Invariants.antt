@@ -1,5 +1,5 @@
 use Rattle.std.proofs.Common.{length, ◌-◌, ◌≡◌, ◌++◌, drop, IsCharBoundary, string_bytes}
-use Rattle.gql_base.specs.lexical.Strings.{text_value}
+use Rattle.gql_base.specs.lexical.Scans.{text_value}
 use Rattle.gql_base.proofs.lexical.literals.string_value.Given as goal
 
 -- the value so far and that of what is left are the whole value

@@ -1,5 +1,5 @@
 use Rattle.std.proofs.Common.{length, ◌-◌, ◌≡◌, drop}
-use Rattle.gql_base.specs.lexical.Strings.{block_closed_at}
+use Rattle.gql_base.specs.lexical.Scans.{block_closed_at}
 use Rattle.gql_base.proofs.lexical.strings.block_closing.Given as goal
 
 abbrev pub invariant-loop-at : goal.invariant-loop-at

@@ -1,5 +1,5 @@
 use Rattle.std.proofs.Common.{◌+◌, ◌∙◌, sym, ap, arith, drop}
-use Rattle.gql_base.specs.lexical.Strings.{closed_at}
+use Rattle.gql_base.specs.lexical.Scans.{closed_at}
 use Rattle.gql_base.proofs.LexicalLaws.StringScans.{string_breaks, string_goes_on, string_stays_open, closes_unescaped}
 use Rattle.gql_base.proofs.lexical.strings.string_closing.Goals as goal
 

@@ -1,5 +1,5 @@
 use Rattle.std.proofs.Common.{length, ◌-◌, ◌≡◌, false, drop}
-use Rattle.gql_base.specs.lexical.Strings.{closed_at}
+use Rattle.gql_base.specs.lexical.Scans.{closed_at}
 use Rattle.gql_base.proofs.lexical.strings.string_closing.Given as goal
 
 abbrev pub invariant-loop-at : goal.invariant-loop-at

@@ -1,5 +1,5 @@
 use Rattle.std.proofs.Common.{◌∙◌, sym, ap, arith, Some}
-use Rattle.gql_base.specs.lexical.Strings.{text_step}
+use Rattle.gql_base.specs.lexical.Scans.{text_step}
 use Rattle.gql_base.proofs.LexicalLaws.StringScans.{text_fault_found, text_fault_later, text_fault_nowhere, zero_test, more_test}
 use Rattle.gql_base.proofs.lexical.strings.text_fault.Goals as goal
 

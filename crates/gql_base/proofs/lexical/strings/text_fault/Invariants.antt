@@ -1,5 +1,5 @@
 use Rattle.std.proofs.Common.{length, ◌-◌, ◌≡◌, drop}
-use Rattle.gql_base.specs.lexical.Strings.{text_fault}
+use Rattle.gql_base.specs.lexical.Scans.{text_fault}
 use Rattle.gql_base.proofs.lexical.strings.text_fault.Given as goal
 
 abbrev pub invariant-loop-at : goal.invariant-loop-at

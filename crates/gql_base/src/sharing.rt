@@ -1,0 +1,23 @@
+//! What threads may share.
+
+use crate::lexical::lexing::LexFault;
+use crate::lexical::text::Text;
+use crate::lexical::token::Token;
+use crate::parts::readers::ValueFault;
+use crate::parts::trees::{Argument, Directive, Name, OperationKind, TypeRef, Value};
+
+fn is_shared<T: Send + Sync>() {}
+
+/// Threads may share texts, tokens, the trees of values, types and directives, and the faults of texts.
+pub fn texts_and_trees_are_shared() {
+    is_shared::<Text>();
+    is_shared::<Token>();
+    is_shared::<Name>();
+    is_shared::<Value>();
+    is_shared::<Argument>();
+    is_shared::<Directive>();
+    is_shared::<TypeRef>();
+    is_shared::<OperationKind>();
+    is_shared::<LexFault>();
+    is_shared::<ValueFault>();
+}
