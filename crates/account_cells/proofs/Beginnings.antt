@@ -4,7 +4,7 @@ use Rattle.std.proofs.lemmas.List.{append-nil}
 use Rattle.std.proofs.lemmas.Bool.{cases_Bool, cond_both, eq-eqb, leb-true, leb-false}
 use Rattle.account_core.specs.Machine.{Entry}
 use Rattle.account_core.specs.History.{entries_by, StartsWith}
-use Rattle.account_core.proofs.Histories.{entries_by-append}
+use Rattle.account_core.proofs.Histories.{same_head, same_tail, entries_by-append}
 use Rattle.account_cells.specs.Views.{EndedCaller, longer_of, shorter_of}
 use Rattle.account_cells.specs.Rule.{KeepsEnded}
 
@@ -19,29 +19,13 @@ none_in_beginning name history seen b h =
     let n : length (entries_by name seen) + length (entries_by name b.0) ≡ 0 = sym (length-append (entries_by name seen) (entries_by name b.0)) ∙ ap (λ (l : List Entry). length l) all in
     no_entries (entries_by name seen) (omega (arith, n))
 
-pub front_or : Entry → List Entry → Entry
-front_or d [] = d
-front_or d (x ∷ xs) = x
-
-pub behind : List Entry → List Entry
-behind [] = []
-behind (x ∷ xs) = xs
-
-pub same_front : (x y : Entry) (xs ys : List Entry) → x ∷ xs ≡ y ∷ ys → x ≡ y
-unfolding front_or
-same_front x y xs ys e = ap (front_or x) e
-
-pub same_behind : (x y : Entry) (xs ys : List Entry) → x ∷ xs ≡ y ∷ ys → xs ≡ ys
-unfolding behind
-same_behind x y xs ys e = ap behind e
-
 -- of two beginnings of one list the shorter is a beginning of the longer
 pub beginnings_nest : (xs ys r s : List Entry) → xs ++ r ≡ ys ++ s → length ys ≤ length xs → StartsWith xs ys
 beginnings_nest xs [] r s e l = (xs, refl)
 beginnings_nest [] (y ∷ ys) r s e l = absurd (omega arith)
 beginnings_nest (x ∷ xs) (y ∷ ys) r s e l =
-    let h = beginnings_nest xs ys r s (same_behind x y (xs ++ r) (ys ++ s) e) (omega arith) in
-    (h.0, λ i. same_front x y (xs ++ r) (ys ++ s) e i ∷ h.1 i)
+    let h = beginnings_nest xs ys r s (same_tail x y (xs ++ r) (ys ++ s) e) (omega arith) in
+    (h.0, λ i. same_head x y (xs ++ r) (ys ++ s) e i ∷ h.1 i)
 
 -- where a beginning has all the entries of a name, a longer one has just them
 pub longer_has_all : (name : ℕ) (history xs ys own : List Entry) → StartsWith history xs → StartsWith history ys → length xs ≤ length ys → entries_by name history ≡ own → entries_by name xs ≡ own → entries_by name ys ≡ own

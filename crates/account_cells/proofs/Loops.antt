@@ -1,5 +1,5 @@
 -- What a caller has learnt by looks alone, and what its one call adds.
-use Rattle.std.proofs.Common.{◌≡◌, ℕ, ◌+◌, ◌≤◌, ◌<◌, List, [], ◌∷◌, ◌++◌, Bool, true, false, not, refl, sym, ap, ◌∙◌, subst, arith, append_assoc, le_trans, Some}
+use Rattle.std.proofs.Common.{◌≡◌, ℕ, ◌+◌, ◌≤◌, ◌<◌, List, [], ◌∷◌, ◌++◌, refl, sym, ap, ◌∙◌, subst, arith, append_assoc, le_trans, Some}
 use Rattle.std.proofs.lemmas.List.{append-nil}
 use Rattle.cost_num.specs.declared.Cost.{Cost}
 use Rattle.account_core.specs.declared.Limit.{Limit}
@@ -73,14 +73,6 @@ look_refuses limit number window bound left words v u w is looks look replied =
 pub look_keeps_limit : (limit : Limit) (number window : ℕ) (bound : Cost) (words : List ℕ) (v u w : View) → IsFor limit v → OnlyLooks v u → LooksFor number window bound u words words w
     → KeepsLimit limit (account_from words)
 look_keeps_limit limit number window bound words v u w is looks look = subst (λ l. KeepsLimit l (account_from words)) (looks_for_same limit v u looks is).1 look.0
-
-pub not_granted : (b : Bool) → not b ≡ true → b ≡ false
-not_granted true h = sym h
-not_granted false h = refl
-
-pub is_granted : (b : Bool) → not b ≡ false → b ≡ true
-is_granted true h = refl
-is_granted false h = sym h
 
 -- ---- after a call
 

@@ -1,5 +1,6 @@
 -- What is carried into a window, in a history that grows: the window's first grant fixes it.
 use Rattle.std.proofs.Common.{◌≡◌, ℕ, zero, suc, Bool, true, false, true≢false, ◌||◌, cond, List, [], ◌∷◌, ◌++◌, refl, sym, ap, ◌∙◌}
+use Rattle.std.proofs.Math.Bool.{or-false}
 use Rattle.std.proofs.lemmas.List.Folds.{list_any-append}
 use Rattle.cost_num.specs.declared.Cost.{Cost}
 use Rattle.account_core.specs.declared.Limit.{Limit}
@@ -7,17 +8,13 @@ use Rattle.account_core.specs.Costs.{nothing, together}
 use Rattle.account_core.specs.Machine.{Entry}
 use Rattle.account_core.specs.Sums.{opens_window, is_opened, before_opened, spent_in, open_in, handed_on, carried_in}
 
-plain_or : (a : Bool) → (a || false) ≡ a
-plain_or true = refl
-plain_or false = refl
-
 pub is_opened-push : (window : ℕ) (h : List Entry) (e : Entry) → is_opened window (h ++ e ∷ []) ≡ (is_opened window h || opens_window window e.call e.reply)
 is_opened-push window h e =
-    list_any-append (λ (x : Entry). opens_window window x.call x.reply) h (e ∷ []) ∙ ap (λ t. is_opened window h || t) (plain_or (opens_window window e.call e.reply))
+    list_any-append (λ (x : Entry). opens_window window x.call x.reply) h (e ∷ []) ∙ ap (λ t. is_opened window h || t) (or-false (opens_window window e.call e.reply))
 
 -- an entry that grants nothing opens no window
 pub is_opened-idle : (h : List Entry) (e : Entry) → ((window : ℕ) → opens_window window e.call e.reply ≡ false) → (window : ℕ) → is_opened window (h ++ e ∷ []) ≡ is_opened window h
-is_opened-idle h e opens_none window = is_opened-push window h e ∙ (ap (λ t. is_opened window h || t) (opens_none window) ∙ plain_or (is_opened window h))
+is_opened-idle h e opens_none window = is_opened-push window h e ∙ (ap (λ t. is_opened window h || t) (opens_none window) ∙ or-false (is_opened window h))
 
 -- ---- the history before a window is opened
 

@@ -1,7 +1,8 @@
 use Rattle.std.proofs.Common.{refl, ◌∙◌}
+use Rattle.std.proofs.lemmas.Bool.{not-true, not-false}
 use Rattle.crossbeam_utils.specs.Seq.{cell_view}
 use Rattle.account_core.specs.Machine.{reservation, granted}
-use Rattle.account_cells.proofs.Loops.{looks_none, looks_again, calls_after_looks, look_before_grant, look_refuses, not_granted, is_granted}
+use Rattle.account_cells.proofs.Loops.{looks_none, looks_again, calls_after_looks, look_before_grant, look_refuses}
 use Rattle.account_cells.proofs.reserve.Goals as goal
 
 pub loop-init : goal.loop-init
@@ -9,7 +10,7 @@ loop-init g c = (tt, tt, (refl, refl), looks_none (cell_view c.args.pass.now) c.
 
 pub returns-then-not-decision-clause-call : goal.returns-then-not-decision-clause-call
 returns-then-not-decision-clause-call g c =
-    let refused = c.decide-decision.ensures.1 (not_granted c.decide-decision.result.granted c.if-not-decision.true) in (
+    let refused = c.decide-decision.ensures.1 (not-true c.decide-decision.result.granted c.if-not-decision.true) in (
       c.look_or_refuse-found.result,
       look_refuses c.args.limit c.args.number c.args.window c.args.bound c.decide-decision.result.left c.look_or_refuse-found.result
           (cell_view c.args.pass.now) (cell_view c.loop.pass) (cell_view c.look_or_refuse-found.new.pass) c.requires.ready c.loop.invariant.3 c.look_or_refuse-found.ensures.seen refused,
@@ -17,7 +18,7 @@ returns-then-not-decision-clause-call g c =
 
 pub returns-then-try_grant-clause-call : goal.returns-then-try_grant-clause-call
 returns-then-try_grant-clause-call g c =
-    let covered = (c.decide-decision.ensures.0 (is_granted c.decide-decision.result.granted c.if-not-decision.false)).0 in
+    let covered = (c.decide-decision.ensures.0 (not-false c.decide-decision.result.granted c.if-not-decision.false)).0 in
     let looks = look_before_grant c.args.limit c.args.number c.args.window c.decide-decision.result.at c.args.bound c.look_or_refuse-found.result
     (cell_view c.args.pass.now) (cell_view c.loop.pass) (cell_view c.look_or_refuse-found.new.pass) c.requires.ready c.loop.invariant.3 c.look_or_refuse-found.ensures.seen covered in (
       c.look_or_refuse-found.result,
@@ -30,7 +31,7 @@ loop-preserved g c =
     let before = c.loop.invariant.2 in
     let look = c.look_or_refuse-found.ensures.cell in
     let try = c.try_grant.ensures.cell in
-    let covered = (c.decide-decision.ensures.0 (is_granted c.decide-decision.result.granted c.if-not-decision.false)).0 in
+    let covered = (c.decide-decision.ensures.0 (not-false c.decide-decision.result.granted c.if-not-decision.false)).0 in
     let looks = look_before_grant c.args.limit c.args.number c.args.window c.decide-decision.result.at c.args.bound c.look_or_refuse-found.result
     (cell_view c.args.pass.now) (cell_view c.loop.pass) (cell_view c.look_or_refuse-found.new.pass) c.requires.ready c.loop.invariant.3 c.look_or_refuse-found.ensures.seen covered in
     let lost = c.try_grant.ensures.lost c.if-try_grant.false in (

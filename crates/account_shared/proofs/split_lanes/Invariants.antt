@@ -1,0 +1,8 @@
+use Rattle.std.proofs.Common.{◌≡◌, ◌≤◌, length}
+use Rattle.std.specs.Prelude.{vec_len, vec_capacity}
+use Rattle.account_shared.proofs.Splitting.{SplitTo}
+use Rattle.account_shared.proofs.split_lanes.Given as goal
+
+abbrev pub invariant-loop-at : goal.invariant-loop-at
+invariant-loop-at l =
+    SplitTo l.at l.fn.lanes.items l.lanes.items l.into.items × (vec_len l.fn.lanes ≤ vec_capacity l.into) × (vec_len l.into ≡ l.at) × (l.at-end ≡ length l.fn.lanes.items) × (l.at ≤ l.at-end)
