@@ -121,7 +121,7 @@ fn definitions_are_read(rt: HostRuntime) -> Result<(), Fail> {
         ),
         (
             "\"\"\" d \"\"\" schema {query: schema}",
-            "'d' @0 Query:schema;",
+            "' d ' @0 Query:schema;",
         ),
         ("scalar A @a @b(c: {d: [1]})", "A@2 scalar;"),
         (
