@@ -3,6 +3,7 @@
 #![tactic(auto)]
 
 mod lexical;
+mod names;
 mod parts;
 mod printing;
 mod sharing;
@@ -17,6 +18,9 @@ pub use lexical::lexing::{LexFault, lex};
 pub use lexical::literals::{integer_at, string_at, string_value};
 pub use lexical::text::Text;
 pub use lexical::token::{Span, Token, TokenKind};
+pub use names::index::{NameIndex, index_of};
+pub use names::laws::distinct_names_stand_once;
+pub use names::named::Named;
 pub use parts::arguments::{directives, maybe_arguments, maybe_default, operation_kind};
 pub use parts::fault_laws::a_value_has_one_fault;
 pub use parts::readers::{LEVEL_LIMIT, ValueFault, read_type_ref, read_value};

@@ -1,18 +1,17 @@
 -- Bytes are block string characters exactly where scanning finds no fault among them and the first three marks after them
 -- close.
-use Rattle.std.proofs.Common.{ℕ, zero, suc, ◌+◌, ◌≡◌, ◌≤◌, inl, inr, Bool, true, false, List, [], ◌∷◌, ◌++◌, Option, None, Some, length, refl, sym, ap, ◌∙◌, subst, arith, append_assoc}
+use Rattle.std.proofs.Common.{ℕ, zero, suc, ◌+◌, ◌≡◌, ◌≤◌, inl, inr, Bool, true, false, List, [], ◌∷◌, ◌++◌, None, Some, length, refl, sym, ap, ◌∙◌, arith}
 use Rattle.std.specs.Prelude.{◌==◌, ◌&&◌, nat_lt, if◌then◌else◌}
-use Rattle.std.specs.List.{prefix_len, flat_map}
-use Rattle.std.proofs.lemmas.Bool.{cases_Bool, cases_lt, eqb-true, and_parts}
+use Rattle.std.specs.List.{prefix_len}
+use Rattle.std.proofs.lemmas.Bool.{cases_Bool, eqb-true, and_parts}
 use Rattle.std.proofs.lemmas.Bool.Decides.{nat_tests}
-use Rattle.std.proofs.lemmas.List.{length-append}
 use Rattle.std.proofs.lemmas.List.Sums.{prefix_len-le-length}
-use Rattle.gql_base.specs.declared.lexical.lexing.LexFault.{LexFault}
 use Rattle.gql_base.specs.lexical.Characters.{is_block_byte}
 use Rattle.gql_base.specs.lexical.Strings.{begins_with_marks}
 use Rattle.gql_base.specs.lexical.Scans.{block_closed_at, block_fault, block_fault_after}
 use Rattle.gql_base.specs.lexical.Blocks.{unescaped}
-use Rattle.gql_base.specs.lexical.BlockStrings.{BlockCharacter, escaped_marks, other, marks, block_character_bytes, block_characters_bytes, begins_no_marks, AreApart, AreBlockCharacters, IsBlockBody, block_characters_value}
+use Rattle.gql_base.specs.lexical.BlockStrings.{BlockCharacter, escaped_marks, other, marks, block_characters_bytes, AreApart, AreBlockCharacters, IsBlockBody, block_characters_value}
+use Rattle.gql_base.proofs.LexicalLaws.Runs.{some_is}
 
 -- ---- characters are scanned
 
@@ -62,9 +61,6 @@ pub record BlockCut (body : List ℕ) : Type 0 where
   pub cs : List BlockCharacter
   pub cut : body ≡ block_characters_bytes cs
   pub apart : AreApart cs
-
-some_is : {A : Type 0} (x y : A) → Some x ≡ Some y → x ≡ y
-some_is x y same = cc
 
 -- the closing marks don't stand before the place that is looked at
 closed_later : (n at k : ℕ) (xs : List ℕ) → block_closed_at n at xs ≡ Some k → at + n ≤ k

@@ -1,17 +1,17 @@
 -- Bytes are string characters exactly where scanning finds no fault among them and the first mark after them closes; and
 -- scanning finds what the characters stand for.
-use Rattle.std.proofs.Common.{ℕ, zero, suc, ◌+◌, ◌-◌, ◌≡◌, ◌≤◌, ◌<◌, inl, inr, Bool, true, false, List, [], ◌∷◌, ◌++◌, Option, None, Some, length, drop, refl, sym, ap, ◌∙◌, subst, arith, append_assoc, append-nil}
-use Rattle.std.specs.Prelude.{◌==◌, ◌&&◌, ◌||◌, not, if◌then◌else◌}
-use Rattle.std.specs.List.{flat_map}
+use Rattle.std.proofs.Common.{ℕ, zero, suc, ◌+◌, ◌≡◌, ◌≤◌, ◌<◌, inl, inr, true, false, List, [], ◌∷◌, ◌++◌, Option, None, Some, length, drop, refl, sym, ap, ◌∙◌, subst, arith, append_assoc, append-nil}
+use Rattle.std.specs.Prelude.{◌==◌, ◌&&◌, not}
 use Rattle.std.proofs.lemmas.Bool.{cases_Bool, eqb-true, eq-eqb, and_parts}
 use Rattle.std.proofs.lemmas.Bool.Decides.{nat_tests}
 use Rattle.std.proofs.lemmas.List.{length-append}
 use Rattle.gql_base.specs.declared.lexical.strings.Escape.{Escape}
-use Rattle.gql_base.specs.lexical.Characters.{is_comment_byte, is_line_end, is_hex, hex_value}
-use Rattle.gql_base.specs.lexical.Scans.{closed_at, letter_at, letter_or, four_digits, code_unit, code_escape, pair_with, escape_with, escape_at, step_with, text_step, text_fault, text_value}
+use Rattle.gql_base.specs.lexical.Characters.{is_comment_byte, is_line_end, is_hex}
+use Rattle.gql_base.specs.lexical.Scans.{closed_at, letter_at, letter_or, four_digits, code_unit, code_escape, pair_with, escape_with, escape_at, text_step, text_fault, text_value}
 use Rattle.gql_base.specs.lexical.Strings.{begins_with_mark, begins_with_marks, letter_escape, is_leading, is_trailing, joined, FourDigits, StringCharacter, plain, letter, unit, surrogates, unit_bytes, character_bytes, are_hex, number_of, is_plain, IsCharacter, AreCharacters, characters_bytes, IsBody, letter_value, character_value, characters_value}
 use Rattle.gql_base.proofs.LexicalLaws.Escapes.{no_escape}
 use Rattle.gql_base.proofs.LexicalLaws.EscapedTexts.{alone_sound, alone_open}
+use Rattle.gql_base.proofs.LexicalLaws.Runs.{some_is, not_some}
 
 -- ---- the escape that a character is
 
@@ -145,12 +145,6 @@ record Unit4 (text : List ℕ) (n : ℕ) : Type 0 where
   cut : text ≡ unit_bytes digits ++ rest
   hex : are_hex digits ≡ true
   value : number_of digits ≡ n
-
-some_is : {A : Type 0} (x y : A) → Some x ≡ Some y → x ≡ y
-some_is x y same = cc
-
-not_some : {A : Type 0} (x : A) → None ≡ Some x → ⊥
-not_some x same = cc
 
 digits_in : (rest : List ℕ) (n : ℕ) → four_digits rest ≡ Some n → Unit4 (92 ∷ 117 ∷ rest) n
 digits_in [] n found = absurd (not_some n found)

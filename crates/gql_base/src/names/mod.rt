@@ -1,0 +1,5 @@
+//! Things that are found by their names.
+
+pub mod index;
+pub mod laws;
+pub mod named;
