@@ -40,5 +40,5 @@ pub use printing::printed_texts::{
 pub use printing::printer::Printer;
 pub use printing::printing_laws::what_is_printed_is_written_as_the_same_tree;
 pub use printing::reading_back::what_is_printed_reads_back;
-pub use sharing::texts_and_trees_are_shared;
+pub use sharing::{an_index_is_shared, texts_and_trees_are_shared};
 pub use ways::source::{Halt, Source};

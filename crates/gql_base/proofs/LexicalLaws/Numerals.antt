@@ -16,13 +16,10 @@ use Rattle.gql_base.specs.lexical.Pieces.{BeginsWithout}
 use Rattle.gql_base.specs.lexical.Fronts.{bind, passes, is_minus, is_zero, is_dot, digits_end, minus_end, whole_end, fraction_end, sign_end, exponent_end, found_with, number_from, number_found, integer_fits, front_with, found_front}
 use Rattle.gql_base.specs.declared.lexical.token.TokenKind.TheVariants.{Int}
 use Rattle.gql_base.specs.declared.lexical.lexing.LexFault.TheVariants.{BadNumber}
-use Rattle.gql_base.proofs.LexicalLaws.Runs.{run_is_whole, run_passes, rest_after, some_is, lt_true, lt_false}
+use Rattle.gql_base.proofs.LexicalLaws.Runs.{run_is_whole, run_passes, rest_after, some_is, lt_true, lt_false, lt_is}
 use Rattle.gql_base.proofs.LexicalLaws.StringScans.{drop_head}
 
 -- ---- the byte at a place
-
-lt_is : (m n : ℕ) → nat_lt m n ≡ true → m < n
-lt_is m n is = grind (arith, nat_tests)
 
 passes_true : (test : ℕ → Bool) (text : List ℕ) (at : ℕ) → passes test text at ≡ true → (at < length text) × (test (get_or text at 0) ≡ true)
 passes_true test text at is =

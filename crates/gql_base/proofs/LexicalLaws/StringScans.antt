@@ -102,7 +102,7 @@ block_past : (c at : ℕ) (cs : List ℕ) → begins_with_marks (c ∷ cs) ≡ f
 unfolding block_closed_at
 block_past c at cs other is = rw other (rw is refl)
 
-block_later : (c at : ℕ) (cs : List ℕ) → begins_with_marks (c ∷ cs) ≡ false → ((c == 92) && begins_with_marks cs) ≡ false → block_closed_at 0 at (c ∷ cs) ≡ block_closed_at 0 (at + 1) cs
+pub block_later : (c at : ℕ) (cs : List ℕ) → begins_with_marks (c ∷ cs) ≡ false → ((c == 92) && begins_with_marks cs) ≡ false → block_closed_at 0 at (c ∷ cs) ≡ block_closed_at 0 (at + 1) cs
 unfolding block_closed_at
 block_later c at cs other is = rw other (rw is refl)
 
