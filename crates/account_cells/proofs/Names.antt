@@ -22,7 +22,7 @@ live_not_ended history views f k i v at live = ⊎_elim
     (λ (o : 1 ≤ times_in v.name f.out). ⊎_elim
     (λ (past : f.splits < v.name). let n = k.none_past v.name past in absurd (omega arith))
     (λ (low : v.name ≤ f.splits). ⊎_elim
-    (λ (some_name : 0 < v.name). let n = k.once v.name some_name low in omega arith)
+    (λ (positive : 0 < v.name). let n = k.once v.name positive low in omega arith)
     (λ (z : v.name ≤ 0). let n = k.none_zero in let is : v.name ≡ 0 = omega arith in subst (λ m. times_in m (ended_names f.ended) ≡ 0) (sym is) (omega arith))
     (cases_lt 0 v.name))
     (cases_lt f.splits v.name))
@@ -38,12 +38,12 @@ live_not_past history views f k i v at live n past is = ⊎_elim
 -- the first view through a step of its own that leaves all names
 pub founder_steps : (history now : List Entry) (views more : List View) (f : View) (seen own : List Entry) → NamesStay views more → NamesStay more views → ((n : ℕ) → f.splits < n → entries_by n now ≡ []) → KeepsEnded now seen f.ended
     → IsFounder history views f → IsFounder now more (having_seen f seen own)
-founder_steps history now views more f seen own sub super callers ended k = record {
+founder_steps history now views more f seen own forth back callers ended k = record {
   once = k.once;
   none_past = k.none_past;
   none_zero = k.none_zero;
-  live_is_out = λ i v at live. let s = super i v at live in subst (λ n. (n ≡ 0) ⊎ (1 ≤ times_in n f.out)) s.4 (k.live_is_out s.0 s.1 s.2 s.3);
-  out_is_live = λ n h. let o = k.out_is_live n h in let s = sub o.0 o.1 o.2 o.3 in (s.0, s.1, s.2, s.3, s.4 ∙ o.4);
+  live_is_out = λ i v at live. let s = back i v at live in subst (λ n. (n ≡ 0) ⊎ (1 ≤ times_in n f.out)) s.4 (k.live_is_out s.0 s.1 s.2 s.3);
+  out_is_live = λ n h. let o = k.out_is_live n h in let s = forth o.0 o.1 o.2 o.3 in (s.0, s.1, s.2, s.3, s.4 ∙ o.4);
   callers = callers;
   ended = ended;
 }
@@ -51,12 +51,12 @@ founder_steps history now views more f seen own sub super callers ended k = reco
 -- and through one of another
 pub founder_stays : (history now : List Entry) (views more : List View) (f : View) → NamesStay views more → NamesStay more views → ((n : ℕ) → f.splits < n → entries_by n now ≡ []) → KeepsEnded now f.seen f.ended
     → IsFounder history views f → IsFounder now more f
-founder_stays history now views more f sub super callers ended k = record {
+founder_stays history now views more f forth back callers ended k = record {
   once = k.once;
   none_past = k.none_past;
   none_zero = k.none_zero;
-  live_is_out = λ i v at live. let s = super i v at live in subst (λ n. (n ≡ 0) ⊎ (1 ≤ times_in n f.out)) s.4 (k.live_is_out s.0 s.1 s.2 s.3);
-  out_is_live = λ n h. let o = k.out_is_live n h in let s = sub o.0 o.1 o.2 o.3 in (s.0, s.1, s.2, s.3, s.4 ∙ o.4);
+  live_is_out = λ i v at live. let s = back i v at live in subst (λ n. (n ≡ 0) ⊎ (1 ≤ times_in n f.out)) s.4 (k.live_is_out s.0 s.1 s.2 s.3);
+  out_is_live = λ n h. let o = k.out_is_live n h in let s = forth o.0 o.1 o.2 o.3 in (s.0, s.1, s.2, s.3, s.4 ∙ o.4);
   callers = callers;
   ended = ended;
 }

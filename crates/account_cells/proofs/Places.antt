@@ -23,23 +23,23 @@ abbrev pub NamesStay : List View → List View → Type 0
 NamesStay views more = (i : ℕ) (v : View) → IsAt views i v → v.live ≡ true → (j : ℕ) × (u : View) × IsAt more j u × (u.live ≡ true) × (u.name ≡ v.name)
 
 pub free_before : (views more : List View) (c : ℕ) → NamesStay views more → IsFree more c → IsFree views c
-free_before views more c sub free i v at live is = let s = sub i v at live in free s.0 s.1 s.2 s.3 (s.4 ∙ is)
+free_before views more c forth free i v at live is = let s = forth i v at live in free s.0 s.1 s.2 s.3 (s.4 ∙ is)
 
 -- a view that was replaced under its name: no name is lost
 pub names_after : (views : List View) (pass : ℕ) (v w : View) → IsAt views pass v → w.live ≡ true → w.name ≡ v.name → NamesStay views (set views pass w)
-names_after views pass v w at live same i u there alive = ⊎_elim
+names_after views pass v w at live same i u there is_live = ⊎_elim
     (λ (is : i ≡ pass). (pass, w, at_set_here views pass v w at, live, same ∙ ap (λ (z : View). z.name) (some-injective v u (sym at ∙ (ap (λ j. get_elem? views j) (sym is) ∙ there)))))
-    (λ (isnt : i ≢ pass). (i, u, set_else views pass i w isnt ∙ there, alive, refl))
-    (same_or_not i pass)
+    (λ (isnt : i ≢ pass). (i, u, set_else views pass i w isnt ∙ there, is_live, refl))
+    (decided i pass)
   where
-    same_or_not : (i j : ℕ) → (i ≡ j) ⊎ (i ≢ j)
-    same_or_not i j = ⊎_elim (λ (e : nat_eq i j ≡ true). inl (eqb-true i j e)) (λ (e : nat_eq i j ≡ false). inr (eqb-false i j e)) (cases_Bool (nat_eq i j))
+    decided : (i j : ℕ) → (i ≡ j) ⊎ (i ≢ j)
+    decided i j = ⊎_elim (λ (e : nat_eq i j ≡ true). inl (eqb-true i j e)) (λ (e : nat_eq i j ≡ false). inr (eqb-false i j e)) (cases_Bool (nat_eq i j))
 
 -- and none comes
 pub names_before : (views : List View) (pass : ℕ) (v w : View) → IsAt views pass v → v.live ≡ true → w.name ≡ v.name → NamesStay (set views pass w) views
-names_before views pass v w at live same i u there alive = ⊎_elim
+names_before views pass v w at live same i u there is_live = ⊎_elim
     (λ (t : (i ≡ pass) × (w ≡ u)). (pass, v, at, live, sym same ∙ ap (λ (z : View). z.name) t.1))
-    (λ (t : (i ≢ pass) × IsAt views i u). (i, u, t.1, alive, refl))
+    (λ (t : (i ≢ pass) × IsAt views i u). (i, u, t.1, is_live, refl))
     (at_set views pass i w u there)
 
 -- what stands at a place once a view was replaced and another was added

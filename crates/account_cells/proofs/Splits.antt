@@ -58,7 +58,7 @@ sets_limit pass v limit is x views k at =
         once = λ n low high. absurd (omega (arith, low, high));
         none_past = λ n past. refl;
         none_zero = refl;
-        live_is_out = λ i y here alive. inl (ap (λ (z : View). z.name) (sym (only i y here alive).1));
+        live_is_out = λ i y here is_live. inl (ap (λ (z : View). z.name) (sym (only i y here is_live).1));
         out_is_live = λ n h. absurd (omega (arith, h));
         callers = λ n past. refl;
         ended = tt;
@@ -79,29 +79,29 @@ splits_next pass v live first x views k at =
     let w : View = after_split v in
     let r : View = split_off v in
     let more : List View = set views pass w ++ r ∷ [] in
-    let calm : v.unset ≡ false = live_is_set x views pass v k at live in
+    let is_set : v.unset ≡ false = live_is_set x views pass v k at live in
     let fresh : entries_by (v.splits + 1) history ≡ [] = g.callers (v.splits + 1) (omega arith) in
     -- a live name so far is at most the count
-    let low : (j : ℕ) (u : View) → IsAt views j u → u.live ≡ true → u.name ≤ v.splits = λ j u there alive. ⊎_elim
-    (λ (past : v.splits < u.name). absurd (live_not_past history views v g j u there alive u.name past refl)) (λ (h : u.name ≤ v.splits). h) (cases_lt v.splits u.name) in
-    let sub : NamesStay views more = λ i u there alive. let s = names_after views pass v w at live refl i u there alive in (s.0, s.1, at_longer (set views pass w) (r ∷ []) s.0 s.1 s.2, s.3, s.4) in
-    let founded : IsFounder history more w = record {
+    let low : (j : ℕ) (u : View) → IsAt views j u → u.live ≡ true → u.name ≤ v.splits = λ j u there is_live. ⊎_elim
+    (λ (past : v.splits < u.name). absurd (live_not_past history views v g j u there is_live u.name past refl)) (λ (h : u.name ≤ v.splits). h) (cases_lt v.splits u.name) in
+    let forth : NamesStay views more = λ i u there is_live. let s = names_after views pass v w at live refl i u there is_live in (s.0, s.1, at_longer (set views pass w) (r ∷ []) s.0 s.1 s.2, s.3, s.4) in
+    let founder_now : IsFounder history more w = record {
       once = λ n from to. ⊎_elim
           (λ (old : n < v.splits + 1). let o = g.once n from (omega arith) in let z = counts_other (v.splits + 1) n (λ same. absurd (omega arith)) in omega (arith, o, z))
           (λ (new : v.splits + 1 ≤ n). let o = g.none_past n (omega arith) in let z = counts_same (v.splits + 1) n (omega arith) in omega (arith, o, z))
           (cases_lt n (v.splits + 1));
       none_past = λ n past. let o = g.none_past n (omega arith) in let z = counts_other (v.splits + 1) n (λ same. absurd (omega arith)) in omega (arith, o, z);
       none_zero = let o = g.none_zero in let z = counts_other (v.splits + 1) 0 (λ same. absurd (omega arith)) in omega (arith, o, z);
-      live_is_out = λ i u there alive. by_place views pass w r i u
+      live_is_out = λ i u there is_live. by_place views pass w r i u
           (λ t. inl (ap (λ (z : View). z.name) (sym t.1) ∙ first))
-          (λ t. ⊎_elim (λ (z : u.name ≡ 0). inl z) (λ (o : 1 ≤ times_in u.name v.out). inr (omega arith)) (g.live_is_out i u t.1 alive))
+          (λ t. ⊎_elim (λ (z : u.name ≡ 0). inl z) (λ (o : 1 ≤ times_in u.name v.out). inr (omega arith)) (g.live_is_out i u t.1 is_live))
           (λ t. let n : u.name ≡ v.splits + 1 = ap (λ (z : View). z.name) (sym t.1) in let z = counts_same (v.splits + 1) u.name n in inr (omega (arith, z)))
           there;
       out_is_live = λ n h. ⊎_elim
           (λ (e : nat_eq (v.splits + 1) n ≡ true). (length views, r, at_pushed views pass w r, refl, eqb-true (v.splits + 1) n e))
           (λ (e : nat_eq (v.splits + 1) n ≡ false).
           let z : cond (nat_eq (v.splits + 1) n) 1 0 ≡ 0 = ap {B = ℕ} (λ b. cond b 1 0) e in
-          let o = g.out_is_live n (omega (arith, h, z)) in let s = sub o.0 o.1 o.2 o.3 in (s.0, s.1, s.2, s.3, s.4 ∙ o.4))
+          let o = g.out_is_live n (omega (arith, h, z)) in let s = forth o.0 o.1 o.2 o.3 in (s.0, s.1, s.2, s.3, s.4 ∙ o.4))
           (cases_Bool (nat_eq (v.splits + 1) n));
       callers = λ n past. g.callers n (omega arith);
       ended = g.ended;
@@ -111,17 +111,17 @@ splits_next pass v live first x views k at =
       history = history;
       legal = k.legal;
       same_words = k.same_words;
-      each = λ j u there alive. by_place views pass w r j u
+      each = λ j u there is_live. by_place views pass w r j u
           (λ t. subst (FitsHistory k.limit history) t.1 (record { same_limit = f.same_limit; begins = f.begins; all_own = f.all_own; own_seen = f.own_seen; shown_begins = f.shown_begins; shown_shorter = f.shown_shorter }))
-          (λ t. k.each j u t.1 alive)
+          (λ t. k.each j u t.1 is_live)
           (λ t. subst (FitsHistory k.limit history) t.1 (record { same_limit = f.same_limit; begins = f.begins; all_own = fresh; own_seen = none_in_beginning (v.splits + 1) history v.seen f.begins fresh; shown_begins = (history, refl); shown_shorter = zero-le }))
           there;
-      first = λ j u there alive zeroth. by_place views pass w r j u
-          (λ t. subst (IsFounder history more) t.1 founded)
-          (λ t. absurd (t.0 (k.apart j pass u v t.1 at alive live (zeroth ∙ sym first))))
+      first = λ j u there is_live zeroth. by_place views pass w r j u
+          (λ t. subst (IsFounder history more) t.1 founder_now)
+          (λ t. absurd (t.0 (k.apart j pass u v t.1 at is_live live (zeroth ∙ sym first))))
           (λ t. let n : v.splits + 1 ≡ u.name = ap (λ (z : View). z.name) t.1 in absurd (omega arith))
           there;
-      has_first = inr (first_after views more sub (first_is_there x views pass v k at live));
+      has_first = inr (first_after views more forth (first_is_there x views pass v k at live));
       has_whole = inr (let h = whole_after views pass v w history at live (λ was. was) (whole_is_there x views pass v k at live) in (h.0, h.1, at_longer (set views pass w) (r ∷ []) h.0 h.1 h.2, h.3, h.4));
       apart = λ i j u y there here a b same. by_place views pass w r i u
           (λ s. by_place views pass w r j y
@@ -140,9 +140,9 @@ splits_next pass v live first x views k at =
           (λ t. s.0 ∙ sym t.0)
           here)
           there;
-      owned = λ c free. k.owned c (free_before views more c sub free);
+      owned = λ c free. k.owned c (free_before views more c forth free);
       blank = λ i u there un. absurd (by_place views pass w r i u
-          (λ t. true≢false (sym un ∙ (ap (λ (z : View). z.unset) (sym t.1) ∙ calm)))
+          (λ t. true≢false (sym un ∙ (ap (λ (z : View). z.unset) (sym t.1) ∙ is_set)))
           (λ t. (k.blank i u t.1 un).1 pass v at live)
           (λ t. false≢true (ap (λ (z : View). z.unset) t.1 ∙ un))
           there);
@@ -152,28 +152,28 @@ splits_next pass v live first x views k at =
 pub hands_over : (pass : ℕ) (v : View) → v.live ≡ true → Forks KeepsRule pass v no_view v
 hands_over pass v live x views k at =
     let more : List View = set views pass no_view ++ v ∷ [] in
-    let calm : v.unset ≡ false = live_is_set x views pass v k at live in
-    let super : NamesStay more views = λ i u there alive. by_place views pass no_view v i u
-    (λ t. not_live u t.1 alive) (λ t. (i, u, t.1, alive, refl)) (λ t. (pass, v, at, live, ap (λ (z : View). z.name) t.1)) there in
-    let sub : NamesStay views more = λ i u there alive. ⊎_elim
+    let is_set : v.unset ≡ false = live_is_set x views pass v k at live in
+    let back : NamesStay more views = λ i u there is_live. by_place views pass no_view v i u
+    (λ t. not_live u t.1 is_live) (λ t. (i, u, t.1, is_live, refl)) (λ t. (pass, v, at, live, ap (λ (z : View). z.name) t.1)) there in
+    let forth : NamesStay views more = λ i u there is_live. ⊎_elim
     (λ (e : nat_eq i pass ≡ true).
     let is = eqb-true i pass e in
     (length views, v, at_pushed views pass no_view v, live, ap (λ (z : View). z.name) (some-injective v u (sym at ∙ (ap (λ j. get_elem? views j) (sym is) ∙ there)))))
-    (λ (e : nat_eq i pass ≡ false). (i, u, at_longer (set views pass no_view) (v ∷ []) i u (set_else views pass i no_view (eqb-false i pass e) ∙ there), alive, refl))
+    (λ (e : nat_eq i pass ≡ false). (i, u, at_longer (set views pass no_view) (v ∷ []) i u (set_else views pass i no_view (eqb-false i pass e) ∙ there), is_live, refl))
     (cases_Bool (nat_eq i pass)) in
     record {
       limit = k.limit;
       history = k.history;
       legal = k.legal;
       same_words = k.same_words;
-      each = λ j u there alive. by_place views pass no_view v j u
-          (λ t. not_live u t.1 alive) (λ t. k.each j u t.1 alive) (λ t. subst (FitsHistory k.limit k.history) t.1 (k.each pass v at live)) there;
-      first = λ j u there alive zeroth. by_place views pass no_view v j u
-          (λ t. not_live u t.1 alive)
-          (λ t. let g = k.first j u t.1 alive zeroth in founder_stays k.history k.history views more u sub super g.callers g.ended g)
-          (λ t. let g = k.first pass v at live (ap (λ (z : View). z.name) t.1 ∙ zeroth) in subst (IsFounder k.history more) t.1 (founder_stays k.history k.history views more v sub super g.callers g.ended g))
+      each = λ j u there is_live. by_place views pass no_view v j u
+          (λ t. not_live u t.1 is_live) (λ t. k.each j u t.1 is_live) (λ t. subst (FitsHistory k.limit k.history) t.1 (k.each pass v at live)) there;
+      first = λ j u there is_live zeroth. by_place views pass no_view v j u
+          (λ t. not_live u t.1 is_live)
+          (λ t. let g = k.first j u t.1 is_live zeroth in founder_stays k.history k.history views more u forth back g.callers g.ended g)
+          (λ t. let g = k.first pass v at live (ap (λ (z : View). z.name) t.1 ∙ zeroth) in subst (IsFounder k.history more) t.1 (founder_stays k.history k.history views more v forth back g.callers g.ended g))
           there;
-      has_first = inr (first_after views more sub (first_is_there x views pass v k at live));
+      has_first = inr (first_after views more forth (first_is_there x views pass v k at live));
       has_whole = inr (let h = whole_is_there x views pass v k at live in ⊎_elim
           (λ (e : nat_eq h.0 pass ≡ true).
           let is = eqb-true h.0 pass e in
@@ -191,10 +191,10 @@ hands_over pass v live x views k at =
           (λ t. s.0 ∙ sym t.0)
           here)
           there;
-      owned = λ c free. k.owned c (free_before views more c sub free);
+      owned = λ c free. k.owned c (free_before views more c forth free);
       blank = λ i u there un. absurd (by_place views pass no_view v i u
           (λ t. false≢true (ap (λ (z : View). z.unset) t.1 ∙ un))
           (λ t. (k.blank i u t.1 un).1 pass v at live)
-          (λ t. true≢false (sym un ∙ (ap (λ (z : View). z.unset) (sym t.1) ∙ calm)))
+          (λ t. true≢false (sym un ∙ (ap (λ (z : View). z.unset) (sym t.1) ∙ is_set)))
           there);
     }

@@ -39,13 +39,13 @@ pub whole_after : (views : List View) (pass : ℕ) (v w : View) (history : List 
 whole_after views pass v w history at live same f = ⊎_elim
     (λ (e : nat_eq f.0 pass ≡ true).
     let is = eqb-true f.0 pass e in
-    let who : v ≡ f.1 = some-injective v f.1 (sym at ∙ (ap (λ j. get_elem? views j) (sym is) ∙ f.2)) in
-    (pass, w, at_set_here views pass v w at, live, same (ap (λ (z : View). z.seen) who ∙ f.4)))
+    let same_view : v ≡ f.1 = some-injective v f.1 (sym at ∙ (ap (λ j. get_elem? views j) (sym is) ∙ f.2)) in
+    (pass, w, at_set_here views pass v w at, live, same (ap (λ (z : View). z.seen) same_view ∙ f.4)))
     (λ (e : nat_eq f.0 pass ≡ false). (f.0, f.1, set_else views pass f.0 w (eqb-false f.0 pass e) ∙ f.2, f.3, f.4))
     (cases_Bool (nat_eq f.0 pass))
 
 pub first_after : (views more : List View) → NamesStay views more → HasFirst views → HasFirst more
-first_after views more sub f = let s = sub f.0 f.1 f.2 f.3 in (s.0, s.1, s.2, s.3, s.4 ∙ f.4)
+first_after views more forth f = let s = forth f.0 f.1 f.2 f.3 in (s.0, s.1, s.2, s.3, s.4 ∙ f.4)
 
 -- a live view is not unset
 pub live_is_set : (x : List ℕ) (views : List View) (pass : ℕ) (v : View) → KeepsRule x views → IsAt views pass v → v.live ≡ true → v.unset ≡ false
@@ -58,9 +58,9 @@ module _ (x y : List ℕ) (views : List View) (pass : ℕ) (v : View) (k : Keeps
   begins_on xs b = (b.0 ++ more.0, more.1 ∙ (ap (λ l. l ++ more.0) b.1 ∙ append_assoc xs b.0 more.0))
 
   others_fit : (j : ℕ) (u : View) → j ≢ pass → IsAt views j u → u.live ≡ true → FitsHistory k.limit history u
-  others_fit j u away there alive =
-      let f = k.each j u there alive in
-      let apart : u.name ≡ v.name → ⊥ = λ same. away (k.apart j pass u v there at alive live same) in
+  others_fit j u away there is_live =
+      let f = k.each j u there is_live in
+      let apart : u.name ≡ v.name → ⊥ = λ same. away (k.apart j pass u v there at is_live live same) in
       record {
         same_limit = f.same_limit;
         begins = begins_on u.seen f.begins;
@@ -79,7 +79,7 @@ module _ (x y : List ℕ) (views : List View) (pass : ℕ) (v : View) (k : Keeps
     same_words = words_are;
     each = λ i u there. ⊎_elim (λ (t : (i ≡ pass) × (having_seen v seen own ≡ u)). subst (λ (z : View). z.live ≡ true → FitsHistory k.limit history z) t.1 (λ _. fits))
         (λ (t : (i ≢ pass) × IsAt views i u). others_fit i u t.0 t.1) (at_set views pass i (having_seen v seen own) u there);
-    first = λ i u there alive zeroth. founded i u there alive zeroth;
+    first = λ i u there is_live zeroth. founder_now i u there is_live zeroth;
     has_first = inr (first_after views (set views pass (having_seen v seen own)) (names_after views pass v (having_seen v seen own) at live refl) (first_is_there x views pass v k at live));
     has_whole = inr (⊎_elim
         (λ (all : seen ≡ history). (pass, having_seen v seen own, at_set_here views pass v (having_seen v seen own) at, live, all))
@@ -93,11 +93,11 @@ module _ (x y : List ℕ) (views : List View) (pass : ℕ) (v : View) (k : Keeps
     owned = λ c free.
         let was = free_before views (set views pass (having_seen v seen own)) c (names_after views pass v (having_seen v seen own) at live refl) free in
         ap open_grants (others c (λ same. was pass v at live (sym same))) ∙ k.owned c was;
-    blank = λ i u there is. absurd (none_unborn i u there is);
+    blank = λ i u there is. absurd (none_unset i u there is);
   }
     where
-      none_unborn : (i : ℕ) (u : View) → IsAt (set views pass (having_seen v seen own)) i u → u.unset ≡ true → ⊥
-      none_unborn i u there is = ⊎_elim (λ (t : (i ≡ pass) × (having_seen v seen own ≡ u)). true≢false (sym (subst (λ (z : View). z.unset ≡ true) (sym t.1) is) ∙ live_is_set x views pass v k at live))
+      none_unset : (i : ℕ) (u : View) → IsAt (set views pass (having_seen v seen own)) i u → u.unset ≡ true → ⊥
+      none_unset i u there is = ⊎_elim (λ (t : (i ≡ pass) × (having_seen v seen own ≡ u)). true≢false (sym (subst (λ (z : View). z.unset ≡ true) (sym t.1) is) ∙ live_is_set x views pass v k at live))
           (λ (t : (i ≢ pass) × IsAt views i u). (k.blank i u t.1 is).1 pass v at live) (at_set views pass i (having_seen v seen own) u there)
 
       old : (i : ℕ) (u : View) → IsAt (set views pass (having_seen v seen own)) i u → (z : View) × IsAt views i z × (u.live ≡ true → z.live ≡ true) × (u.name ≡ z.name)
@@ -109,20 +109,20 @@ module _ (x y : List ℕ) (views : List View) (pass : ℕ) (v : View) (k : Keeps
       callers : (i : ℕ) (u : View) → IsFounder k.history views u → (n : ℕ) → u.splits < n → entries_by n history ≡ []
       callers i u f n past = others n (live_not_past k.history views u f pass v at live n past) ∙ f.callers n past
 
-      founded : (i : ℕ) (u : View) → IsAt (set views pass (having_seen v seen own)) i u → u.live ≡ true → u.name ≡ 0 → IsFounder history (set views pass (having_seen v seen own)) u
-      founded i u there alive zeroth =
+      founder_now : (i : ℕ) (u : View) → IsAt (set views pass (having_seen v seen own)) i u → u.live ≡ true → u.name ≡ 0 → IsFounder history (set views pass (having_seen v seen own)) u
+      founder_now i u there is_live zeroth =
           let w = having_seen v seen own in
-          let sub = names_after views pass v w at live refl in
-          let super = names_before views pass v w at live refl in ⊎_elim
+          let forth = names_after views pass v w at live refl in
+          let back = names_before views pass v w at live refl in ⊎_elim
           (λ (t : (i ≡ pass) × (w ≡ u)).
           let zero_name : v.name ≡ 0 = ap (λ (z : View). z.name) t.1 ∙ zeroth in
           let f = k.first pass v at live zero_name in
           subst (IsFounder history (set views pass w)) t.1
-          (founder_steps k.history history views (set views pass w) v seen own sub super (callers pass v f)
+          (founder_steps k.history history views (set views pass w) v seen own forth back (callers pass v f)
           (ended_stay k.history history v.seen seen v.name (λ n away. sym (others n away)) ended v.ended (live_not_ended k.history views v f pass v at live) f.ended) f))
           (λ (t : (i ≢ pass) × IsAt views i u).
-          let f = k.first i u t.1 alive zeroth in
-          founder_stays k.history history views (set views pass w) u sub super (callers i u f)
+          let f = k.first i u t.1 is_live zeroth in
+          founder_stays k.history history views (set views pass w) u forth back (callers i u f)
           (ended_stay k.history history u.seen u.seen v.name (λ n away. sym (others n away)) (λ n mine away a b. b) u.ended (live_not_ended k.history views u f pass v at live) f.ended) f)
           (at_set views pass i w u there)
 
@@ -179,10 +179,10 @@ makes_call x y views pass v number call reply live new from k at =
     let e : Entry = entry v.name number call reply in
     let history : List Entry = k.history ++ e ∷ [] in
     let w : View = having_seen v history (v.own ++ e ∷ []) in
-    let lawful : IsLegal v.limit k.history = subst (λ a. IsLegal a k.history) (sym f.same_limit) k.legal in
-    let step = from k.history lawful (words_at x views pass v live k at) f.all_own in
+    let legal_now : IsLegal v.limit k.history = subst (λ a. IsLegal a k.history) (sym f.same_limit) k.legal in
+    let step = from k.history legal_now (words_at x views pass v live k at) f.all_own in
     let next : IsNext v.limit k.history e = (step.0, subst (NumbersBelow number) (sym f.all_own) new) in
-    let legal : IsLegal v.limit history = legal-push v.limit k.history e lawful next in
+    let legal : IsLegal v.limit history = legal-push v.limit k.history e legal_now next in
     let own : entries_by v.name history ≡ v.own ++ e ∷ [] = entries_by-append v.name k.history (e ∷ []) ∙ (λ i. f.all_own i ++ entries_by-own v.name e [] refl i) in
     let others : (n : ℕ) → (n ≡ v.name → ⊥) → entries_by n history ≡ entries_by n k.history = λ n away. entries_by-append n k.history (e ∷ []) ∙ (ap (λ l. entries_by n k.history ++ l) (entries_by-other n e [] (λ is. away (sym is))) ∙ append-nil (entries_by n k.history)) in
     let now : KeepsRule y (set views pass w) = one_goes_on x y views pass v k at live history (e ∷ [], refl) others history (v.own ++ e ∷ []) (subst (λ a. IsLegal a history) f.same_limit legal)
@@ -296,10 +296,10 @@ pub settles_by_look : (pass : ℕ) (v : View) (number of window : ℕ) (bound me
 unfolding IsReplyAt
 settles_by_look pass v number of window bound measured live new owes small x views k at =
     let f = k.each pass v at live in
-    let lawful : IsLegal v.limit k.history = subst (λ a. IsLegal a k.history) (sym f.same_limit) k.legal in
+    let legal_now : IsLegal v.limit k.history = subst (λ a. IsLegal a k.history) (sym f.same_limit) k.legal in
     let s = state_after v.limit k.history in
     let same : account_from x ≡ account_of s = account_at_words x s (words_at x views pass v live k at) in
-    let facts = grant_is_held (account_of s) s (grant v.name of window bound) (numbers_stand v.limit k.history lawful) (owed_is_open v of window bound k.history lawful f.all_own owes) in
+    let facts = grant_is_held (account_of s) s (grant v.name of window bound) (numbers_stand v.limit k.history legal_now) (owed_is_open v of window bound k.history legal_now f.all_own owes) in
     let here : (window ≤ (account_from x).window) × (window ≡ (account_from x).window → Within (account_from x).held bound) = subst (λ (a : Account). (window ≤ a.window) × (window ≡ a.window → Within a.held bound)) (sym same) facts in
     ⊎_elim
     (λ (e : nat_eq window (account_from x).window ≡ true).

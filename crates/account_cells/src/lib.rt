@@ -270,7 +270,7 @@ fn look_or_settle<K: Settling, R: Wait>(
 
 /// What a reservation comes to on the words that were found.
 #[derive(Clone, Copy)]
-pub struct Decision {
+struct Decision {
     granted: bool,
     /// The window of the grant.
     at: u64,

@@ -29,14 +29,14 @@ use std::sync::Wait;
 
 /// One client's account with its limit.
 #[derive(Drop)]
-pub struct Slot {
+struct Slot {
     cell: AccountCell,
     limit: Limit,
 }
 
 /// A worker's pass to one client's account.
 #[derive(Drop)]
-pub struct Lane {
+struct Lane {
     pass: AccountPass,
 }
 

@@ -11,6 +11,11 @@ const BOUND: Cost = Cost {
     fields: 1_000,
 };
 
+const ONE: Cost = Cost {
+    types: 1_000,
+    fields: 1_000,
+};
+
 /// The same cost in both components.
 fn even(amount: u64) -> Cost {
     Cost {
@@ -19,14 +24,14 @@ fn even(amount: u64) -> Cost {
     }
 }
 
-/// Reserves once, and settles at the bound where it is granted. Whether it is granted.
+/// Reserves once, and settles at the bound where it is granted. What was left where it is short.
 fn spend<R: Wait>(
     rt: &R,
     accounts: &Accounts,
     passes: &mut Passes,
     window: u64,
     bound: Cost,
-) -> bool
+) -> Option<Cost>
     requires belong { Belongs passes.old accounts.now }
     requires client { 0 < length accounts.now.limits }
     requires made { passes.old.made < 2 ^ 61 }
@@ -39,9 +44,9 @@ fn spend<R: Wait>(
     match accounts.reserve(rt, passes, 0, window, bound) {
         Reply::Granted(ticket) => {
             accounts.settle(rt, passes, ticket, bound);
-            true
+            None
         }
-        Reply::Short { left: _ } => false,
+        Reply::Short { left } => Some(left),
     }
 }
 
@@ -63,7 +68,7 @@ fn spend_four<R: Wait>(
     let mut granted = 0u32;
     for at in 0..4usize {
         let (window, bound) = steps[at];
-        if spend(rt, accounts, passes, window, bound) {
+        if spend(rt, accounts, passes, window, bound).is_none() {
             granted = granted.saturating_add(1);
         }
     }
@@ -167,6 +172,80 @@ fn keeps_windows_and_carries(rt: HostRuntime) -> Result<(), Fail> {
         assert_eq!(rt; won, granted);
         assert_eq!(rt; (account.window, account.settled), (window, settled));
         assert_eq!(rt; (account.carried, account.held), (carried, nothing));
+    }
+    Ok(())
+}
+
+/// The first worker reserves in window 0 and settles at half, once another has spent. What was left
+/// for that one where it is short.
+fn spend_beside<R: Wait>(
+    rt: &R,
+    accounts: &Accounts,
+    first: &mut Passes,
+    second: &mut Passes,
+    window: u64,
+    bound: Cost,
+) -> Option<Cost>
+    requires belong { Belongs first.old accounts.now × Belongs second.old accounts.now }
+    requires client { 0 < length accounts.now.limits }
+    requires made { (first.old.made ≡ 0) × (second.old.made ≡ 0) }
+    requires idle { IsIdle first.old × IsIdle second.old }
+    ensures belong { Belongs first.new accounts.now × Belongs second.new accounts.now }
+    ensures label { (first.new.label ≡ first.old.label) × (second.new.label ≡ second.old.label) }
+    ensures idle { IsIdle first.new }
+    ensures second_idle { IsIdle second.new }
+{
+    match accounts.reserve(rt, first, 0, 0, BOUND) {
+        Reply::Granted(early) => {
+            let left = spend(rt, accounts, second, window, bound);
+            accounts.settle(rt, first, early, ONE);
+            left
+        }
+        Reply::Short { left } => Some(left),
+    }
+}
+
+/// The same on a fresh account. What was left, the calls of the first worker, and the account after all.
+fn pair<R: Wait>(
+    rt: &R,
+    alloc: Global,
+    window: u64,
+    bound: Cost,
+) -> Result<(Option<Cost>, u64, Account), AllocError> {
+    let limit = Limit {
+        allowance: Cost {
+            types: 6_000,
+            fields: 6_000,
+        },
+        carry: false,
+    };
+    let mut limits = Vec::with_capacity(alloc, 1)?;
+    limits.push(limit)?;
+    let (accounts, mut first) = Accounts::make(alloc, limits)?;
+    let mut second = first.split(alloc, &accounts)?;
+    let left = spend_beside(rt, &accounts, &mut first, &mut second, window, bound);
+    let made = first.made();
+    first.join(rt, &accounts, second);
+    let totals = accounts.close(rt, first);
+    Ok((left, made, totals.account(0)))
+}
+
+#[test]
+fn settles_beside_another_worker(rt: HostRuntime) -> Result<(), Fail> {
+    let bound = Cost {
+        types: 5_000,
+        fields: 1_000,
+    };
+    let rest = Cost {
+        types: 4_000,
+        fields: 5_000,
+    };
+    // In the same window the other is short. In the next one it is granted, and the first settles late.
+    for (window, left, settled) in [(0, Some(rest), ONE), (1, None, bound)] {
+        let (found, made, account) = pair(&rt, rt.alloc(), window, bound)?;
+        assert_eq!(rt; (found, made), (left, 2));
+        assert_eq!(rt; (account.window, account.settled), (window, settled));
+        assert_eq!(rt; account.held, even(0));
     }
     Ok(())
 }

@@ -7,3 +7,4 @@ pub mod Values
 pub mod FirstFaults
 pub mod OneReading
 pub mod PrintedAmounts
+pub mod AmountTexts

@@ -1,6 +1,7 @@
 -- What a weight or an allowance is as a text, and the first thing that is wrong with one that is none.
-use Rattle.std.specs.Prelude.{◌≡◌, ◌≢◌, ℕ, ◌+◌, ◌-◌, ◌*◌, ◌<◌, ◌≤◌, ◌⊎◌, List, [], ◌∷◌, ◌++◌, length, take, replicate, slice_index, Result, Ok, Err}
+use Rattle.std.specs.Prelude.{Bool, ◌==◌, ◌≡◌, ◌≢◌, ℕ, ◌+◌, ◌-◌, ◌*◌, ◌<◌, ◌≤◌, ◌⊎◌, List, [], ◌∷◌, ◌++◌, length, take, replicate, slice_index, Result, Ok, Err}
 use Rattle.std.specs.Char.{digit_value}
+use Rattle.std.specs.List.{before_first, after_first}
 use Rattle.std.specs.Str.Parse.{digits_value}
 use Rattle.cost_num.specs.declared.TheConstants.{PLACES, UNIT}
 use Rattle.cost_num.specs.declared.weights.WeightFault.{WeightFault}
@@ -14,6 +15,14 @@ places_of fraction = take PLACES fraction ++ replicate (PLACES - length fraction
 -- the amount in millionths: the whole part times a million, and the first six places
 abbrev pub amount_of : List ℕ → List ℕ → ℕ
 amount_of whole fraction = digits_value 10 whole * UNIT + digits_value 10 (places_of fraction)
+
+-- the dot
+abbrev pub is_dot : ℕ → Bool
+is_dot c = c == 46
+
+-- the amount of a decimal text: its whole part stands before the first dot, and its fraction after it
+unfoldable pub amount_in : List ℕ → ℕ
+amount_in text = amount_of (before_first is_dot text) (after_first is_dot text)
 
 -- the text is decimal, its digits after the last place are 0, and this is its amount
 pub record Spells (text : List ℕ) (amount : ℕ) : Type 0 where

@@ -2,7 +2,7 @@
 
 ghost use Rattle.std.specs.Prelude.{◌≡◌, ℕ, ◌≤◌, List, Result, codes};
 ghost use Rattle.cost_num.specs.declared.weights.WeightFault.{WeightFault};
-ghost use Rattle.cost_num.specs.Amount.{IsAmount, Reads};
+ghost use Rattle.cost_num.specs.Amount.{IsAmount, Reads, Spells, amount_in};
 ghost use Rattle.cost_num.specs.CostText.{amount_text};
 
 use crate::{CAP, Cost, WeightFault};
@@ -12,6 +12,11 @@ use crate::{CAP, Cost, WeightFault};
 pub fn each_text_has_one_reading()
     ensures at_least_one { (greatest : ℕ) (text : List ℕ) → (result : Result ℕ WeightFault) × Reads greatest text result }
     ensures at_most_one { (greatest : ℕ) (text : List ℕ) (one other : Result ℕ WeightFault) → Reads greatest text one → Reads greatest text other → one ≡ other }
+{}
+
+/// A text that spells an amount spells the one that a function of the text gives.
+pub fn spelled_amounts()
+    ensures { (text : List ℕ) (amount : ℕ) → Spells text amount → amount ≡ amount_in text }
 {}
 
 /// A printed amount is read back as that amount: the text of each amount of at most `CAP` is that

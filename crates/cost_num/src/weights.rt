@@ -4,7 +4,7 @@ ghost use Rattle.std.specs.Prelude.{◌≡◌, ◌≢◌, ℕ, ◌+◌, ◌<◌,
 ghost use Rattle.std.specs.Char.{is_ascii_digit};
 ghost use Rattle.std.specs.List.{prefix_len};
 ghost use Rattle.std.specs.Str.Parse.{AllDigits, digits_value};
-ghost use Rattle.cost_num.specs.Amount.{IsExponent, Reads, amount_of, places_of};
+ghost use Rattle.cost_num.specs.Amount.{IsExponent, Reads, amount_in, amount_of, places_of};
 ghost use Rattle.cost_num.specs.Capped.{capped};
 ghost use Rattle.cost_num.specs.DecimalText.{Splits};
 ghost use Rattle.cost_num.specs.Reading.{IsFirstPast, IsMisfitFault, NoDigitFirst, StopsAt};
@@ -61,6 +61,7 @@ struct Decimal<'a> {
 pub fn read_weight(text: &str) -> Result<u64, WeightFault>
     ensures reads { Reads GREATEST_WEIGHT text.now result }
     ensures only { (other : Result ℕ WeightFault) → Reads GREATEST_WEIGHT text.now other → other ≡ result }
+    ensures amount { IfOk result (λ weight. weight ≡ amount_in text.now) }
     ensures in_range { IfOk result (λ weight. weight ≤ GREATEST_WEIGHT) }
 {
     read_amount(text.as_bytes(), GREATEST_WEIGHT)
@@ -71,6 +72,7 @@ pub fn read_weight(text: &str) -> Result<u64, WeightFault>
 pub fn read_allowance(text: &str) -> Result<u64, WeightFault>
     ensures reads { Reads CAP text.now result }
     ensures only { (other : Result ℕ WeightFault) → Reads CAP text.now other → other ≡ result }
+    ensures amount { IfOk result (λ allowance. allowance ≡ amount_in text.now) }
     ensures in_range { IfOk result (λ allowance. allowance ≤ CAP) }
 {
     read_amount(text.as_bytes(), CAP)

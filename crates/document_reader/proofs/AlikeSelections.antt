@@ -65,7 +65,7 @@ directives_alike c d = repeated_alike (directive_alike c d)
 names_alike : (d : ℕ) → Alike (AreFieldNames d) names_placeless
 names_alike d = pair_alike name_alike (optional_alike None (image_alike {g = maybe_name_placeless} some_second (pair_alike (mark_alike Colon) name_alike) (λ p. refl)))
 
-abbrev head_placeless : FieldNames × (List NamedValue × List DirectiveTree) → FieldNames × (List NamedValue × List DirectiveTree)
+abbrev pub head_placeless : FieldNames × (List NamedValue × List DirectiveTree) → FieldNames × (List NamedValue × List DirectiveTree)
 head_placeless = both names_placeless (both (map argument_placeless) (map directive_placeless))
 
 field_head_alike : (d : ℕ) → Alike (IsFieldHead d) head_placeless

@@ -1,14 +1,11 @@
 -- The nestings of the symbols of a document are those that counting brackets gives.
-use Rattle.std.proofs.Common.{ℕ, suc, ◌≡◌, inl, inr, Bool, true, false, List, [], ◌++◌, None, Some, refl, sym, subst}
+use Rattle.std.proofs.Common.{ℕ, suc, ◌≡◌, inl, inr, true, false, [], ◌++◌, None, Some, refl, sym, subst}
 use Rattle.std.specs.Prelude.{codes}
-use Rattle.gql_base.specs.declared.lexical.token.TokenKind.TheVariants.{Dollar, Colon, Equals, At, Spread, OpenParen, CloseParen, OpenBrace, CloseBrace}
+use Rattle.gql_base.specs.declared.lexical.token.TokenKind.TheVariants.{Dollar, Colon, Spread, OpenBrace, CloseBrace}
 use Rattle.gql_base.specs.ways.Symbols.{punctuator, identifier, integer, string}
-use Rattle.gql_base.specs.ways.Reading.{exact, second, keyword, inside, some_second}
-use Rattle.gql_base.specs.ways.Grammar.{Nested, Single, Pair, Image, Optional, OneOrMore}
-use Rattle.gql_base.specs.parts.Values.{named_value_of}
-use Rattle.gql_base.proofs.WayLaws.CountedLevels.{Counts, Counted, TakesFlat, joined_counts, single_counted, mark_counted, name_counted, pair_counted, image_counted, choice_counted, optional_counted, repeated_counted, one_or_more_counted, bracketed_counts, value_counted, type_counted}
-use Rattle.gql_base.specs.parts.OperationKinds.{kind_word}
-use Rattle.gql_base.specs.parts.Arguments.{IsArgument, AreArguments, AreDirectives, IsDefault}
+use Rattle.gql_base.specs.ways.Reading.{exact, some_second}
+use Rattle.gql_base.specs.ways.Grammar.{Nested, Single, Pair}
+use Rattle.gql_base.proofs.WayLaws.CountedLevels.{Counts, Counted, TakesFlat, joined_counts, single_counted, mark_counted, name_counted, pair_counted, image_counted, choice_counted, optional_counted, one_or_more_counted, bracketed_counts, type_counted}
 use Rattle.gql_base.proofs.PartLaws.CountedParts.{word_counted, kind_counted, parens_counted, maybe_arguments_counted, directives_counted, default_counted}
 use Rattle.document_reader.specs.Documents.{SelectionTree, field_selection, fragment_spread, inline_fragment, SelectionTrees, no_selection, selection_then, fragment_name, AreFieldNames, IsFieldHead, IsTypeCondition, IsSpreadEnd, IsInlineHead, IsSelection, IsSelectionSet, AreSelections, variable_of, IsVariable, IsOperationHead, bare_operation, operation_of, head_of_fragment, IsFragmentHead, fragment_of, IsDefinition, IsDocument}
 

@@ -8,10 +8,9 @@ use Rattle.gql_base.specs.declared.lexical.token.TokenKind.TheVariants.{Bang, Do
 use Rattle.gql_base.specs.declared.parts.trees.OperationKind.{OperationKind}
 use Rattle.gql_base.specs.declared.parts.trees.OperationKind.TheVariants.{Query}
 use Rattle.gql_base.specs.ways.Symbols.{Symbol, punctuator, identifier, integer, string}
-use Rattle.gql_base.specs.ways.Reading.{Test, is_some, takes, when, exact, any_name, never, keyword, some_second, is_there}
+use Rattle.gql_base.specs.ways.Reading.{Test, is_some, takes, when, exact, any_name, never, keyword, is_there}
 use Rattle.gql_base.specs.ways.Grammar.{Single, Pair, Image, Optional}
 use Rattle.gql_base.specs.parts.OperationKinds.{kind_named, kind_word}
-use Rattle.gql_base.specs.parts.Arguments.{IsDefault, maybe_default_at}
 use Rattle.gql_base.proofs.PartLaws.ArgumentLaws.{goes_directives, heads_directive, directives_law, goes_default, goes_variable, heads_default, default_law}
 use Rattle.gql_base.proofs.WayLaws.WordLaws.{left_false, right_false, parens_law}
 use Rattle.document_reader.specs.Documents.{on_word, fragment_word, fragment_name, IsSelectionSet, variable_of, IsVariable, AreVariables, IsOperationHead, bare_operation, operation_of, head_of_fragment, IsFragmentHead, fragment_of, IsDefinition, IsDocument}
@@ -20,7 +19,6 @@ use Rattle.gql_base.proofs.WayLaws.ReadingLaws.{Law, Heads, image_law, single_la
 use Rattle.gql_base.proofs.WayLaws.RepeatingLaws.{one_or_more_law, optional_law, passes_repeated}
 use Rattle.gql_base.proofs.WayLaws.LevelLaws.{Family}
 use Rattle.gql_base.proofs.WayLaws.SymbolTests.{mark_law, name_law, heads_single, heads_mark, heads_name, heads_pair, heads_image, heads_choice, passes_heads, passes_optional, passes_pair, then_law}
-use Rattle.gql_base.proofs.PartLaws.ValueLaws.{value_law}
 use Rattle.gql_base.proofs.PartLaws.TypeLaws.{type_law}
 use Rattle.document_reader.proofs.SelectionLaws.{heads_set, set_law}
 

@@ -1,31 +1,20 @@
 -- Definitions one after the other, and what follows for documents.
-use Rattle.std.proofs.Common.{ℕ, ◌≡◌, ◌≤◌, ◌<◌, true, false, List, [], ◌∷◌, ◌++◌, length, map, Ok, refl, sym, ap, ◌∙◌, subst, arith, append-nil}
+use Rattle.std.proofs.Common.{ℕ, ◌≡◌, ◌≤◌, ◌<◌, List, [], ◌∷◌, ◌++◌, length, map, Ok, refl, sym, ap, ◌∙◌, subst, arith}
 use Rattle.gql_base.specs.declared.lexical.token.Token.{Token}
-use Rattle.gql_base.specs.declared.lexical.token.TokenKind.TheVariants.{Name}
 use Rattle.gql_base.specs.declared.ways.source.Source.{Source}
 use Rattle.gql_base.specs.declared.ways.source.Halt.{Halt}
-use Rattle.gql_base.specs.declared.ways.source.Halt.TheVariants as halt
-use Rattle.gql_base.specs.declared.lexical.lexing.LexFault.{LexFault}
-use Rattle.gql_base.specs.declared.lexical.lexing.LexFault.TheVariants as lexical
-use Rattle.gql_base.specs.lexical.Tokens.{Lexes, IsFaultOf}
 use Rattle.gql_base.specs.ways.Symbols.{Symbols}
-use Rattle.gql_base.specs.ways.Reading.{next, listed, repeated, is_there}
-use Rattle.gql_base.specs.ways.Grammar.{Nested, plain, Within}
+use Rattle.gql_base.specs.ways.Reading.{listed, repeated, is_there}
 use Rattle.gql_base.specs.ways.FirstFaults.{level_limit}
 use Rattle.gql_base.specs.ways.Sources.{ahead, Halts, offset_of}
-use Rattle.gql_base.proofs.WayLaws.Cursor.{some_ahead, none_ahead}
-use Rattle.gql_base.proofs.WayLaws.ReadingLaws.{ok_same}
-use Rattle.gql_base.proofs.WayLaws.LevelLaws.{is_read}
+use Rattle.gql_base.proofs.WayLaws.Cursor.{none_ahead}
 use Rattle.gql_base.proofs.WayLaws.Loops.{joined, loop_begins, first_halts}
-use Rattle.gql_base.proofs.WayLaws.Readings.{halts_at_fault, halts_for_memory}
-use Rattle.document_reader.specs.declared.document.DocFault.{DocFault}
-use Rattle.document_reader.specs.declared.document.DocFault.TheVariants as fault
 use Rattle.document_reader.specs.declared.trees.Definition.{Definition}
-use Rattle.document_reader.specs.Documents.{DefinitionTree, IsDocument}
+use Rattle.document_reader.specs.Documents.{DefinitionTree}
 use Rattle.document_reader.specs.DocumentReading.{definition_at, document_at}
 use Rattle.document_reader.specs.Trees.{definition_tree}
 use Rattle.document_reader.specs.Places.{BeginsAt, StandsFrom, AllStandFrom}
-use Rattle.document_reader.proofs.DocumentLaws.{definition_law, document_family}
+use Rattle.document_reader.proofs.DocumentLaws.{definition_law}
 
 pub stands : (s : Source) (from to : ℕ) (d : Definition) → definition_at level_limit (ahead s from) ≡ Ok (definition_tree d, ahead s to) → from < to → to ≤ length s.tokens.now → BeginsAt (offset_of s.text.now s.tokens.now from) d → StandsFrom s.text.now s.tokens.now from to d
 stands s from to d e onward short begins =

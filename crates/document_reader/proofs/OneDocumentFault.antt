@@ -5,7 +5,7 @@ use Rattle.gql_base.specs.ways.Reading.{next, is_there}
 use Rattle.gql_base.specs.ways.FirstFaults.{level_limit}
 use Rattle.gql_base.specs.ways.TextFaults.{TextFault, lexical_fault, unexpected_at, too_deep_at, no_memory, HasTextFault}
 use Rattle.gql_base.proofs.WayLaws.RepeatingLaws.{repeats, one_or_more_ends}
-use Rattle.gql_base.proofs.WayLaws.OneTextFault.{TreeOrFault, tree_or_fault, no_text_fault, one_text_fault}
+use Rattle.gql_base.proofs.WayLaws.OneTextFault.{tree_or_fault, no_text_fault, one_text_fault}
 use Rattle.document_reader.specs.declared.document.DocFault.{DocFault}
 use Rattle.document_reader.specs.declared.document.DocFault.TheVariants.{Lex, Unexpected, TooDeep, Memory}
 use Rattle.document_reader.specs.Documents.{DefinitionTree, IsDocument}

@@ -19,6 +19,7 @@ use Rattle.document_reader.specs.Documents.{FieldNames, SelectionTree, field_sel
 use Rattle.document_reader.specs.PrintedDocuments.{argument_symbols, arguments_symbols, directive_symbols, directives_symbols, names_symbols, condition_symbols, selection_symbols, set_symbols, selections_symbols, default_symbols, variable_symbols, variables_symbols, kind_name, maybe_name_symbols, definition_symbols, document_symbols}
 use Rattle.gql_base.specs.printing.PlacelessSymbols.{name_placeless}
 use Rattle.document_reader.specs.PlacelessDocuments.{maybe_name_placeless, names_placeless, argument_placeless, directive_placeless, selection_placeless, selections_placeless, default_placeless, variable_placeless, definition_placeless, document_placeless}
+use Rattle.document_reader.proofs.AlikeSelections.{head_placeless}
 
 -- names, arguments and directives
 
@@ -52,9 +53,6 @@ field_names_rewrite {n = n} {d = d} = record { says = λ p ws is b. same_symbols
 
     second_name : Rewrites n (Image some_second (Pair (Single (exact Colon) d) (Single any_name d))) maybe_name_placeless second_symbols
     second_name = rewrites_image some_second (rewrites_pair (rewrites_mark Colon) name_rewrites) (λ p. refl) (λ p ws is. refl)
-
-abbrev head_placeless : FieldNames × (List NamedValue × List DirectiveTree) → FieldNames × (List NamedValue × List DirectiveTree)
-head_placeless p = (names_placeless p.0, (map argument_placeless p.1.0, map directive_placeless p.1.1))
 
 abbrev head_symbols : FieldNames × (List NamedValue × List DirectiveTree) → Symbols
 head_symbols p = names_symbols p.0 ++ (arguments_symbols p.1.0 ++ directives_symbols p.1.1)

@@ -1,16 +1,12 @@
 -- What reading a set or a selection is, by its first symbol; what can be repeated; and what selections of the program stand for.
-use Rattle.std.proofs.Common.{ℕ, zero, suc, ◌-◌, ◌≡◌, Bool, false, map, Vec, Global, Option, refl, sym, ap, arith}
-use Rattle.gql_base.specs.declared.lexical.token.TokenKind.TheVariants.{At, CloseParen, CloseBrace, OpenBrace, Spread}
+use Rattle.std.proofs.Common.{ℕ, zero, suc, ◌-◌, ◌≡◌, false, map, Vec, Global, Option, refl, sym, ap, arith}
+use Rattle.gql_base.specs.declared.lexical.token.TokenKind.TheVariants.{CloseBrace, OpenBrace, Spread}
 use Rattle.gql_base.specs.declared.parts.trees.Name.{Name}
 use Rattle.gql_base.specs.declared.parts.trees.Directive.{Directive}
 use Rattle.gql_base.specs.ways.Symbols.{Symbols}
 use Rattle.gql_base.specs.ways.Reading.{next, single, pair, image, takes, exact, level, second, up_to}
-use Rattle.gql_base.specs.parts.Values.{value_at, named_value_at}
 use Rattle.gql_base.proofs.WayLaws.RepeatingLaws.{Repeats, repeats}
-use Rattle.gql_base.proofs.PartLaws.ValueLaws.{value_law, field_law, field_begins}
-use Rattle.gql_base.specs.parts.Arguments.{directive_at}
 use Rattle.gql_base.specs.parts.Trees.{directive_tree}
-use Rattle.gql_base.proofs.PartLaws.ArgumentLaws.{heads_directive, directive_law}
 use Rattle.document_reader.specs.declared.trees.Selection.{Selection}
 use Rattle.document_reader.specs.declared.trees.Field.{Field}
 use Rattle.document_reader.specs.declared.trees.Selection.TheViews.{Field as FieldSelection, Inline as InlineSelection}

@@ -2,20 +2,19 @@
 use Rattle.std.proofs.Common.{ℕ, zero, suc, ◌+◌, ◌≡◌, ◌≤◌, inl, inr, Bool, true, false, List, [], ◌∷◌, ◌++◌, Option, None, Some, refl, sym, ap, ◌∙◌, subst, arith}
 use Rattle.std.specs.Prelude.{◌||◌, codes}
 use Rattle.std.specs.Str.{bytes_eq}
-use Rattle.gql_base.specs.declared.lexical.token.TokenKind.TheVariants.{Colon, At, Spread, OpenParen, CloseParen, OpenBrace, CloseBrace}
+use Rattle.gql_base.specs.declared.lexical.token.TokenKind.TheVariants.{Colon, At, Spread, OpenParen, OpenBrace, CloseBrace}
 use Rattle.gql_base.specs.ways.Symbols.{Symbol, punctuator, identifier, integer, string, Symbols}
-use Rattle.gql_base.specs.ways.Reading.{Reader, Test, next, is_some, takes, single, pair, image, optional, one_or_more, second, level, exact, Identifier, any_name, up_to, never, inside, some_second}
+use Rattle.gql_base.specs.ways.Reading.{Reader, Test, next, is_some, takes, optional, second, level, exact, Identifier, any_name, up_to, never, some_second}
 use Rattle.gql_base.specs.ways.Grammar.{Nested, plain, Single, Pair, Image, Choice, Optional, Repeated, OneOrMore, Level}
-use Rattle.gql_base.specs.parts.Arguments.{AreArguments, IsDirective, AreDirectives, arguments_at, maybe_arguments_at, directive_at, directives_at}
 use Rattle.gql_base.proofs.WayLaws.WordLaws.{left_false, right_false}
 use Rattle.gql_base.proofs.PartLaws.ArgumentLaws.{goes_directives, heads_arguments, maybe_arguments_law, heads_directive, directives_law}
 use Rattle.document_reader.specs.Documents.{SelectionTree, field_selection, fragment_spread, inline_fragment, SelectionTrees, no_selection, selection_then, on_word, unless, fragment_name, AreFieldNames, IsFieldHead, IsTypeCondition, IsSpreadEnd, IsInlineHead, IsSelection, IsSelectionSet, AreSelections}
 use Rattle.document_reader.specs.DocumentReading.{second_name_at, field_names_at, field_head_at, type_condition_at, selections_from, set_of, field_of, spread_of, inline_of, field_with, spread_at, inline_head_at, inline_with, dots_with, selection_with, in_set, set_at}
 use Rattle.gql_base.proofs.WayLaws.ReadingLaws.{Law, Heads, image_law, single_law, choice_law, as_law, after, wider_law}
-use Rattle.gql_base.proofs.WayLaws.RepeatingLaws.{repeated_law, one_or_more_law, optional_law, passes_repeated}
+use Rattle.gql_base.proofs.WayLaws.RepeatingLaws.{one_or_more_law, optional_law, passes_repeated}
 use Rattle.gql_base.proofs.WayLaws.LevelLaws.{open_law, shut_law}
-use Rattle.gql_base.proofs.WayLaws.SymbolTests.{when_true, mark_law, name_law, heads_single, heads_mark, heads_name, SaysOfNames, heads_pair, heads_image, heads_choice, passes_heads, passes_optional, passes_pair, heads_after, then_law, or_false, from_brackets, to_brackets}
-use Rattle.gql_base.proofs.PartLaws.ValueLaws.{value_law, field_law, field_begins}
+use Rattle.gql_base.proofs.WayLaws.SymbolTests.{when_true, mark_law, name_law, heads_single, heads_mark, heads_name, SaysOfNames, heads_pair, heads_image, heads_choice, passes_heads, passes_optional, passes_pair, heads_after, then_law, from_brackets, to_brackets}
+use Rattle.std.proofs.lemmas.Bool.{or_parts}
 
 -- with what things may go on
 
@@ -159,7 +158,7 @@ of_set d (selection_then s ss) f is = let r = of_selections (suc d) ss is.2.1 is
 in_set_law : (left more d n : ℕ) (set set2 : Reader SelectionTrees) → left ≤ more → n ≡ d + left → Law (IsSelectionSet d) n never set set2
     → Law (Image set_of (Pair (OneOrMore (IsSelection d)) (Single (exact CloseBrace) d))) n never (in_set (selection_with left set)) (in_set (selection_with more set2))
 in_set_law left more d n set set2 le e l = image_law set_of (then_law
-    (one_or_more_law {goes = both} (up_to CloseBrace) (selection_law left more d n set set2 le e l) (heads_selection d refl (λ b at. refl)) refl (heads_selection d refl (λ b at. refl)) (λ w h. or_false (goes_field w) (up_to CloseBrace w) h))
+    (one_or_more_law {goes = both} (up_to CloseBrace) (selection_law left more d n set set2 le e l) (heads_selection d refl (λ b at. refl)) refl (heads_selection d refl (λ b at. refl)) (λ w h. or_parts (goes_field w) (up_to CloseBrace w) h))
     (mark_law CloseBrace (omega (arith, e))) (passes_heads (heads_mark CloseBrace tt refl)))
   where
     both : Test

@@ -1,5 +1,5 @@
 -- What the reader of documents answers.
-use Rattle.std.specs.Prelude.{ℕ, ◌≡◌, List, [], length, map, Result}
+use Rattle.std.specs.Prelude.{ℕ, List, [], length, map, Result}
 use Rattle.gql_base.specs.declared.lexical.token.Token.{Token}
 use Rattle.gql_base.specs.lexical.Tokens.{Lexes}
 use Rattle.gql_base.specs.ways.Symbols.{symbols_from}

@@ -1,9 +1,9 @@
 -- How documents are read, where so many levels may still be opened. These words serve the proof of the readers: what
 -- a document is stands in `Documents`.
-use Rattle.std.specs.Prelude.{ℕ, zero, suc, ◌-◌, Bool, true, false, List, [], ◌∷◌, Option, None, Some}
-use Rattle.gql_base.specs.declared.lexical.token.TokenKind.TheVariants.{Dollar, Colon, Equals, At, Spread, OpenParen, CloseParen, OpenBrace, CloseBrace}
-use Rattle.gql_base.specs.ways.Reading.{Reader, Test, takes, single, pair, image, choice, optional, repeated, one_or_more, second, opener, level, exact, Identifier, any_name, up_to, is_some, inside, some_second, is_there}
-use Rattle.gql_base.specs.parts.Values.{NamedValue, named_value_at, value_at, ValueTree}
+use Rattle.std.specs.Prelude.{ℕ, zero, suc, ◌-◌, true, false, List, [], ◌∷◌, Option, None, Some}
+use Rattle.gql_base.specs.declared.lexical.token.TokenKind.TheVariants.{Dollar, Colon, Spread, OpenParen, CloseParen, OpenBrace, CloseBrace}
+use Rattle.gql_base.specs.ways.Reading.{Reader, takes, single, pair, image, choice, optional, one_or_more, second, opener, level, exact, Identifier, any_name, up_to, inside, some_second, is_there}
+use Rattle.gql_base.specs.parts.Values.{NamedValue}
 use Rattle.gql_base.specs.parts.TypeReferences.{type_at}
 use Rattle.gql_base.specs.parts.Arguments.{DirectiveTree, maybe_arguments_at, directives_at, maybe_default_at}
 use Rattle.gql_base.specs.parts.OperationKinds.{kind_word}

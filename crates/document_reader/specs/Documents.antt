@@ -1,13 +1,13 @@
 -- Executable documents (GraphQL October 2021, 2.2 to 2.12): their trees, and the symbols that they are written with.
-use Rattle.std.specs.Prelude.{ℕ, suc, ◌≡◌, ◌⊎◌, Bool, true, false, List, [], ◌++◌, Option, None, Some, codes, if◌then◌else◌}
+use Rattle.std.specs.Prelude.{ℕ, suc, ◌≡◌, ◌⊎◌, Bool, true, false, List, [], ◌++◌, Option, None, Some, codes}
 use Rattle.std.specs.Str.{bytes_eq}
-use Rattle.gql_base.specs.declared.lexical.token.TokenKind.TheVariants.{Dollar, Colon, Equals, At, Spread, OpenParen, CloseParen, OpenBrace, CloseBrace}
+use Rattle.gql_base.specs.declared.lexical.token.TokenKind.TheVariants.{Dollar, Colon, Spread, OpenParen, CloseParen, OpenBrace, CloseBrace}
 use Rattle.gql_base.specs.declared.parts.trees.OperationKind.{OperationKind}
-use Rattle.gql_base.specs.declared.parts.trees.OperationKind.TheVariants.{Query, Mutation, Subscription}
+use Rattle.gql_base.specs.declared.parts.trees.OperationKind.TheVariants.{Query}
 use Rattle.gql_base.specs.ways.Symbols.{punctuator, identifier, integer, string}
-use Rattle.gql_base.specs.ways.Reading.{Taking, exact, Identifier, any_name, second, when, keyword, inside, some_second}
-use Rattle.gql_base.specs.ways.Grammar.{Nested, Single, Pair, Image, Choice, Optional, Repeated, OneOrMore, Bracketed}
-use Rattle.gql_base.specs.parts.Values.{ValueTree, NamedValue, named_value_of, IsValue}
+use Rattle.gql_base.specs.ways.Reading.{Taking, exact, Identifier, any_name, keyword, inside, some_second}
+use Rattle.gql_base.specs.ways.Grammar.{Nested, Single, Pair, Image, Choice, Optional, OneOrMore, Bracketed}
+use Rattle.gql_base.specs.parts.Values.{ValueTree, NamedValue}
 use Rattle.gql_base.specs.parts.TypeReferences.{TypeTree, IsType}
 use Rattle.gql_base.specs.parts.Arguments.{DirectiveTree, AreArguments, AreDirectives, IsDefault}
 use Rattle.gql_base.specs.parts.OperationKinds.{kind_word}

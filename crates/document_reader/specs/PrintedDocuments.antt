@@ -2,7 +2,7 @@
 -- 2.2 to 2.12). Where a list is empty, nothing of it is printed.
 use Rattle.std.specs.Prelude.{ℕ, List, [], ◌∷◌, ◌++◌, Option, None, Some, codes}
 use Rattle.std.specs.List.{flat_map}
-use Rattle.gql_base.specs.declared.lexical.token.TokenKind.TheVariants.{Dollar, Colon, Equals, At, Spread, OpenParen, CloseParen, OpenBrace, CloseBrace}
+use Rattle.gql_base.specs.declared.lexical.token.TokenKind.TheVariants.{Dollar, Colon, Equals, At, Spread, OpenBrace, CloseBrace}
 use Rattle.gql_base.specs.declared.parts.trees.OperationKind.{OperationKind}
 use Rattle.gql_base.specs.declared.parts.trees.OperationKind.TheVariants.{Query, Mutation, Subscription}
 use Rattle.gql_base.specs.ways.Symbols.{punctuator, Symbols}

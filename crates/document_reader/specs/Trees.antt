@@ -1,12 +1,8 @@
 -- What documents of the program and their parts stand for.
 use Rattle.std.specs.Prelude.{List, map, Option, None, Some}
 use Rattle.gql_base.specs.declared.parts.trees.Name.{Name}
-use Rattle.gql_base.specs.declared.parts.trees.Directive.{Directive}
-use Rattle.gql_base.specs.declared.parts.trees.Value.{Value}
 use Rattle.gql_base.specs.ways.Reading.{Identifier}
-use Rattle.gql_base.specs.parts.Values.{ValueTree}
-use Rattle.gql_base.specs.parts.Trees.{identifier_of, named_value, value_tree, type_tree, directive_tree, maybe_value}
-use Rattle.gql_base.specs.parts.Arguments.{DirectiveTree}
+use Rattle.gql_base.specs.parts.Trees.{identifier_of, named_value, type_tree, directive_tree, maybe_value}
 use Rattle.document_reader.specs.declared.trees.Selection.{Selection}
 use Rattle.document_reader.specs.declared.trees.Selection.TheOpen.{Selection-F, Field-F}
 use Rattle.document_reader.specs.declared.trees.Selection.TheFolds.{fold-Selection, fold-Field}

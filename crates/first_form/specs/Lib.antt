@@ -4,7 +4,7 @@ pub mod Reading
 pub mod SchemaReading
 pub mod DocumentReading
 pub mod LexedTexts
-pub mod Indexes
 pub mod Views
 pub mod Faults
 pub mod IndexedTypes
+pub mod KeyedNodes

@@ -2,7 +2,7 @@
 -- The grammar is that of GraphQL (October 2021, 3.6, 3.11) without descriptions, arguments, interfaces and
 -- directives, but for `@listSize` (IBM GraphQL Cost Directives Specification).
 use Rattle.std.specs.Prelude.{ℕ, ◌&&◌, ◌||◌, not, Bool, true, false, List, [], ◌∷◌, ◌++◌, map, find, nat_eq, nat_le, Option, Some, None, is_some, IsTrue, codes, if◌then◌else◌}
-use Rattle.std.specs.List.{flat_map, list_any, list_all, starts_with}
+use Rattle.std.specs.List.{flat_map, list_all, starts_with}
 use Rattle.std.specs.Fmt.{decimal}
 use Rattle.std.specs.Str.{bytes_eq}
 use Rattle.gql_base.specs.lexical.Pieces.{Lexeme, word, number, mark}
@@ -11,6 +11,7 @@ use Rattle.gql_base.specs.declared.lexical.token.TokenKind.TheVariants.{Bang, Co
 use Rattle.static_cost.specs.declared.first.FirstKind.{FirstKind}
 use Rattle.static_cost.specs.declared.first.FirstKind.TheVariants.{Int, Str, Bool as BoolKind, Id, Object}
 use Rattle.static_cost.specs.declared.first.FirstList.{FirstList}
+pub use Rattle.gql_base.specs.names.Names.{are_distinct}
 
 -- A field: its name, the named type of its values, and whether a value may be null. Where it is a list, these
 -- are of the whole list and of its items, with the size that `@listSize` assumes.
@@ -97,11 +98,6 @@ has_type types name = is_some (type_named types name)
 -- whether a name is that of a scalar of the first form, or of a type of the schema
 abbrev pub is_known : List TypeTree → List ℕ → Bool
 is_known types named = is_leaf (kind_of named) || has_type types named
-
--- whether no name stands twice
-abbrev pub are_distinct : List (List ℕ) → Bool
-are_distinct [] = true
-are_distinct (name ∷ names) = not (list_any (bytes_eq name) names) && are_distinct names
 
 abbrev pub is_size : Option ℕ → Bool
 is_size None = true

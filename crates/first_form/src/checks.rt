@@ -8,7 +8,7 @@ ghost use Rattle.first_form.specs.IndexedTypes.{indexed_type, indexed_types};
 
 use crate::definition::{FieldDefinition, TypeDefinition};
 use crate::indexed::{IndexedType, index_types};
-use crate::named::{NameIndex, index_of};
+use gql_base::{NameIndex, index_of};
 use static_cost::FirstKind;
 use std::alloc::{AllocError, Global};
 

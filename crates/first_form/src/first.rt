@@ -14,11 +14,11 @@ use crate::checks::{is_schema, type_named};
 use crate::definition::{TypeDefinition, read_types};
 use crate::indexed::{IndexedType, index_types};
 use crate::lexed::{Lexed, Stop};
-use crate::named::{NameIndex, index_of};
 use crate::selection::read_set;
-use gql_base::{LexFault, lex};
+use gql_base::{LexFault, NameIndex, index_of, lex};
 use static_cost::FirstNode;
 use std::alloc::Global;
+use thiserror::Error;
 
 /// How many selection sets may be open at any place of a document.
 const MOST_OPEN: usize = 50;
@@ -43,10 +43,13 @@ impl FirstPart {
 }
 
 /// Why no nodes were read.
-#[derive(Clone, Copy, Debug, PartialEq, Eq)]
+#[derive(Clone, Copy, Debug, PartialEq, Eq, Error)]
 pub enum FirstFault {
     /// A text hasn't the first form: the schema, or, where the schema has it, the document.
+    #[error("the {which:?} hasn't the first form")]
     NotBuilt { which: FirstPart },
+    /// There was no memory for the nodes.
+    #[error("there was not enough memory for the nodes")]
     Memory,
 }
 

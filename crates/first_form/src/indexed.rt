@@ -5,7 +5,7 @@ ghost use Rattle.first_form.specs.Views.{types_of};
 ghost use Rattle.first_form.specs.IndexedTypes.{indexed_types};
 
 use crate::definition::{FieldDefinition, TypeDefinition};
-use crate::named::{NameIndex, Named, index_of};
+use gql_base::{NameIndex, Named, index_of};
 use std::alloc::{AllocError, Global};
 
 /// An object type, whose fields are found by their names.

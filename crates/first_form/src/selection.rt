@@ -10,13 +10,14 @@ ghost use Rattle.first_form.specs.DocumentReading.{node_with, set_of, below_at, 
 ghost use Rattle.first_form.specs.LexedTexts.{lexemes_at, Parses};
 ghost use Rattle.first_form.specs.Views.{field_of, fields_of};
 ghost use Rattle.first_form.specs.IndexedTypes.{indexed_types};
+ghost use Rattle.first_form.specs.KeyedNodes.{nodes_of};
 
 use crate::checks::{field_named, kind_of, type_named};
 use crate::definition::FieldDefinition;
 use crate::indexed::IndexedType;
 use crate::lexed::{Lexed, Stop};
-use crate::named::{NameIndex, index_of};
-use gql_base::{Text, TokenKind};
+use crate::named::KeyedNode;
+use gql_base::{NameIndex, Text, TokenKind, index_of};
 use static_cost::{FirstKind, FirstList, FirstNode};
 use std::alloc::{AllocError, Global};
 
@@ -61,9 +62,20 @@ fn node_of(field: &FieldDefinition, key: Text, below: Vec<FirstNode>) -> FirstNo
     }
 }
 
+// Nodes by their keys.
+fn keyed<'a>(alloc: Global, nodes: &'a [FirstNode]) -> Result<Vec<KeyedNode<'a>>, AllocError>
+    ensures { IfOk result (λ keyed. nodes_of keyed.items ≡ nodes.now) }
+{
+    let mut keyed = Vec::new(alloc);
+    for node in nodes {
+        keyed.push(KeyedNode { node })?;
+    }
+    Ok(keyed)
+}
+
 // Whether there is a field, and none stands twice.
-fn is_indexed_set(nodes: &NameIndex<'_, FirstNode>) -> bool
-    ensures { result ≡ is_set (firsts_of nodes.now.items.now) }
+fn is_indexed_set(nodes: &NameIndex<'_, KeyedNode<'_>>) -> bool
+    ensures { result ≡ is_set (firsts_of (nodes_of nodes.now.items.now)) }
 {
     !nodes.items().is_empty() && nodes.are_distinct()
 }
@@ -72,7 +84,8 @@ fn is_indexed_set(nodes: &NameIndex<'_, FirstNode>) -> bool
 fn is_set(alloc: Global, nodes: &[FirstNode]) -> Result<bool, AllocError>
     ensures { IfOk result (λ holds. holds ≡ is_set (firsts_of nodes.now)) }
 {
-    let index = index_of(alloc, nodes)?;
+    let keyed = keyed(alloc, nodes)?;
+    let index = index_of(alloc, &keyed)?;
     Ok(is_indexed_set(&index))
 }
 

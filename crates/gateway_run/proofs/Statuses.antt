@@ -1,18 +1,20 @@
 -- What a run with a status says.
-use Rattle.std.proofs.Common.{◌≡◌, ◌≤◌, ◌⊎◌, inl, inr, refl, sym, subst, ℕ, List, arith}
+use Rattle.std.proofs.Common.{◌≡◌, ◌≤◌, ◌⊎◌, inl, inr, refl, sym, subst, ℕ, List, Vec, arith}
+use Rattle.std.specs.declared.alloc.Global.{Global}
 use Rattle.outside.specs.Faults.{Rose}
+use Rattle.gateway_run.specs.Texts.{line}
 use Rattle.response_meter.specs.declared.fault.MeterFault.{MeterFault}
 use Rattle.response_meter.specs.declared.fault.MeterFault.TheVariants.{NotResponse, SizeBroken, Memory as MeterMemory}
 use Rattle.gateway_run.specs.declared.command.Command.{Command}
 use Rattle.gateway_run.specs.declared.command.Command.TheVariants.{Price, Meter}
 use Rattle.gateway_run.specs.declared.outcome.Outcome.{Outcome}
 use Rattle.gateway_run.specs.declared.outcome.Outcome.TheVariants.{Done, Refused, FileFailed, Faulty, Usage, Memory}
-use Rattle.gateway_run.specs.declared.outcome.TheConstants.{DONE, REFUSED, USAGE, FILE_FAILED, STREAM_FAILED, SIZE_BROKEN, NOT_RESPONSE}
+use Rattle.gateway_run.specs.declared.outcome.TheConstants.{DONE, REFUSED, USAGE, FILE_FAILED, STREAM_FAILED, NO_MEMORY, SIZE_BROKEN, NOT_RESPONSE}
 use Rattle.gateway_run.specs.Commands.{Asks, IsNoCommand}
-use Rattle.gateway_run.specs.Outcomes.{FilesTold, StreamTold, IsKept, Ends}
+use Rattle.gateway_run.specs.Outcomes.{FilesTold, StreamTold, IsKept, Writes, Ends}
 use Rattle.gateway_run.specs.Price.{PriceOf}
 use Rattle.gateway_run.specs.Meter.{status_of, MeterOf}
-use Rattle.gateway_run.specs.Program.{CameTo, ComeTo, IsFileOf, NamesFile, OneFailed}
+use Rattle.gateway_run.specs.Program.{CameTo, IsCommandOf, ComeTo, IsFileOf, NamesFile, OneFailed, PrintsOutput, PrintsRefusal, PrintsFault, IsSilent}
 
 -- the bytes that were read come to no file that failed, and to no wrong use
 price_file : (schema document name : List ℕ) → PriceOf schema document (FileFailed name) → ⊥
@@ -101,6 +103,21 @@ come_none words files outcome none (inl came) = absurd (none came.0 came.1)
 come_none words files outcome none (inr (inl usage)) = usage.1
 come_none words files outcome none (inr (inr memory)) = absurd (memory.0 none)
 
+come_done : (words : List (List ℕ)) (files : FilesTold) (output : Vec ℕ Global) → ComeTo words files (Done output) → IsCommandOf words files (Done output)
+come_done words files output (inl came) = came
+come_done words files output (inr (inl none)) = let no = none.1 in absurd (cc)
+come_done words files output (inr (inr memory)) = let no = memory.1 in absurd (cc)
+
+come_refused : (words : List (List ℕ)) (files : FilesTold) (text : List ℕ) → ComeTo words files (Refused text) → IsCommandOf words files (Refused text)
+come_refused words files text (inl came) = came
+come_refused words files text (inr (inl none)) = let no = none.1 in absurd (cc)
+come_refused words files text (inr (inr memory)) = let no = memory.1 in absurd (cc)
+
+come_fault : (words : List (List ℕ)) (files : FilesTold) (status : ℕ) (text : List ℕ) → ComeTo words files (Faulty status text) → IsCommandOf words files (Faulty status text)
+come_fault words files status text (inl came) = came
+come_fault words files status text (inr (inl none)) = let no = none.1 in absurd (cc)
+come_fault words files status text (inr (inr memory)) = let no = memory.1 in absurd (cc)
+
 -- the status of an outcome
 abbrev Ended : ℕ → ℕ → Type 0
 Ended status result = (result ≡ status) ⊎ (result ≡ STREAM_FAILED)
@@ -140,20 +157,20 @@ no_end : (status result : ℕ) → (result ≡ status → ⊥) → (result ≡ S
 no_end status result here there (inl same) = here same
 no_end status result here there (inr stream) = there stream
 
-reply_other : (status result : ℕ) → result ≤ STREAM_FAILED → IsReplyStatus status → result ≡ status → ⊥
+reply_other : (status result : ℕ) → result ≤ NO_MEMORY → IsReplyStatus status → result ≡ status → ⊥
 reply_other status result within (inl broken) same = omega (arith, within, broken, same)
 reply_other status result within (inr none) same = omega (arith, within, none, same)
 
-pub usage : (words : List (List ℕ)) (files : FilesTold) (out err : StreamTold) (outcome : Outcome) → ComeTo words files outcome → Ends outcome USAGE out err → IsNoCommand words
+pub usage : (words : List (List ℕ)) (files : FilesTold) (out err : StreamTold) (outcome : Outcome) → ComeTo words files outcome → Ends outcome USAGE out err → IsNoCommand words × IsKept out
 usage words files out err (Done output) come ends = absurd (no_end DONE USAGE (λ same. omega (arith, same)) (λ same. omega (arith, same)) (writes_ended DONE USAGE ends.0))
 usage words files out err (Refused text) come ends = absurd (no_end REFUSED USAGE (λ same. omega (arith, same)) (λ same. omega (arith, same)) (writes_ended REFUSED USAGE ends.1))
 usage words files out err (FileFailed name) come ends = absurd (omega (arith, ends.1.0))
 usage words files out err (Faulty number text) come ends =
     absurd (no_end number USAGE (reply_other number USAGE (omega (arith)) (come_faulty words files number text come)) (λ same. omega (arith, same)) (writes_ended number USAGE ends.1))
-usage words files out err Usage come ends = come_usage words files come
+usage words files out err Usage come ends = (come_usage words files come, ends.0)
 usage words files out err Memory come ends = absurd (omega (arith, ends.0))
 
-pub file_failed : (words : List (List ℕ)) (files : FilesTold) (out err : StreamTold) (outcome : Outcome) → ComeTo words files outcome → Ends outcome FILE_FAILED out err → NamesFile words files err
+pub file_failed : (words : List (List ℕ)) (files : FilesTold) (out err : StreamTold) (outcome : Outcome) → ComeTo words files outcome → Ends outcome FILE_FAILED out err → NamesFile words files out err
 file_failed words files out err (Done output) come ends = absurd (no_end DONE FILE_FAILED (λ same. omega (arith, same)) (λ same. omega (arith, same)) (writes_ended DONE FILE_FAILED ends.0))
 file_failed words files out err (Refused text) come ends = absurd (no_end REFUSED FILE_FAILED (λ same. omega (arith, same)) (λ same. omega (arith, same)) (writes_ended REFUSED FILE_FAILED ends.1))
 file_failed words files out err (FileFailed name) come ends = let found = come_file words files name come in record {
@@ -162,6 +179,7 @@ file_failed words files out err (FileFailed name) come ends = let found = come_f
   name = name;
   of_command = found.2;
   unread = found.3;
+  silent = ends.0;
   told = ends.1.1;
 }
 file_failed words files out err (Faulty number text) come ends =
@@ -177,14 +195,56 @@ stream_failed words files out err (Faulty number text) come ends = inr (ends.0, 
 stream_failed words files out err Usage come ends = absurd (omega (arith, ends.1.0))
 stream_failed words files out err Memory come ends = absurd (omega (arith, ends.0))
 
-pub done : (words : List (List ℕ)) (files : FilesTold) (out err : StreamTold) (outcome : Outcome) → ComeTo words files outcome → Ends outcome DONE out err → IsKept err
-done words files out err (Done output) come ends = ends.1
+writes_whole : {A B : Type 0} (status result : ℕ) → (result ≡ STREAM_FAILED → ⊥) → ((result ≡ status) × A) ⊎ ((result ≡ STREAM_FAILED) × B) → A
+writes_whole status result other (inl whole) = whole.1
+writes_whole status result other (inr failed) = absurd (other failed.0)
+
+pub done : (words : List (List ℕ)) (files : FilesTold) (out err : StreamTold) (outcome : Outcome) → ComeTo words files outcome → Ends outcome DONE out err → PrintsOutput words files out err
+done words files out err (Done output) come ends = (output, come_done words files output come, writes_whole DONE DONE (λ same. omega (arith, same)) ends.0, ends.1)
 done words files out err (Refused text) come ends = absurd (no_end REFUSED DONE (λ same. omega (arith, same)) (λ same. omega (arith, same)) (writes_ended REFUSED DONE ends.1))
 done words files out err (FileFailed name) come ends = absurd (omega (arith, ends.1.0))
 done words files out err (Faulty number text) come ends =
     absurd (no_end number DONE (reply_other number DONE (omega (arith)) (come_faulty words files number text come)) (λ same. omega (arith, same)) (writes_ended number DONE ends.1))
 done words files out err Usage come ends = absurd (omega (arith, ends.1.0))
 done words files out err Memory come ends = absurd (omega (arith, ends.0))
+
+pub refused : (words : List (List ℕ)) (files : FilesTold) (out err : StreamTold) (outcome : Outcome) → ComeTo words files outcome → Ends outcome REFUSED out err → PrintsRefusal words files out err
+refused words files out err (Done output) come ends = absurd (no_end DONE REFUSED (λ same. omega (arith, same)) (λ same. omega (arith, same)) (writes_ended DONE REFUSED ends.0))
+refused words files out err (Refused text) come ends = (text, come_refused words files text come, ends.0, writes_whole REFUSED REFUSED (λ same. omega (arith, same)) ends.1)
+refused words files out err (FileFailed name) come ends = absurd (omega (arith, ends.1.0))
+refused words files out err (Faulty number text) come ends =
+    absurd (no_end number REFUSED (reply_other number REFUSED (omega (arith)) (come_faulty words files number text come)) (λ same. omega (arith, same)) (writes_ended number REFUSED ends.1))
+refused words files out err Usage come ends = absurd (omega (arith, ends.1.0))
+refused words files out err Memory come ends = absurd (omega (arith, ends.0))
+
+pub no_memory : (words : List (List ℕ)) (files : FilesTold) (out err : StreamTold) (outcome : Outcome) → ComeTo words files outcome → Ends outcome NO_MEMORY out err → IsSilent out err
+no_memory words files out err (Done output) come ends = absurd (no_end DONE NO_MEMORY (λ same. omega (arith, same)) (λ same. omega (arith, same)) (writes_ended DONE NO_MEMORY ends.0))
+no_memory words files out err (Refused text) come ends = absurd (no_end REFUSED NO_MEMORY (λ same. omega (arith, same)) (λ same. omega (arith, same)) (writes_ended REFUSED NO_MEMORY ends.1))
+no_memory words files out err (FileFailed name) come ends = absurd (omega (arith, ends.1.0))
+no_memory words files out err (Faulty number text) come ends =
+    absurd (no_end number NO_MEMORY (reply_other number NO_MEMORY (omega (arith)) (come_faulty words files number text come)) (λ same. omega (arith, same)) (writes_ended number NO_MEMORY ends.1))
+no_memory words files out err Usage come ends = absurd (omega (arith, ends.1.0))
+no_memory words files out err Memory come ends = (ends.1, ends.2)
+
+-- a status of its own is the outcome's
+fault_whole : (words : List (List ℕ)) (files : FilesTold) (status number : ℕ) (text : List ℕ) (out err : StreamTold) → SIZE_BROKEN ≤ status → ComeTo words files (Faulty number text) → IsKept out
+    → Writes (line text) number status err → PrintsFault words status files out err
+fault_whole words files status number text out err large come kept (inl whole) =
+    (text, subst (λ n. IsCommandOf words files (Faulty n text)) (sym whole.0) (come_fault words files number text come), kept, whole.1)
+fault_whole words files status number text out err large come kept (inr failed) = let same = failed.0 in absurd (omega (arith, large, same))
+
+large_other : (status number : ℕ) → SIZE_BROKEN ≤ status → number ≤ NO_MEMORY → Ended number status → ⊥
+large_other status number large small (inl same) = omega (arith, large, small, same)
+large_other status number large small (inr same) = omega (arith, large, same)
+
+pub faulty : (words : List (List ℕ)) (files : FilesTold) (status : ℕ) (out err : StreamTold) (outcome : Outcome) → SIZE_BROKEN ≤ status → ComeTo words files outcome → Ends outcome status out err
+    → PrintsFault words status files out err
+faulty words files status out err (Done output) large come ends = absurd (large_other status DONE large (omega (arith)) (writes_ended DONE status ends.0))
+faulty words files status out err (Refused text) large come ends = absurd (large_other status REFUSED large (omega (arith)) (writes_ended REFUSED status ends.1))
+faulty words files status out err (FileFailed name) large come ends = absurd (omega (arith, large, ends.1.0))
+faulty words files status out err (Faulty number text) large come ends = fault_whole words files status number text out err large come ends.0 ends.1
+faulty words files status out err Usage large come ends = absurd (omega (arith, large, ends.1.0))
+faulty words files status out err Memory large come ends = absurd (omega (arith, large, ends.0))
 
 pub other_words : (words : List (List ℕ)) (files : FilesTold) (status : ℕ) (out err : StreamTold) (outcome : Outcome) → IsNoCommand words → ComeTo words files outcome → Ends outcome status out err → status ≡ USAGE
 other_words words files status out err outcome none come ends =

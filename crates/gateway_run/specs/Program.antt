@@ -1,11 +1,12 @@
 -- What the program does.
-use Rattle.std.specs.Prelude.{◌≡◌, ◌⊎◌, ℕ, List}
+use Rattle.std.specs.Prelude.{◌≡◌, ◌⊎◌, ℕ, List, Vec}
+use Rattle.std.specs.declared.alloc.Global.{Global}
 use Rattle.gateway_run.specs.declared.command.Command.{Command}
 use Rattle.gateway_run.specs.declared.command.Command.TheVariants.{Price, Meter}
 use Rattle.gateway_run.specs.declared.command.WordsFault.{WordsFault}
 use Rattle.gateway_run.specs.declared.command.WordsFault.TheVariants.{Usage as NoCommand, Memory as NoMemory}
 use Rattle.gateway_run.specs.declared.outcome.Outcome.{Outcome}
-use Rattle.gateway_run.specs.declared.outcome.Outcome.TheVariants.{Usage, Memory}
+use Rattle.gateway_run.specs.declared.outcome.Outcome.TheVariants.{Done, Refused, Faulty, Usage, Memory}
 use Rattle.gateway_run.specs.Commands.{Asks, IsNoCommand}
 use Rattle.outside.specs.Faults.{Rose}
 use Rattle.gateway_run.specs.Texts.{line, file_text}
@@ -23,9 +24,13 @@ abbrev pub no_command : WordsFault → Outcome
 no_command NoCommand = Usage
 no_command NoMemory = Memory
 
+-- The command that the words ask for came to this.
+abbrev pub IsCommandOf : List (List ℕ) → FilesTold → Outcome → Type 0
+IsCommandOf words files outcome = (command : Command) × Asks words command × CameTo command files outcome
+
 -- What words came to: those of a command, what it came to; those of none, a wrong use; and there was no memory only for words of a command.
 abbrev pub ComeTo : List (List ℕ) → FilesTold → Outcome → Type 0
-ComeTo words files outcome = ((command : Command) × Asks words command × CameTo command files outcome)
+ComeTo words files outcome = IsCommandOf words files outcome
     ⊎ (IsNoCommand words × (outcome ≡ Usage))
     ⊎ ((¬ IsNoCommand words) × (outcome ≡ Memory))
 
@@ -38,14 +43,31 @@ abbrev pub IsFileOf : Command → List ℕ → Type 0
 IsFileOf (Price schema document) name = (name ≡ schema) ⊎ (name ≡ document)
 IsFileOf (Meter schema document reply) name = (name ≡ schema) ⊎ (name ≡ document) ⊎ (name ≡ reply)
 
--- A file of the command that the words ask for was not read; and the error stream took the line that names it, or failed.
-pub record NamesFile (words : List (List ℕ)) (files : FilesTold) (err : StreamTold) : Type 0 where
+-- A file of the command that the words ask for was not read; just the line that names it was written, or the error stream failed.
+pub record NamesFile (words : List (List ℕ)) (files : FilesTold) (out err : StreamTold) : Type 0 where
   pub command : Command
   pub asks : Asks words command
   pub name : List ℕ
   pub of_command : IsFileOf command name
   pub unread : Rose (files.faults_before name) (files.faults_after name)
+  pub silent : IsKept out
   pub told : Gains err (line (file_text name)) ⊎ HasFailed err
+
+-- The command came to this output, and just that was written.
+abbrev pub PrintsOutput : List (List ℕ) → FilesTold → StreamTold → StreamTold → Type 0
+PrintsOutput words files out err = (output : Vec ℕ Global) × IsCommandOf words files (Done output) × Gains out (line output.items) × IsKept err
+
+-- It was refused with this text, and just that was written.
+abbrev pub PrintsRefusal : List (List ℕ) → FilesTold → StreamTold → StreamTold → Type 0
+PrintsRefusal words files out err = (text : List ℕ) × IsCommandOf words files (Refused text) × IsKept out × Gains err (line text)
+
+-- It came to this status and text of its own, and just that was written.
+abbrev pub PrintsFault : List (List ℕ) → ℕ → FilesTold → StreamTold → StreamTold → Type 0
+PrintsFault words status files out err = (text : List ℕ) × IsCommandOf words files (Faulty status text) × IsKept out × Gains err (line text)
+
+-- Nothing was written.
+abbrev pub IsSilent : StreamTold → StreamTold → Type 0
+IsSilent out err = IsKept out × IsKept err
 
 -- One of the streams failed, and nothing was written on the other.
 abbrev pub OneFailed : StreamTold → StreamTold → Type 0

@@ -34,17 +34,6 @@ pub enum WordsFault {
     Memory,
 }
 
-impl From<AllocError> for WordsFault {
-    ghost use Rattle.std.specs.Prelude.{◌≡◌};
-    ghost use Rattle.gateway_run.specs.declared.command.WordsFault.TheVariants.{Memory};
-
-    ghost from_gives = { λ _ fault. fault ≡ Memory };
-
-    fn from(_error: AllocError) -> WordsFault {
-        WordsFault::Memory
-    }
-}
-
 // The names in the words of a price command.
 fn price_names(words: &[Text]) -> Option<(&Text, &Text)>
     ensures some { IfSome result (λ names. words.now ≡ price_words names.0.now names.1.now) }

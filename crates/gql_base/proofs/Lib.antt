@@ -2,3 +2,4 @@ pub mod LexicalLaws
 pub mod WayLaws
 pub mod PartLaws
 pub mod PrintingLaws
+pub mod NameLaws

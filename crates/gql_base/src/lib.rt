@@ -3,6 +3,7 @@
 #![tactic(auto)]
 
 mod lexical;
+mod names;
 mod parts;
 mod printing;
 mod sharing;
@@ -17,6 +18,9 @@ pub use lexical::lexing::{LexFault, lex};
 pub use lexical::literals::{integer_at, string_at, string_value};
 pub use lexical::text::Text;
 pub use lexical::token::{Span, Token, TokenKind};
+pub use names::index::{NameIndex, index_of};
+pub use names::laws::distinct_names_stand_once;
+pub use names::named::Named;
 pub use parts::arguments::{directives, maybe_arguments, maybe_default, operation_kind};
 pub use parts::fault_laws::a_value_has_one_fault;
 pub use parts::readers::{LEVEL_LIMIT, ValueFault, read_type_ref, read_value};
@@ -36,5 +40,5 @@ pub use printing::printed_texts::{
 pub use printing::printer::Printer;
 pub use printing::printing_laws::what_is_printed_is_written_as_the_same_tree;
 pub use printing::reading_back::what_is_printed_reads_back;
-pub use sharing::texts_and_trees_are_shared;
+pub use sharing::{an_index_is_shared, texts_and_trees_are_shared};
 pub use ways::source::{Halt, Source};

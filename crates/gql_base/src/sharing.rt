@@ -3,6 +3,8 @@
 use crate::lexical::lexing::LexFault;
 use crate::lexical::text::Text;
 use crate::lexical::token::Token;
+use crate::names::index::NameIndex;
+use crate::names::named::Named;
 use crate::parts::readers::ValueFault;
 use crate::parts::trees::{Argument, Directive, Name, OperationKind, TypeRef, Value};
 
@@ -20,4 +22,9 @@ pub fn texts_and_trees_are_shared() {
     is_shared::<OperationKind>();
     is_shared::<LexFault>();
     is_shared::<ValueFault>();
+}
+
+/// Threads may share an index of things that they may share.
+pub fn an_index_is_shared<T: Named + Send + Sync + 'static>() {
+    is_shared::<NameIndex<'static, T>>();
 }

@@ -1,7 +1,7 @@
 -- Marks in block strings that a `\` stands before, and the bytes between them.
 use Rattle.std.proofs.Common.{◌≡◌, ℕ, suc, ◌+◌, ◌-◌, ◌<◌, ◌≤◌, Bool, true, false, not, ◌==◌, ◌&&◌, List, [], ◌∷◌, ◌++◌, length, take, drop, get_or, refl, sym, ap, ◌∙◌, arith}
 use Rattle.std.specs.List.{AllPass, prefix_len}
-use Rattle.std.proofs.lemmas.Bool.{eqb-true}
+use Rattle.std.proofs.lemmas.Bool.{eqb-true, and_parts}
 use Rattle.std.proofs.lemmas.List.{drop-drop, drop_all, take-append-drop}
 use Rattle.std.proofs.lemmas.List.Elements.{All-head, All-tail}
 use Rattle.gql_base.specs.lexical.Strings.{begins_with_marks}
@@ -9,10 +9,6 @@ use Rattle.gql_base.specs.lexical.Scans.{is_plain_byte}
 use Rattle.gql_base.specs.lexical.Blocks.{unescaped}
 use Rattle.gql_base.proofs.LexicalLaws.Runs.{run_passes}
 use Rattle.gql_base.proofs.LexicalLaws.StringScans.{drop_head}
-
-pub both_are : (a b : Bool) → (a && b) ≡ true → (a ≡ true) × (b ≡ true)
-both_are true b e = (refl, e)
-both_are false b e = absurd (let no : false ≡ true = e in cc)
 
 pub escaped_marks : (c : ℕ) (cs : List ℕ) → ((c == 92) && begins_with_marks cs) ≡ true → unescaped (c ∷ cs) ≡ unescaped cs
 unfolding unescaped
@@ -28,8 +24,8 @@ marks_stay [] is = absurd (let no : false ≡ true = is in cc)
 marks_stay (a ∷ []) is = absurd (let no : false ≡ true = is in cc)
 marks_stay (a ∷ b ∷ []) is = absurd (let no : false ≡ true = is in cc)
 marks_stay (a ∷ b ∷ c ∷ cs) is =
-    let last = both_are ((a == 34) && (b == 34)) (c == 34) is in
-    let others = both_are (a == 34) (b == 34) last.0 in
+    let last = and_parts ((a == 34) && (b == 34)) (c == 34) is in
+    let others = and_parts (a == 34) (b == 34) last.0 in
     rw (eqb-true a 34 others.0) (rw (eqb-true b 34 others.1) (rw (eqb-true c 34 last.1) refl))
 
 plain_bytes : (xs rest : List ℕ) → AllPass is_plain_byte xs → unescaped (xs ++ rest) ≡ xs ++ unescaped rest
@@ -49,7 +45,7 @@ copy_of_marks text at below is =
     let place : at + 1 + 3 ≡ at + 4 = omega arith in
     ap unescaped (drop_head text at below)
     ∙ escaped_marks (get_or text at 0) (drop (at + 1) text) is
-    ∙ marks_stay (drop (at + 1) text) (both_are (get_or text at 0 == 92) (begins_with_marks (drop (at + 1) text)) is).1
+    ∙ marks_stay (drop (at + 1) text) (and_parts (get_or text at 0 == 92) (begins_with_marks (drop (at + 1) text)) is).1
     ∙ ap (λ xs. 34 ∷ 34 ∷ 34 ∷ unescaped xs) (drop-drop 3 (at + 1) text ∙ ap (λ k. drop k text) place)
 
 -- a byte that isn't a `\` before marks, and the bytes up to the next `\`
@@ -80,4 +76,4 @@ mark_is_ascii text at below is = rw (drop_head text at below) (third (drop (at +
     third [] e = omega arith
     third (a ∷ []) e = omega arith
     third (a ∷ b ∷ []) e = omega arith
-    third (a ∷ b ∷ c ∷ cs) e = omega (arith, eqb-true c 34 (both_are ((a == 34) && (b == 34)) (c == 34) e).1)
+    third (a ∷ b ∷ c ∷ cs) e = omega (arith, eqb-true c 34 (and_parts ((a == 34) && (b == 34)) (c == 34) e).1)

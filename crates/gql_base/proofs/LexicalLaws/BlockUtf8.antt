@@ -2,14 +2,14 @@
 use Rattle.std.proofs.Common.{◌≡◌, inl, inr, ℕ, zero, suc, ◌<◌, ◌≤◌, true, false, ◌==◌, ◌&&◌, List, [], ◌∷◌, ◌++◌, length, take, drop, map, min, get_or, IsUtf8, IsCharBoundary, refl, sym, arith, subst}
 use Rattle.std.specs.List.{join_with_byte}
 use Rattle.std.proofs.Math.Nat.{min-le_right}
-use Rattle.std.proofs.lemmas.Bool.{cases_Bool, eqb-true}
+use Rattle.std.proofs.lemmas.Bool.{cases_Bool, eqb-true, and_parts}
 use Rattle.std.proofs.lemmas.Bool.Decides.{nat_tests}
 use Rattle.std.proofs.lemmas.List.{append_assoc, append-nil, length-append, take_at, drop_at}
 use Rattle.std.proofs.lemmas.Str.{IsUtf8-nil, IsUtf8-append, IsUtf8-take, IsUtf8-drop, IsUtf8-from_ascii, IsCharBoundary-before_ascii, IsCharBoundary-after_ascii}
 use Rattle.gql_base.specs.lexical.Characters.{is_line_end}
 use Rattle.gql_base.specs.lexical.Strings.{begins_with_marks}
 use Rattle.gql_base.specs.lexical.Blocks.{unescaped, begins_with_line_feed, begun_with, lines_of, indent, common_indent, unindented, without_indent, without_blank_front, without_blank_end, block_text}
-use Rattle.gql_base.proofs.LexicalLaws.BlockMarks.{both_are, escaped_marks, other_byte}
+use Rattle.gql_base.proofs.LexicalLaws.BlockMarks.{escaped_marks, other_byte}
 use Rattle.gql_base.proofs.LexicalLaws.BlockLines.{border_of_indent, without_common_indent}
 
 -- ---- both sides of an ASCII byte
@@ -48,7 +48,7 @@ unfolding unescaped
 unescaped_after xs [] utf8 = utf8
 unescaped_after xs (c ∷ cs) utf8 = elim (cases_Bool ((c == 92) && begins_with_marks cs)) [
   | inl marks ↦ subst (λ ys. IsUtf8 (xs ++ ys)) (sym (escaped_marks c cs marks))
-      (unescaped_after xs cs (without_byte xs cs c (equal_is_ascii c 92 (both_are (c == 92) (begins_with_marks cs) marks).0 (omega arith)) utf8))
+      (unescaped_after xs cs (without_byte xs cs c (equal_is_ascii c 92 (and_parts (c == 92) (begins_with_marks cs) marks).0 (omega arith)) utf8))
   | inr other ↦ subst (λ ys. IsUtf8 (xs ++ ys)) (sym (other_byte c cs other))
       (subst IsUtf8 (append_assoc xs (c ∷ []) (unescaped cs)) (unescaped_after (xs ++ c ∷ []) cs (subst IsUtf8 (sym (append_assoc xs (c ∷ []) cs)) utf8)))
 ]
@@ -79,7 +79,7 @@ unfolding AreUtf8 AreUtf8After lines_of
 lines_after xs [] utf8 = (utf8, tt)
 lines_after xs (c ∷ cs) utf8 = elim (cases_Bool ((c == 13) && begins_with_line_feed cs)) [
   | inl both ↦ subst (AreUtf8After xs) (sym (both_end c cs both))
-      (lines_after xs cs (without_byte xs cs c (equal_is_ascii c 13 (both_are (c == 13) (begins_with_line_feed cs) both).0 (omega arith)) utf8))
+      (lines_after xs cs (without_byte xs cs c (equal_is_ascii c 13 (and_parts (c == 13) (begins_with_line_feed cs) both).0 (omega arith)) utf8))
   | inr one ↦ elim (cases_Bool (is_line_end c)) [
     | inl ends ↦ subst (AreUtf8After xs) (sym (one_ends c cs one ends)) (
       subst IsUtf8 (sym (append-nil xs)) (front_is_text xs cs c (end_is_ascii c ends) utf8),

@@ -2,7 +2,7 @@
 use Rattle.std.proofs.Common.{◌≡◌, ℕ, suc, ◌+◌, ◌-◌, ◌<◌, ◌≤◌, true, false, List, [], ◌∷◌, ◌++◌, length, drop, get_or, IsUtf8, IsCharBoundary, refl, sym, ap, ◌∙◌, arith, subst}
 use Rattle.std.specs.List.{All}
 use Rattle.std.proofs.lemmas.Bool.Decides.{nat_tests}
-use Rattle.std.proofs.lemmas.List.{length-append, length-drop, drop-drop, drop_at, get_or_append_left}
+use Rattle.std.proofs.lemmas.List.{length-append, length-drop, drop_at, get_or_append_left}
 use Rattle.std.proofs.lemmas.List.Elements.{All-cons}
 use Rattle.std.proofs.lemmas.Str.{IsUtf8-nil, IsUtf8-drop, IsUtf8-past_char, IsCharBoundary-after_ascii, IsCharBoundary-before_ascii}
 use Rattle.gql_base.specs.declared.lexical.token.Token.{Token}
@@ -10,7 +10,8 @@ use Rattle.gql_base.specs.lexical.Characters.{is_blank, is_comment_byte}
 use Rattle.gql_base.specs.lexical.Pieces.{Lexeme, Piece, token, byte_order_mark, blank, comment, lexeme_bytes, piece_bytes, IsLexeme, IsPiece, EndsBefore, Divides, token_at, tokens_from}
 use Rattle.gql_base.specs.lexical.Tokens.{Lexes, is_border}
 use Rattle.gql_base.proofs.LexicalLaws.OneDivision.{not_empty}
-use Rattle.gql_base.proofs.WayLaws.Places.{HasAsciiEnds, lexeme_ends, part_start, part_end}
+use Rattle.gql_base.proofs.WayLaws.Places.{HasAsciiEnds, lexeme_ends, part_start, part_end, get_or_after}
+use Rattle.gql_base.proofs.LexicalLaws.Runs.{rest_after}
 
 -- what follows some ASCII bytes of a text is a text
 pub after_ascii : (text xs after : List ℕ) → text ≡ xs ++ after → 0 < length xs → HasAsciiEnds xs → IsUtf8 text → IsUtf8 after
@@ -30,10 +31,6 @@ one_is_ascii c small = (small, small)
 
 no_comment_is_ascii : (c : ℕ) → is_comment_byte c ≡ false → c < 128
 no_comment_is_ascii c is = grind (arith, nat_tests)
-
-get_or_after : (xs ys : List ℕ) → get_or (xs ++ ys) (length xs) 0 ≡ get_or ys 0 0
-get_or_after [] ys = refl
-get_or_after (x ∷ xs) ys = get_or_after xs ys
 
 -- what follows a comment is a text
 after_comment : (text xs after : List ℕ) → text ≡ xs ++ after → EndsBefore (comment xs) after → IsUtf8 text → IsUtf8 after
@@ -57,9 +54,6 @@ border_true text at is = (grind (arith, nat_tests), λ below high. grind (arith,
 
 HasBorders : List ℕ → Token → Type 0
 HasBorders text t = IsCharBoundary text t.span.start × IsCharBoundary text t.span.end
-
-pub rest_after : (text xs after : List ℕ) (at : ℕ) → drop at text ≡ xs ++ after → drop (at + length xs) text ≡ after
-rest_after text xs after at cut = sym (drop-drop (length xs) at text) ∙ ap (drop (length xs)) cut ∙ drop_at xs after (length xs) refl
 
 borders_after : (ps : List Piece) (text after xs : List ℕ) (at : ℕ) → (at + length xs ≤ length text → Divides ps (drop (at + length xs) text) [] → All (HasBorders text) (tokens_from (at + length xs) ps)) → at ≤ length text → drop at text ≡ xs ++ after → Divides ps after [] → All (HasBorders text) (tokens_from (at + length xs) ps)
 borders_after ps text after xs at next within cut d =

@@ -12,7 +12,8 @@ use Rattle.std.proofs.lemmas.Fmt.{decimal_by_steps_wide, decimal_is_IsNumeral_wi
 use Rattle.gql_base.specs.lexical.Numbers.{IsWhole, minus_bytes}
 use Rattle.gql_base.specs.lexical.Pieces.{IsInRange, IsInteger}
 use Rattle.gql_base.specs.lexical.Literals.{is_numeral, integer_value}
-use Rattle.gql_base.proofs.LexicalLaws.Integers.{whole_digits, integer_is_text, le_true, lt_true}
+use Rattle.gql_base.proofs.LexicalLaws.Integers.{whole_digits, integer_is_text}
+use Rattle.gql_base.proofs.LexicalLaws.Runs.{le_true, lt_true}
 
 -- ---- digits
 

@@ -83,7 +83,7 @@ stands_bytes (x ∷ xs) all =
     stands_append (x ∷ []) (x ∷ []) xs xs (stands_byte x (All-head (λ c. stands_alone c ≡ true) x xs all)) (stands_bytes xs (All-tail (λ c. stands_alone c ≡ true) x xs all))
 
 -- `\` and a letter
-letter_found : (letter c : ℕ) (rest : List ℕ) → letter_escape letter ≡ Some c → escape_at (92 ∷ letter ∷ rest) ≡ Some (escape_with 2 c)
+pub letter_found : (letter c : ℕ) (rest : List ℕ) → letter_escape letter ≡ Some c → escape_at (92 ∷ letter ∷ rest) ≡ Some (escape_with 2 c)
 unfolding escape_at
 letter_found letter c rest is = rw is refl
 

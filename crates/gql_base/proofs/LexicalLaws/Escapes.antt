@@ -2,22 +2,17 @@
 use Rattle.std.proofs.Common.{◌≡◌, inl, inr, ℕ, ◌+◌, ◌-◌, ◌*◌, ◌<◌, ◌≤◌, Bool, true, false, ◌==◌, ◌&&◌, if◌then◌else◌, List, [], ◌∷◌, drop, get_or, refl, arith, Option, Some, None, subst}
 use Rattle.std.specs.Prelude.{nat_lt}
 use Rattle.std.specs.Char.{InScalarRange}
-use Rattle.std.proofs.lemmas.Bool.{cases_Bool, eqb-true}
+use Rattle.std.proofs.lemmas.Bool.{cases_Bool, eqb-true, and_parts}
 use Rattle.std.proofs.lemmas.Bool.Decides.{nat_tests}
 use Rattle.std.proofs.lemmas.List.{get_or-drop}
 use Rattle.gql_base.specs.declared.lexical.strings.Escape.{Escape}
 use Rattle.gql_base.specs.lexical.Characters.{is_hex, hex_value}
 use Rattle.gql_base.specs.lexical.Strings.{letter_escape, is_leading, is_trailing, joined}
 use Rattle.gql_base.specs.lexical.Scans.{letter_at, four_digits, code_unit, escape_with, pair_with, code_escape, letter_or, escape_at}
+use Rattle.gql_base.proofs.LexicalLaws.Runs.{some_is, not_some}
 
 pub IsEscape : List ℕ → Escape → Type 0
 IsEscape text e = (0 < e.length) × (get_or text (e.length - 1) 0 < 128) × InScalarRange e.character
-
-some_is : {A : Type 0} (x y : A) → Some x ≡ Some y → x ≡ y
-some_is x y same = cc
-
-not_some : {A : Type 0} (x : A) → None ≡ Some x → ⊥
-not_some x same = cc
 
 -- ---- letters
 
@@ -59,10 +54,6 @@ letter_there (a ∷ b ∷ rest) c found =
 hex_small : (c : ℕ) → is_hex c ≡ true → (c < 128) × (hex_value c < 16)
 hex_small c is = (grind (arith, nat_tests), grind (arith, nat_tests))
 
-and_both : (a b : Bool) → (a && b) ≡ true → (a ≡ true) × (b ≡ true)
-and_both true b is = (refl, is)
-and_both false b is = absurd (let no_way : false ≡ true = is in cc)
-
 digits_there : (rest : List ℕ) (n : ℕ) → four_digits rest ≡ Some n → (n < 65536) × (get_or rest 3 0 < 128)
 digits_there [] n found = absurd (not_some n found)
 digits_there (a ∷ []) n found = absurd (not_some n found)
@@ -71,9 +62,9 @@ digits_there (a ∷ b ∷ c ∷ []) n found = absurd (not_some n found)
 digits_there (a ∷ b ∷ c ∷ d ∷ rest) n found =
     elim (cases_Bool (is_hex a && is_hex b && is_hex c && is_hex d)) [
       | inl t ↦
-          let first : ((is_hex a && is_hex b && is_hex c) ≡ true) × (is_hex d ≡ true) = and_both (is_hex a && is_hex b && is_hex c) (is_hex d) t in
-          let second : ((is_hex a && is_hex b) ≡ true) × (is_hex c ≡ true) = and_both (is_hex a && is_hex b) (is_hex c) first.0 in
-          let third : (is_hex a ≡ true) × (is_hex b ≡ true) = and_both (is_hex a) (is_hex b) second.0 in
+          let first : ((is_hex a && is_hex b && is_hex c) ≡ true) × (is_hex d ≡ true) = and_parts (is_hex a && is_hex b && is_hex c) (is_hex d) t in
+          let second : ((is_hex a && is_hex b) ≡ true) × (is_hex c ≡ true) = and_parts (is_hex a && is_hex b) (is_hex c) first.0 in
+          let third : (is_hex a ≡ true) × (is_hex b ≡ true) = and_parts (is_hex a) (is_hex b) second.0 in
           let value : (hex_value a * 4096 + hex_value b * 256) + hex_value c * 16 + hex_value d ≡ n = some_is _ n (rw t at found) in
           (omega (arith, value, (hex_small a third.0).1, (hex_small b third.1).1, (hex_small c second.1).1, (hex_small d first.1).1), (hex_small d first.1).0)
       | inr f ↦ absurd (not_some n (rw f at found))

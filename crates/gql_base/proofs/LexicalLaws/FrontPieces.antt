@@ -1,6 +1,5 @@
 -- What is found at the front of a text is the piece that begins there, or the fault.
-use Rattle.std.proofs.Common.{◌≡◌, inl, inr, ℕ, suc, ◌+◌, ◌-◌, ◌<◌, ◌≤◌, ◌^◌, Bool, true, false, ◌==◌, ◌&&◌, if◌then◌else◌, List, [], ◌∷◌, ◌++◌, length, take, drop, get_or, refl, sym, ap, ◌∙◌, arith, Option, Some, None, Result, Ok, Err, subst}
-use Rattle.std.specs.Prelude.{nat_lt, nat_le}
+use Rattle.std.proofs.Common.{◌≡◌, inl, inr, ℕ, suc, ◌+◌, ◌-◌, ◌<◌, ◌^◌, Bool, true, false, ◌==◌, ◌&&◌, if◌then◌else◌, List, [], ◌∷◌, ◌++◌, length, take, drop, get_or, refl, sym, ap, ◌∙◌, arith, Option, Some, None, Result, Ok, Err, subst}
 use Rattle.std.specs.List.{prefix_len}
 use Rattle.std.specs.Char.{is_ascii_digit}
 use Rattle.std.specs.Str.Parse.{digits_value}
@@ -20,7 +19,7 @@ use Rattle.gql_base.specs.lexical.Strings.{begins_with_marks}
 use Rattle.gql_base.specs.lexical.Pieces.{word, number, string, block, mark, Piece, token, byte_order_mark, blank, comment, mark_bytes, kind_of, lexeme_bytes, piece_bytes, IsInRange, IsInteger, IsPiece, EndsBefore, BeginsWithout, BeginsNothing}
 use Rattle.gql_base.specs.lexical.Faults.{begins_as_number}
 use Rattle.gql_base.specs.lexical.Fronts.{mark_of, is_byte_order_mark, is_spread, piece_from, front_with, mark_front, found_front, number_found, integer_fits, text_front, front_of}
-use Rattle.gql_base.proofs.LexicalLaws.Runs.{run_is_whole, run_passes, run_stops, rest_of}
+use Rattle.gql_base.proofs.LexicalLaws.Runs.{run_is_whole, run_passes, run_stops, rest_of, le_true, lt_true, le_is, lt_is}
 use Rattle.gql_base.proofs.LexicalLaws.Integers.{fits_plain}
 use Rattle.gql_base.proofs.LexicalLaws.Numerals.{number_there, number_is, IntegerThere, integer_is, found_at}
 use Rattle.gql_base.proofs.LexicalLaws.ScannedStrings.{body_faultless, body_closed, body_scanned, single, ends_apart}
@@ -59,16 +58,10 @@ mark_no_number c is = grind (arith, nat_tests)
 
 -- ---- a piece that begins a text is found
 
-le_self : (m n : ℕ) → m ≤ n → nat_le m n ≡ true
-le_self m n below = grind (arith, nat_tests)
-
-lt_self : (m n : ℕ) → m < n → nat_lt m n ≡ true
-lt_self m n below = grind (arith, nat_tests)
-
 integer_small : (minus : Bool) (ws : List ℕ) → IsWhole ws → IsInRange minus (digits_value 10 ws) → integer_fits (minus_bytes minus ++ ws) ≡ true
-integer_small true ws is small = le_self (digits_value 10 ws) (2 ^ 127) small
+integer_small true ws is small = le_true (digits_value 10 ws) (2 ^ 127) small
 integer_small false [] is small = absurd is
-integer_small false (c ∷ cs) is small = fits_plain c cs is.0 ∙ lt_self (digits_value 10 (c ∷ cs)) (2 ^ 127) small
+integer_small false (c ∷ cs) is small = fits_plain c cs is.0 ∙ lt_true (digits_value 10 (c ∷ cs)) (2 ^ 127) small
 
 pub integer_begins : (minus : Bool) (ws after : List ℕ) → IsWhole ws → begins_as_number ((minus_bytes minus ++ ws) ++ after) ≡ true
 integer_begins true ws after is = refl
@@ -298,12 +291,6 @@ piece_there text after p f cut is ends told =
       ends = subst (EndsBefore p) (sym rest) ends;
       told = told;
     }
-
-le_is : (m n : ℕ) → nat_le m n ≡ true → m ≤ n
-le_is m n le = grind (arith, nat_tests)
-
-lt_is : (m n : ℕ) → nat_lt m n ≡ true → m < n
-lt_is m n lt = grind (arith, nat_tests)
 
 fits_small : (minus : Bool) (ws : List ℕ) → IsWhole ws → integer_fits (minus_bytes minus ++ ws) ≡ true → IsInRange minus (digits_value 10 ws)
 fits_small true ws is fits = le_is (digits_value 10 ws) (2 ^ 127) fits

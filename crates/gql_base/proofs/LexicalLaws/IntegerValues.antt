@@ -11,6 +11,7 @@ use Rattle.std.proofs.lemmas.Bool.{cases_Bool, eqb-true}
 use Rattle.std.proofs.lemmas.Bool.Decides.{nat_tests}
 use Rattle.std.proofs.lemmas.Str.Parse.{IsNumeralModel, numerals_by_value, tells_all_ascii_digits, parse_signed_minus, parse_signed_plain, parse_signed_plus}
 use Rattle.gql_base.specs.lexical.Literals.{is_numeral, integer_value}
+use Rattle.gql_base.proofs.LexicalLaws.Runs.{le_true, lt_true, le_is, lt_is}
 
 own : IsNumeralModel (λ ds. all_ascii_digits ds ≡ true) (digits_value 10)
 own = numerals_by_value (λ ds. all_ascii_digits ds ≡ true) tells_all_ascii_digits
@@ -43,18 +44,6 @@ some_length n is = grind (arith, nat_tests)
 length_some : (n : ℕ) → 0 < n → not (n == 0) ≡ true
 length_some n is = grind (arith, nat_tests)
 
-le_is : (m n : ℕ) → nat_le m n ≡ true → m ≤ n
-le_is m n is = grind (arith, nat_tests)
-
-is_le : (m n : ℕ) → m ≤ n → nat_le m n ≡ true
-is_le m n is = grind (arith, nat_tests)
-
-lt_is : (m n : ℕ) → nat_lt m n ≡ true → m < n
-lt_is m n is = grind (arith, nat_tests)
-
-is_lt : (m n : ℕ) → m < n → nat_lt m n ≡ true
-is_lt m n is = grind (arith, nat_tests)
-
 -- digits in range, by a test that decides the range
 digits_or_zero : {E : Type 0} (r : Result ℤ E) (ds : List ℕ) (small : Bool) (Small : Type 0) (v : ℤ) → (small ≡ true → Small) → (Small → small ≡ true) → OkIff r ((all_ascii_digits ds ≡ true) × (0 < length ds) × Small) v → or_zero r ≡ (if is_numeral ds && small then v else pos 0)
 digits_or_zero r ds small Small v to from ok =
@@ -65,7 +54,7 @@ digits_or_zero r ds small Small v to from ok =
 minus_value : {E : Type 0} (bs : List ℕ) (r : Result ℤ E) → (get_or bs 0 0 == 45) ≡ true → ParsesSigned w128 10 bs r → or_zero r ≡ integer_value bs
 minus_value {E = E} bs r is h =
     rw is (digits_or_zero r (drop 1 bs) (nat_le (digits_value 10 (drop 1 bs)) (2 ^ 127)) (digits_value 10 (drop 1 bs) ≤ 2 ^ 127) (neg_ℤ (pos (digits_value 10 (drop 1 bs))))
-    (le_is (digits_value 10 (drop 1 bs)) (2 ^ 127)) (is_le (digits_value 10 (drop 1 bs)) (2 ^ 127))
+    (le_is (digits_value 10 (drop 1 bs)) (2 ^ 127)) (le_true (digits_value 10 (drop 1 bs)) (2 ^ 127))
     (parse_signed_minus own {E = E} w128 bs r h (eqb-true (get_or bs 0 0) 45 is)))
 
 not_same : (c n : ℕ) → (c == n) ≡ false → c ≢ n
@@ -74,13 +63,13 @@ not_same c n is = λ same. grind (arith, nat_tests)
 plus_value : {E : Type 0} (bs : List ℕ) (r : Result ℤ E) → (get_or bs 0 0 == 45) ≡ false → (get_or bs 0 0 == 43) ≡ true → ParsesSigned w128 10 bs r → or_zero r ≡ integer_value bs
 plus_value {E = E} bs r no_minus is h =
     rw (no_minus, is) (digits_or_zero r (drop 1 bs) (nat_lt (digits_value 10 (drop 1 bs)) (2 ^ 127)) (digits_value 10 (drop 1 bs) < 2 ^ 127) (pos (digits_value 10 (drop 1 bs)))
-    (lt_is (digits_value 10 (drop 1 bs)) (2 ^ 127)) (is_lt (digits_value 10 (drop 1 bs)) (2 ^ 127))
+    (lt_is (digits_value 10 (drop 1 bs)) (2 ^ 127)) (lt_true (digits_value 10 (drop 1 bs)) (2 ^ 127))
     (parse_signed_plus own {E = E} w128 bs r h (eqb-true (get_or bs 0 0) 43 is)))
 
 plain_value : {E : Type 0} (bs : List ℕ) (r : Result ℤ E) → (get_or bs 0 0 == 45) ≡ false → (get_or bs 0 0 == 43) ≡ false → ParsesSigned w128 10 bs r → or_zero r ≡ integer_value bs
 plain_value {E = E} bs r no_minus no_plus h =
     rw (no_minus, no_plus) (digits_or_zero r bs (nat_lt (digits_value 10 bs) (2 ^ 127)) (digits_value 10 bs < 2 ^ 127) (pos (digits_value 10 bs))
-    (lt_is (digits_value 10 bs) (2 ^ 127)) (is_lt (digits_value 10 bs) (2 ^ 127))
+    (lt_is (digits_value 10 bs) (2 ^ 127)) (lt_true (digits_value 10 bs) (2 ^ 127))
     (parse_signed_plain own {E = E} w128 bs r h (not_same (get_or bs 0 0) 43 no_plus) (not_same (get_or bs 0 0) 45 no_minus)))
 
 pub value_parsed : {E : Type 0} (bs : List ℕ) (r : Result ℤ E) → ParsesSigned w128 10 bs r → or_zero r ≡ integer_value bs

@@ -13,6 +13,7 @@ use Rattle.std.proofs.lemmas.Str.{IsUtf8-from_ascii}
 use Rattle.std.proofs.lemmas.Str.Parse.{IsNumeralModel, numerals_by_value, tells_all_ascii_digits, parse_signed_minus, parse_signed_plain}
 use Rattle.gql_base.specs.lexical.Numbers.{IsWhole, minus_bytes}
 use Rattle.gql_base.specs.lexical.Fronts.{integer_fits}
+use Rattle.gql_base.proofs.LexicalLaws.Runs.{le_true, lt_true}
 
 own : IsNumeralModel (λ ds. all_ascii_digits ds ≡ true) (digits_value 10)
 own = numerals_by_value (λ ds. all_ascii_digits ds ≡ true) tells_all_ascii_digits
@@ -49,14 +50,8 @@ integer_ascii false ws i is = whole_ascii ws i is
 pub integer_is_text : (bytes ws : List ℕ) (minus : Bool) → bytes ≡ minus_bytes minus ++ ws → IsWhole ws → IsUtf8 bytes
 integer_is_text bytes ws minus cut is = rw cut (IsUtf8-from_ascii (minus_bytes minus ++ ws) (λ i. integer_ascii minus ws i is))
 
-pub le_true : (m n : ℕ) → m ≤ n → nat_le m n ≡ true
-le_true m n below = grind (arith, nat_tests)
-
 le_false : (m n : ℕ) → (m ≤ n → ⊥) → nat_le m n ≡ false
 le_false m n above = grind (arith, nat_tests)
-
-pub lt_true : (m n : ℕ) → m < n → nat_lt m n ≡ true
-lt_true m n below = grind (arith, nat_tests)
 
 lt_false : (m n : ℕ) → (m < n → ⊥) → nat_lt m n ≡ false
 lt_false m n above = grind (arith, nat_tests)

@@ -1,9 +1,9 @@
 -- The number that is found at the front of a text is the integer or float that stands there.
-use Rattle.std.proofs.Common.{◌≡◌, inl, inr, ℕ, suc, ◌+◌, ◌<◌, ◌≤◌, Bool, true, false, ◌==◌, ◌&&◌, ◌||◌, List, [], ◌∷◌, ◌++◌, length, take, drop, get_or, refl, sym, ap, ◌∙◌, arith, Option, Some, None, Ok, Err, subst}
+use Rattle.std.proofs.Common.{◌≡◌, inl, inr, ℕ, suc, ◌+◌, ◌<◌, ◌≤◌, Bool, true, false, ◌==◌, ◌||◌, List, [], ◌∷◌, ◌++◌, length, take, drop, get_or, refl, sym, ap, ◌∙◌, arith, Option, Some, None, Ok, Err, subst}
 use Rattle.std.specs.Prelude.{nat_lt}
 use Rattle.std.specs.List.{AllPass, prefix_len}
 use Rattle.std.specs.Char.{is_ascii_digit}
-use Rattle.std.proofs.lemmas.Bool.{cases_Bool, eqb-true}
+use Rattle.std.proofs.lemmas.Bool.{cases_Bool, eqb-true, and_parts}
 use Rattle.std.proofs.lemmas.Bool.Decides.{nat_tests}
 use Rattle.std.proofs.lemmas.List.{take-append-drop, length-append, length-drop, drop-drop, append_assoc, append-nil, drop_at, take_at}
 use Rattle.std.proofs.lemmas.List.{length-take}
@@ -16,28 +16,14 @@ use Rattle.gql_base.specs.lexical.Pieces.{BeginsWithout}
 use Rattle.gql_base.specs.lexical.Fronts.{bind, passes, is_minus, is_zero, is_dot, digits_end, minus_end, whole_end, fraction_end, sign_end, exponent_end, found_with, number_from, number_found, integer_fits, front_with, found_front}
 use Rattle.gql_base.specs.declared.lexical.token.TokenKind.TheVariants.{Int}
 use Rattle.gql_base.specs.declared.lexical.lexing.LexFault.TheVariants.{BadNumber}
-use Rattle.gql_base.proofs.LexicalLaws.Runs.{run_is_whole, run_passes, rest_after}
+use Rattle.gql_base.proofs.LexicalLaws.Runs.{run_is_whole, run_passes, rest_after, some_is, lt_true, lt_false, lt_is}
 use Rattle.gql_base.proofs.LexicalLaws.StringScans.{drop_head}
 
 -- ---- the byte at a place
 
-and_both : (a b : Bool) → (a && b) ≡ true → (a ≡ true) × (b ≡ true)
-and_both true true e = (refl, refl)
-and_both true false e = absurd (cc)
-and_both false b e = absurd (cc)
-
-lt_is : (m n : ℕ) → nat_lt m n ≡ true → m < n
-lt_is m n is = grind (arith, nat_tests)
-
-lt_true : (m n : ℕ) → m < n → nat_lt m n ≡ true
-lt_true m n below = grind (arith, nat_tests)
-
-lt_false : (m n : ℕ) → n ≤ m → nat_lt m n ≡ false
-lt_false m n above = grind (arith, nat_tests)
-
 passes_true : (test : ℕ → Bool) (text : List ℕ) (at : ℕ) → passes test text at ≡ true → (at < length text) × (test (get_or text at 0) ≡ true)
 passes_true test text at is =
-    let both : (nat_lt at (length text) ≡ true) × (test (get_or text at 0) ≡ true) = and_both (nat_lt at (length text)) (test (get_or text at 0)) is in
+    let both : (nat_lt at (length text) ≡ true) × (test (get_or text at 0) ≡ true) = and_parts (nat_lt at (length text)) (test (get_or text at 0)) is in
     (lt_is at (length text) both.0, both.1)
 
 head_below : (text : List ℕ) (at c : ℕ) (cs : List ℕ) → drop at text ≡ c ∷ cs → at < length text
@@ -192,9 +178,6 @@ number_there text after n cut is ends =
     (float_there n.fraction n.exponent (length m + length n.whole)))))))
 
 -- ---- what is found is there
-
-some_is : {A : Type 0} (x y : A) → Some x ≡ Some y → x ≡ y
-some_is x y same = cc
 
 Digits : List ℕ → ℕ → ℕ → Type 0
 Digits text at e = (cs : List ℕ) × (is_ascii_digit (get_or text at 0) ≡ true) × AllPass is_ascii_digit cs × (drop at text ≡ get_or text at 0 ∷ (cs ++ drop e text)) × (e ≡ at + suc (length cs))

@@ -1,18 +1,18 @@
 -- Bytes are block string characters exactly where scanning finds no fault among them and the first three marks after them
 -- close.
-use Rattle.std.proofs.Common.{ℕ, zero, suc, ◌+◌, ◌≡◌, ◌≤◌, inl, inr, Bool, true, false, List, [], ◌∷◌, ◌++◌, Option, None, Some, length, refl, sym, ap, ◌∙◌, subst, arith, append_assoc}
+use Rattle.std.proofs.Common.{ℕ, zero, suc, ◌+◌, ◌≡◌, ◌≤◌, inl, inr, Bool, true, false, List, [], ◌∷◌, ◌++◌, None, Some, length, refl, sym, ap, ◌∙◌, arith}
 use Rattle.std.specs.Prelude.{◌==◌, ◌&&◌, nat_lt, if◌then◌else◌}
-use Rattle.std.specs.List.{prefix_len, flat_map}
-use Rattle.std.proofs.lemmas.Bool.{cases_Bool, cases_lt, eqb-true, and_parts}
+use Rattle.std.specs.List.{prefix_len}
+use Rattle.std.proofs.lemmas.Bool.{cases_Bool, eqb-true, and_parts}
 use Rattle.std.proofs.lemmas.Bool.Decides.{nat_tests}
-use Rattle.std.proofs.lemmas.List.{length-append}
 use Rattle.std.proofs.lemmas.List.Sums.{prefix_len-le-length}
-use Rattle.gql_base.specs.declared.lexical.lexing.LexFault.{LexFault}
 use Rattle.gql_base.specs.lexical.Characters.{is_block_byte}
 use Rattle.gql_base.specs.lexical.Strings.{begins_with_marks}
 use Rattle.gql_base.specs.lexical.Scans.{block_closed_at, block_fault, block_fault_after}
 use Rattle.gql_base.specs.lexical.Blocks.{unescaped}
-use Rattle.gql_base.specs.lexical.BlockStrings.{BlockCharacter, escaped_marks, other, marks, block_character_bytes, block_characters_bytes, begins_no_marks, AreApart, AreBlockCharacters, IsBlockBody, block_characters_value}
+use Rattle.gql_base.specs.lexical.BlockStrings.{BlockCharacter, escaped_marks, other, marks, block_characters_bytes, AreApart, AreBlockCharacters, IsBlockBody, block_characters_value}
+use Rattle.gql_base.proofs.LexicalLaws.Runs.{some_is}
+use Rattle.gql_base.proofs.LexicalLaws.StringScans.{block_later}
 
 -- ---- characters are scanned
 
@@ -28,17 +28,13 @@ no_marks_after (x ∷ []) after = refl
 no_marks_after (x ∷ y ∷ []) after = refl
 no_marks_after (x ∷ y ∷ z ∷ xs) after = refl
 
-later : (b at : ℕ) (rest : List ℕ) → begins_with_marks (b ∷ rest) ≡ false → ((b == 92) && begins_with_marks rest) ≡ false → block_closed_at 0 at (b ∷ rest) ≡ block_closed_at 0 (at + 1) rest
-unfolding block_closed_at
-later b at rest n m = rw (n, m) refl
-
 pub unclosed : (cs : List BlockCharacter) (after : List ℕ) (at : ℕ) → AreApart cs → block_closed_at 0 at (block_characters_bytes cs ++ (marks ++ after)) ≡ Some (at + length (block_characters_bytes cs))
 unfolding block_closed_at
 unclosed [] after at apart = ap Some (let e : at ≡ at + 0 = omega arith in e)
 unclosed (escaped_marks ∷ cs) after at apart = unclosed cs after (at + 1 + 1 + 1 + 1) apart ∙ ap Some (omega arith)
 unclosed (other b ∷ cs) after at apart =
     let xs = block_characters_bytes cs in
-    later b at (xs ++ (marks ++ after)) (no_mark_after b xs after ∙ apart.0.0) (ap (λ t. (b == 92) && t) (no_marks_after xs after) ∙ apart.0.1)
+    block_later b at (xs ++ (marks ++ after)) (no_mark_after b xs after ∙ apart.0.0) (ap (λ t. (b == 92) && t) (no_marks_after xs after) ∙ apart.0.1)
     ∙ (unclosed cs after (at + 1) apart.1 ∙ ap Some (omega arith))
 
 all_block : (cs : List BlockCharacter) → AreBlockCharacters cs → prefix_len is_block_byte (block_characters_bytes cs) ≡ length (block_characters_bytes cs)
@@ -62,9 +58,6 @@ pub record BlockCut (body : List ℕ) : Type 0 where
   pub cs : List BlockCharacter
   pub cut : body ≡ block_characters_bytes cs
   pub apart : AreApart cs
-
-some_is : {A : Type 0} (x y : A) → Some x ≡ Some y → x ≡ y
-some_is x y same = cc
 
 -- the closing marks don't stand before the place that is looked at
 closed_later : (n at k : ℕ) (xs : List ℕ) → block_closed_at n at xs ≡ Some k → at + n ≤ k
@@ -127,7 +120,7 @@ cut_within (suc n) (b ∷ body) after at short closed =
             let size : length body ≡ 3 + length m.0 = omega (arith, three_more m.0, ap length m.1) in
             with_marks b body m.0 p.0 m.1 (cut_within n m.0 after (at + 4) (omega (arith, short, size))
             (sym (past_marks m.0 (marks ++ after) at) ∙ (ap (block_closed_at 0 at) (sym (ap (λ (c : ℕ). c ∷ (body ++ (marks ++ after))) (eqb-true b 92 p.0) ∙ ap (λ (l : List ℕ). 92 ∷ (l ++ (marks ++ after))) m.1)) ∙ (closed ∙ ap Some (omega (arith, size))))))
-        | inr s ↦ with_other b body after f s (cut_within n body after (at + 1) (omega (arith, short)) (sym (later b at (body ++ (marks ++ after)) f s) ∙ (closed ∙ ap Some (omega arith))))
+        | inr s ↦ with_other b body after f s (cut_within n body after (at + 1) (omega (arith, short)) (sym (block_later b at (body ++ (marks ++ after)) f s) ∙ (closed ∙ ap Some (omega arith))))
       ]
     ]
 

@@ -1,8 +1,8 @@
 -- A string or block string is closed, and has a fault inside, exactly where scanning finds it.
-use Rattle.std.proofs.Common.{ℕ, zero, suc, ◌+◌, ◌-◌, ◌≡◌, ◌≤◌, ◌<◌, ◌⊎◌, inl, inr, Bool, true, false, List, [], ◌∷◌, ◌++◌, Option, None, Some, length, take, drop, get_or, refl, sym, ap, ◌∙◌, subst, arith, append_assoc}
-use Rattle.std.specs.Prelude.{◌==◌, ◌&&◌, not, nat_lt, if◌then◌else◌}
-use Rattle.std.specs.List.{AllPass, prefix_len, flat_map}
-use Rattle.std.proofs.lemmas.Bool.{cases_Bool, cases_lt, eqb-true, and_parts}
+use Rattle.std.proofs.Common.{ℕ, zero, suc, ◌+◌, ◌≡◌, ◌≤◌, ◌<◌, ◌⊎◌, inl, inr, true, false, List, [], ◌∷◌, ◌++◌, Option, None, Some, length, take, drop, refl, sym, ap, ◌∙◌, subst, arith, append_assoc}
+use Rattle.std.specs.Prelude.{◌==◌, ◌&&◌, not, nat_lt}
+use Rattle.std.specs.List.{prefix_len}
+use Rattle.std.proofs.lemmas.Bool.{cases_Bool, eqb-true, and_parts}
 use Rattle.std.proofs.lemmas.Bool.Decides.{nat_tests}
 use Rattle.std.proofs.lemmas.List.{length-append, length-drop, take-append-drop}
 use Rattle.std.proofs.lemmas.List.Folds.{length-prefix_len}
@@ -11,14 +11,14 @@ use Rattle.gql_base.specs.declared.lexical.lexing.LexFault.TheVariants.{BadChar,
 use Rattle.gql_base.specs.declared.lexical.strings.Escape.{Escape}
 use Rattle.gql_base.specs.lexical.Characters.{is_comment_byte, is_block_byte, is_line_end}
 use Rattle.gql_base.specs.lexical.Pieces.{BeginsWithout}
-use Rattle.gql_base.specs.lexical.Scans.{closed_at, block_closed_at, escape_at, byte_step, step_with, text_step, text_fault_at, text_fault, block_fault_after, block_fault, closing_of, fault_before}
-use Rattle.gql_base.specs.lexical.Strings.{begins_with_mark, begins_with_marks, StringCharacter, plain, letter, unit, surrogates, character_bytes, is_plain, IsCharacter, AreCharacters, characters_bytes}
-use Rattle.gql_base.proofs.LexicalLaws.Texts.{Closed, block_closed_is, inner_string, inner_block}
+use Rattle.gql_base.specs.lexical.Scans.{closed_at, block_closed_at, escape_at, text_step, text_fault_at, text_fault, block_fault_after, block_fault, closing_of, fault_before}
+use Rattle.gql_base.specs.lexical.Strings.{begins_with_mark, begins_with_marks, StringCharacter, plain, character_bytes, is_plain, AreCharacters, characters_bytes}
+use Rattle.gql_base.proofs.LexicalLaws.Texts.{Closed, block_closed_is, inner_string, inner_block, three}
 use Rattle.gql_base.proofs.LexicalLaws.Escapes.{no_escape}
-use Rattle.gql_base.proofs.LexicalLaws.Runs.{run_is_whole, run_passes, run_stops}
-use Rattle.gql_base.specs.lexical.BlockStrings.{BlockCharacter, marks, block_characters_bytes, AreApart}
+use Rattle.gql_base.proofs.LexicalLaws.Runs.{run_is_whole, run_passes, run_stops, some_is}
+use Rattle.gql_base.specs.lexical.BlockStrings.{marks, block_characters_bytes}
 use Rattle.gql_base.specs.lexical.Closings.{RawCharacter, bare, taken_along, raw_bytes, IsRaw, AreRaw, raws_bytes, IsClosed, IsBlockClosed, HasClosing, BeginsNoCharacter, BeginsWithBad, StringFault, BlockFault, HasFaultInside}
-use Rattle.gql_base.proofs.LexicalLaws.ScannedStrings.{plain_tests, Character, escape_in, characters_faultless, faultless, unclosed as unclosed_one, some_bytes, slash_escape}
+use Rattle.gql_base.proofs.LexicalLaws.ScannedStrings.{Character, escape_in, characters_faultless, faultless, unclosed as unclosed_one, some_bytes, slash_escape}
 use Rattle.gql_base.proofs.LexicalLaws.ScannedBlocks.{BlockCut, block_cut, unclosed}
 
 -- ---- raw characters
@@ -41,9 +41,6 @@ record Raws (text : List ℕ) (at closing : ℕ) : Type 0 where
   cut : text ≡ raws_bytes raws ++ 34 ∷ after
   are : AreRaw raws
   place : closing ≡ at + length (raws_bytes raws)
-
-some_is : {A : Type 0} (x y : A) → Some x ≡ Some y → x ≡ y
-some_is x y same = cc
 
 raw_then : (r : RawCharacter) (rest : List ℕ) (at closing : ℕ) → IsRaw r → Raws rest (at + length (raw_bytes r)) closing → Raws (raw_bytes r ++ rest) at closing
 raw_then r rest at closing is d = record {
@@ -78,9 +75,6 @@ mutual
   ]
 
 -- ---- where the string or block string at the front is closed
-
-pub three : (a b c : ℕ) → ((a == 34) && (b == 34) && (c == 34)) ≡ true → (a ≡ 34) × (b ≡ 34) × (c ≡ 34)
-three a b c is = grind (arith, nat_tests)
 
 closed_single : (cs : List ℕ) (k : ℕ) → closed_at false 1 cs ≡ Some k → (closed : IsClosed (34 ∷ cs)) × (k ≡ 1 + length (raws_bytes closed.raws))
 closed_single cs k e = let r = raws_in 1 k cs e in (record { raws = r.raws; after = r.after; cut = ap (λ (l : List ℕ). 34 ∷ l) r.cut; are = r.are }, r.place)

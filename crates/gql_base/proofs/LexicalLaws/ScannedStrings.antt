@@ -1,26 +1,22 @@
 -- Bytes are string characters exactly where scanning finds no fault among them and the first mark after them closes; and
 -- scanning finds what the characters stand for.
-use Rattle.std.proofs.Common.{ℕ, zero, suc, ◌+◌, ◌-◌, ◌≡◌, ◌≤◌, ◌<◌, inl, inr, Bool, true, false, List, [], ◌∷◌, ◌++◌, Option, None, Some, length, drop, refl, sym, ap, ◌∙◌, subst, arith, append_assoc, append-nil}
-use Rattle.std.specs.Prelude.{◌==◌, ◌&&◌, ◌||◌, not, if◌then◌else◌}
-use Rattle.std.specs.List.{flat_map}
+use Rattle.std.proofs.Common.{ℕ, zero, suc, ◌+◌, ◌≡◌, ◌≤◌, ◌<◌, inl, inr, true, false, List, [], ◌∷◌, ◌++◌, Option, None, Some, length, drop, refl, sym, ap, ◌∙◌, subst, arith, append_assoc, append-nil}
+use Rattle.std.specs.Prelude.{◌==◌, ◌&&◌, not}
 use Rattle.std.proofs.lemmas.Bool.{cases_Bool, eqb-true, eq-eqb, and_parts}
 use Rattle.std.proofs.lemmas.Bool.Decides.{nat_tests}
 use Rattle.std.proofs.lemmas.List.{length-append}
 use Rattle.gql_base.specs.declared.lexical.strings.Escape.{Escape}
-use Rattle.gql_base.specs.lexical.Characters.{is_comment_byte, is_line_end, is_hex, hex_value}
-use Rattle.gql_base.specs.lexical.Scans.{closed_at, letter_at, letter_or, four_digits, code_unit, code_escape, pair_with, escape_with, escape_at, step_with, text_step, text_fault, text_value}
+use Rattle.gql_base.specs.lexical.Characters.{is_comment_byte, is_line_end, is_hex}
+use Rattle.gql_base.specs.lexical.Scans.{closed_at, letter_at, letter_or, four_digits, code_unit, code_escape, pair_with, escape_with, escape_at, text_step, text_fault, text_value}
 use Rattle.gql_base.specs.lexical.Strings.{begins_with_mark, begins_with_marks, letter_escape, is_leading, is_trailing, joined, FourDigits, StringCharacter, plain, letter, unit, surrogates, unit_bytes, character_bytes, are_hex, number_of, is_plain, IsCharacter, AreCharacters, characters_bytes, IsBody, letter_value, character_value, characters_value}
 use Rattle.gql_base.proofs.LexicalLaws.Escapes.{no_escape}
-use Rattle.gql_base.proofs.LexicalLaws.EscapedTexts.{alone_sound, alone_open}
+use Rattle.gql_base.proofs.LexicalLaws.EscapedTexts.{alone_sound, alone_open, letter_found}
+use Rattle.gql_base.proofs.LexicalLaws.Runs.{some_is, not_some}
 
 -- ---- the escape that a character is
 
 unit_there : (g : FourDigits) (rest : List ℕ) → are_hex g ≡ true → code_unit (unit_bytes g ++ rest) ≡ Some (number_of g)
 unit_there g rest h = rw (h) refl
-
-letter_there : (c k : ℕ) (rest : List ℕ) → letter_escape c ≡ Some k → escape_at (92 ∷ c ∷ rest) ≡ Some (escape_with 2 k)
-unfolding escape_at
-letter_there c k rest h = rw (h) refl
 
 unit_escape : (g : FourDigits) (rest : List ℕ) → are_hex g ≡ true → is_leading (number_of g) ≡ false → is_trailing (number_of g) ≡ false → escape_at (unit_bytes g ++ rest) ≡ Some (escape_with 6 (number_of g))
 unfolding escape_at
@@ -37,7 +33,7 @@ slash_escape (plain b) more rest is e none = let same : 92 ≡ b = ap first_of e
     first_of : List ℕ → ℕ
     first_of [] = 0
     first_of (x ∷ xs) = x
-slash_escape (letter c) more rest is e none = let found : None ≡ Some (escape_with 2 is.0) = sym none ∙ (ap escape_at e ∙ letter_there c is.0 more is.1) in cc
+slash_escape (letter c) more rest is e none = let found : None ≡ Some (escape_with 2 is.0) = sym none ∙ (ap escape_at e ∙ letter_found c is.0 more is.1) in cc
 slash_escape (unit g) more rest is e none = let found : None ≡ Some (escape_with 6 (number_of g)) = sym none ∙ (ap escape_at e ∙ unit_escape g more is.0 is.1 is.2) in cc
 slash_escape (surrogates g k) more rest is e none = let found : None ≡ Some (escape_with 12 (joined (number_of g) (number_of k))) = sym none ∙ (ap escape_at e ∙ pair_escape g k more is.0 is.1 is.2 is.3) in cc
 
@@ -63,14 +59,14 @@ letter_no_end c k h = elim (cases_Bool (c == 10)) [
 pub faultless : (c : StringCharacter) (rest : List ℕ) (at : ℕ) → IsCharacter c → text_fault 0 at (character_bytes c ++ rest) ≡ text_fault 0 (at + length (character_bytes c)) rest
 unfolding text_fault text_step
 faultless (plain b) rest at is = let t = plain_tests b is in alone_sound b at rest t.2 t.0
-faultless (letter c) rest at is = rw (letter_there c is.0 rest is.1) (ap (λ n. text_fault 0 n rest) (let e : at + 1 + 1 ≡ at + 2 = omega arith in e))
+faultless (letter c) rest at is = rw (letter_found c is.0 rest is.1) (ap (λ n. text_fault 0 n rest) (let e : at + 1 + 1 ≡ at + 2 = omega arith in e))
 faultless (unit g) rest at is = rw (unit_escape g rest is.0 is.1 is.2) (ap (λ n. text_fault 0 n rest) (let e : at + 1 + 1 + 1 + 1 + 1 + 1 ≡ at + 6 = omega arith in e))
 faultless (surrogates g k) rest at is = rw (pair_escape g k rest is.0 is.1 is.2 is.3) (ap (λ n. text_fault 0 n rest) (let e : at + 1 + 1 + 1 + 1 + 1 + 1 + 1 + 1 + 1 + 1 + 1 + 1 ≡ at + 12 = omega arith in e))
 
 value_of_one : (c : StringCharacter) (rest : List ℕ) → IsCharacter c → text_value 0 (character_bytes c ++ rest) ≡ character_value c ++ text_value 0 rest
 unfolding text_value
 value_of_one (plain b) rest is = rw (no_escape b rest (plain_tests b is).2) refl
-value_of_one (letter c) rest is = rw (letter_there c is.0 rest is.1) (ap (λ o. letter_value o ++ text_value 0 rest) (sym is.1))
+value_of_one (letter c) rest is = rw (letter_found c is.0 rest is.1) (ap (λ o. letter_value o ++ text_value 0 rest) (sym is.1))
 value_of_one (unit g) rest is = rw (unit_escape g rest is.0 is.1 is.2) refl
 value_of_one (surrogates g k) rest is = rw (pair_escape g k rest is.0 is.1 is.2 is.3) refl
 
@@ -145,12 +141,6 @@ record Unit4 (text : List ℕ) (n : ℕ) : Type 0 where
   cut : text ≡ unit_bytes digits ++ rest
   hex : are_hex digits ≡ true
   value : number_of digits ≡ n
-
-some_is : {A : Type 0} (x y : A) → Some x ≡ Some y → x ≡ y
-some_is x y same = cc
-
-not_some : {A : Type 0} (x : A) → None ≡ Some x → ⊥
-not_some x same = cc
 
 digits_in : (rest : List ℕ) (n : ℕ) → four_digits rest ≡ Some n → Unit4 (92 ∷ 117 ∷ rest) n
 digits_in [] n found = absurd (not_some n found)

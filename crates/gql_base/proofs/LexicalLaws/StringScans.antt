@@ -4,12 +4,12 @@ use Rattle.std.specs.Option.{IsSome, IfSome}
 use Rattle.std.proofs.lemmas.List.{drop_all, drop-drop}
 use Rattle.gql_base.specs.declared.lexical.strings.Escape.{Escape}
 use Rattle.std.specs.List.{prefix_len}
-use Rattle.std.specs.Prelude.{nat_lt}
 use Rattle.std.proofs.lemmas.Bool.Decides.{nat_tests}
 use Rattle.gql_base.specs.declared.lexical.lexing.LexFault.TheVariants.{BadChar}
 use Rattle.gql_base.specs.lexical.Characters.{is_line_end, is_block_byte}
 use Rattle.gql_base.specs.lexical.Strings.{begins_with_marks}
 use Rattle.gql_base.specs.lexical.Scans.{closed_at, block_closed_at, text_step, text_fault_at, text_fault, block_fault}
+use Rattle.gql_base.proofs.LexicalLaws.Runs.{lt_true, lt_false}
 
 pub drop_head : (text : List ℕ) (at : ℕ) → at < length text → drop at text ≡ get_or text at 0 ∷ drop (at + 1) text
 drop_head [] at below = absurd (omega (arith, below))
@@ -102,7 +102,7 @@ block_past : (c at : ℕ) (cs : List ℕ) → begins_with_marks (c ∷ cs) ≡ f
 unfolding block_closed_at
 block_past c at cs other is = rw other (rw is refl)
 
-block_later : (c at : ℕ) (cs : List ℕ) → begins_with_marks (c ∷ cs) ≡ false → ((c == 92) && begins_with_marks cs) ≡ false → block_closed_at 0 at (c ∷ cs) ≡ block_closed_at 0 (at + 1) cs
+pub block_later : (c at : ℕ) (cs : List ℕ) → begins_with_marks (c ∷ cs) ≡ false → ((c == 92) && begins_with_marks cs) ≡ false → block_closed_at 0 at (c ∷ cs) ≡ block_closed_at 0 (at + 1) cs
 unfolding block_closed_at
 block_later c at cs other is = rw other (rw is refl)
 
@@ -185,12 +185,6 @@ zero_test n is = rw is refl
 
 pub more_test : (n : ℕ) → 0 < n → (n == 0) ≡ false
 more_test n more = grind (arith, nat_tests)
-
-lt_true : (m n : ℕ) → m < n → nat_lt m n ≡ true
-lt_true m n below = grind (arith, nat_tests)
-
-lt_false : (m n : ℕ) → n ≤ m → nat_lt m n ≡ false
-lt_false m n above = grind (arith, nat_tests)
 
 pub block_faulty : (text body : List ℕ) (good : ℕ) → body ≡ drop 3 text → good ≡ prefix_len is_block_byte body → good < length body → Some (BadChar (3 + good)) ≡ block_fault 3 (drop 3 text)
 block_faulty text body good is run below = rw (sym is) (rw (sym run) (rw (lt_true good (length body) below) refl))

@@ -10,6 +10,7 @@ use Rattle.gql_base.specs.lexical.Characters.{is_line_end}
 use Rattle.gql_base.specs.lexical.Strings.{begins_with_marks}
 use Rattle.gql_base.specs.lexical.Scans.{closed_at, block_closed_at, text_fault, block_fault, closing_of, fault_before}
 use Rattle.gql_base.specs.lexical.Fronts.{front_with, sound_text, closed_text, text_front}
+use Rattle.gql_base.proofs.LexicalLaws.Runs.{some_is}
 
 pub record Closed (text : List ℕ) (mark : List ℕ) (at closing : ℕ) : Type 0 where
   pub body : List ℕ
@@ -19,9 +20,6 @@ pub record Closed (text : List ℕ) (mark : List ℕ) (at closing : ℕ) : Type 
 
 longer : (text mark : List ℕ) (c at closing : ℕ) → Closed text mark (at + 1) closing → Closed (c ∷ text) mark at closing
 longer text mark c at closing d = record { body = c ∷ d.body; after = d.after; cut = ap (λ xs. c ∷ xs) d.cut; place = omega (arith, d.place) }
-
-some_is : {A : Type 0} (x y : A) → Some x ≡ Some y → x ≡ y
-some_is x y same = cc
 
 pub closed_is : (e : Bool) (at : ℕ) (text : List ℕ) (closing : ℕ) → closed_at e at text ≡ Some closing → Closed text (34 ∷ []) at closing
 unfolding closed_at
@@ -42,7 +40,7 @@ closed_is false at (c ∷ cs) closing is =
           ]
     ]
 
-three : (a b c : ℕ) → ((a == 34) && (b == 34) && (c == 34)) ≡ true → (a ≡ 34) × (b ≡ 34) × (c ≡ 34)
+pub three : (a b c : ℕ) → ((a == 34) && (b == 34) && (c == 34)) ≡ true → (a ≡ 34) × (b ≡ 34) × (c ≡ 34)
 three a b c is = grind (arith, nat_tests)
 
 marks_are : (text : List ℕ) (at : ℕ) → begins_with_marks text ≡ true → Closed text (34 ∷ 34 ∷ 34 ∷ []) at at

@@ -1,10 +1,10 @@
 -- Reading arguments, directives, defaults and kinds of operations gives what is written as them.
-use Rattle.std.proofs.Common.{ℕ, ◌+◌, ◌≡◌, ◌≤◌, Bool, true, false, [], None, Some, refl, arith}
+use Rattle.std.proofs.Common.{ℕ, ◌+◌, ◌≡◌, ◌≤◌, Bool, true, [], None, Some, refl, arith}
 use Rattle.std.specs.Prelude.{◌||◌, codes}
 use Rattle.gql_base.specs.declared.lexical.token.TokenKind.TheVariants.{Bang, Equals, At, OpenParen, CloseParen}
 use Rattle.gql_base.specs.declared.parts.trees.OperationKind.{OperationKind}
 use Rattle.gql_base.specs.declared.parts.trees.OperationKind.TheVariants.{Query}
-use Rattle.gql_base.specs.ways.Symbols.{Symbol, punctuator, identifier, integer, string}
+use Rattle.gql_base.specs.ways.Symbols.{Symbol, punctuator, identifier}
 use Rattle.gql_base.specs.ways.Reading.{Test, takes, single, second, some_second, exact, up_to, never}
 use Rattle.gql_base.specs.ways.Grammar.{Single, Optional}
 use Rattle.gql_base.specs.parts.Values.{named_value_at, value_at}
@@ -12,9 +12,10 @@ use Rattle.gql_base.specs.parts.Arguments.{AreArguments, IsDirective, AreDirecti
 use Rattle.gql_base.specs.parts.OperationKinds.{kind_word}
 use Rattle.gql_base.proofs.WayLaws.ReadingLaws.{Law, Heads, image_law, single_law, after}
 use Rattle.gql_base.proofs.WayLaws.RepeatingLaws.{Repeats, repeats, repeated_law, optional_law}
-use Rattle.gql_base.proofs.WayLaws.SymbolTests.{mark_law, name_law, heads_single, heads_mark, heads_pair, heads_image, or_false}
+use Rattle.gql_base.proofs.WayLaws.SymbolTests.{mark_law, name_law, heads_single, heads_mark, heads_pair, heads_image}
 use Rattle.gql_base.proofs.WayLaws.WordLaws.{parens_law}
 use Rattle.gql_base.proofs.PartLaws.ValueLaws.{value_law, field_law, field_begins}
+use Rattle.std.proofs.lemmas.Bool.{or_parts}
 
 -- with what things may go on
 
@@ -48,7 +49,7 @@ directive_law c left more d n le e = let inner : d ≤ n = omega (arith, e) in
     image_law second (after (mark_law At inner) (after (name_law inner) (maybe_arguments_law c left more d n le e)))
 
 pub directives_law : (c : Bool) (left more d n : ℕ) → left ≤ more → n ≡ d + left → Law (AreDirectives c d) n goes_directives (directives_at c left) (directives_at c more)
-directives_law c left more d n le e = repeated_law (takes (exact At)) (directive_law c left more d n le e) (heads_directive c d refl) refl (heads_directive c d refl) (λ w h. or_false (takes (exact OpenParen) w) (takes (exact At) w) h)
+directives_law c left more d n le e = repeated_law (takes (exact At)) (directive_law c left more d n le e) (heads_directive c d refl) refl (heads_directive c d refl) (λ w h. or_parts (takes (exact OpenParen) w) (takes (exact At) w) h)
 
 -- defaults
 

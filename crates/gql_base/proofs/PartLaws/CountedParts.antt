@@ -1,5 +1,5 @@
 -- The nestings of the symbols of arguments, directives, defaults, words and strings are those that counting brackets gives.
-use Rattle.std.proofs.Common.{ℕ, ◌≡◌, Bool, true, List, [], Some, refl}
+use Rattle.std.proofs.Common.{ℕ, Bool, true, List, [], refl}
 use Rattle.gql_base.specs.declared.lexical.token.TokenKind.{TokenKind}
 use Rattle.gql_base.specs.declared.lexical.token.TokenKind.TheVariants.{Colon, Equals, At, OpenParen, CloseParen}
 use Rattle.gql_base.specs.ways.Symbols.{punctuator, identifier, integer, string}

@@ -1,5 +1,5 @@
 -- Symbols are those of one value, or of one type, at most.
-use Rattle.std.proofs.Common.{ℕ, ◌≡◌, Bool}
+use Rattle.std.proofs.Common.{◌≡◌, Bool}
 use Rattle.gql_base.specs.ways.Grammar.{Nested, plain}
 use Rattle.gql_base.specs.parts.Values.{ValueTree, IsValue}
 use Rattle.gql_base.specs.parts.TypeReferences.{TypeTree, IsType}

@@ -4,7 +4,6 @@ use Rattle.std.specs.Prelude.{◌==◌}
 use Rattle.std.proofs.lemmas.Bool.{cases_Bool}
 use Rattle.gql_base.specs.declared.ways.source.Source.{Source}
 use Rattle.gql_base.specs.declared.ways.source.Halt.{Halt}
-use Rattle.gql_base.specs.declared.ways.source.Halt.TheVariants.{Memory}
 use Rattle.gql_base.specs.declared.parts.readers.ValueFault.{ValueFault}
 use Rattle.gql_base.specs.declared.parts.readers.ValueFault.TheVariants as fault
 use Rattle.gql_base.specs.declared.lexical.token.TokenKind.TheVariants.{Bang}

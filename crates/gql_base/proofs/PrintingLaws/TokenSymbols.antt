@@ -8,7 +8,7 @@ use Rattle.gql_base.specs.lexical.Tokens.{bytes_at}
 use Rattle.gql_base.specs.lexical.Literals.{integer_value, integer_of, inner_span, marked_value, string_of}
 use Rattle.gql_base.specs.ways.Symbols.{Symbol, punctuator, identifier, integer, string, Symbols, symbol_of, symbols_from}
 use Rattle.gql_base.proofs.WayLaws.Places.{HasAsciiEnds, bytes_of_token, range_when, nat_le_more, part_start, part_end}
-use Rattle.gql_base.proofs.LexicalLaws.Borders.{rest_after}
+use Rattle.gql_base.proofs.LexicalLaws.Runs.{rest_after}
 
 -- the symbol of a lexeme whose first byte is at this place
 unfoldable pub symbol_at : ℕ → Lexeme → Symbol

@@ -10,6 +10,7 @@ use Rattle.gql_base.specs.ways.Grammar.{Nested, Single, Pair, Image, Choice, Emp
 use Rattle.gql_base.specs.printing.PlacelessSymbols.{placeless_symbol, name_placeless}
 use Rattle.gql_base.specs.printing.Alike.{AreAlike}
 use Rattle.gql_base.proofs.WayLaws.AlikeSymbols.{none_alike, split_alike, one_alike, punctuator_alike}
+use Rattle.gql_base.proofs.LexicalLaws.Runs.{some_is}
 
 -- Symbols that are alike to those of a thing are those of a thing too, and f, which drops offsets, makes both the same.
 pub record Alike {A : Type 0} (S : A → Nested → Type 0) (f : A → A) : Type 0 where
@@ -24,12 +25,9 @@ both f g p = (f p.0, g p.1)
 
 -- one symbol
 
-some_same : {A : Type 0} (a b : A) → Some a ≡ Some b → a ≡ b
-some_same a b e = cc
-
 was_some : {A : Type 0} (f : A → A) (o : Option A) (c : A) → option_map f o ≡ Some c → (b : A) × (o ≡ Some b) × (f b ≡ c)
 was_some f None c e = cc
-was_some f (Some b) c e = (b, refl, some_same (f b) c e)
+was_some f (Some b) c e = (b, refl, some_is (f b) c e)
 
 -- a symbol without its offset is taken for the thing without its offset
 abbrev pub TakesPlaceless : {A : Type 0} → Taking A → (A → A) → Type 0

@@ -5,7 +5,6 @@ use Rattle.gql_base.specs.declared.lexical.lexing.LexFault.{LexFault}
 use Rattle.gql_base.specs.declared.lexical.lexing.LexFault.TheVariants as lexical
 use Rattle.gql_base.specs.declared.ways.source.Source.{Source}
 use Rattle.gql_base.specs.declared.ways.source.Halt.{Halt}
-use Rattle.gql_base.specs.declared.ways.source.Halt.TheVariants.{Unexpected, TooDeep, Memory}
 use Rattle.gql_base.specs.lexical.Faults.{HasFault}
 use Rattle.gql_base.specs.lexical.Tokens.{Lexes, IsFaultOf}
 use Rattle.gql_base.specs.ways.Symbols.{Symbols, symbols_from}
@@ -22,7 +21,7 @@ use Rattle.gql_base.proofs.WayLaws.LevelLaws.{Family, deep_enough, is_unexpected
 use Rattle.gql_base.proofs.WayLaws.CountedLevels.{Counted}
 use Rattle.gql_base.proofs.WayLaws.FirstPlace.{written_or_unexpected, written_or_too_deep}
 use Rattle.gql_base.proofs.WayLaws.FaultPlaces.{unexpected_place, too_deep_place, one_fault_from}
-use Rattle.gql_base.proofs.WayLaws.Readings.{halts_for_memory, fault_from}
+use Rattle.gql_base.proofs.WayLaws.Readings.{halts_for_memory}
 
 -- a text is a thing or has a fault
 

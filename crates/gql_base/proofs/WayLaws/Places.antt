@@ -51,7 +51,7 @@ name_is_ascii (c ∷ cs) (suc k) is =
       | inr past ↦ rw (get_or_past cs k 0 past) (omega arith)
     ]
 
-get_or_after : (xs ys : List ℕ) → get_or (xs ++ ys) (length xs) 0 ≡ get_or ys 0 0
+pub get_or_after : (xs ys : List ℕ) → get_or (xs ++ ys) (length xs) 0 ≡ get_or ys 0 0
 get_or_after [] ys = refl
 get_or_after (x ∷ xs) ys = get_or_after xs ys
 

@@ -5,6 +5,7 @@ use Rattle.std.proofs.lemmas.Bool.{cases_Bool}
 use Rattle.gql_base.specs.ways.Symbols.{Symbol, Symbols}
 use Rattle.gql_base.specs.ways.Reading.{Stop, unexpected, too_deep, Reading, Reader, Test, Taking, next, then_read, taken, single, pair, image, choice, empty, never}
 use Rattle.gql_base.specs.ways.Grammar.{Nested, plain, Within, Single, Pair, Image, Choice, Empty}
+use Rattle.gql_base.proofs.LexicalLaws.Runs.{some_is}
 
 -- symbols without their nesting
 
@@ -323,9 +324,6 @@ empty_law a n = record {
 
 -- one symbol
 
-some_same : {A : Type 0} (x y : A) → Some x ≡ Some y → x ≡ y
-some_same x y e = cc
-
 taken_took : {A : Type 0} (taking : Taking A) (d n : ℕ) (w : Symbol) (ws : Symbols) (x : A × Symbols) (o : Option A) → d ≤ n → taking w ≡ o → taken o ws (w ∷ ws) ≡ Ok x → Took (Single taking d) n (single taking) (w ∷ ws) x
 taken_took taking d n w ws x None le is e = absurd (ok_not_err _ _ (sym e))
 taken_took taking d n w ws x (Some a) le is e = subst (Took (Single taking d) n (single taking) (w ∷ ws)) (ok_same (a, ws) x e)
@@ -333,7 +331,7 @@ taken_took taking d n w ws x (Some a) le is e = subst (Took (Single taking d) n 
 
 refused : {A : Type 0} (taking : Taking A) (w : Symbol) (ws zs : Symbols) → taking w ≡ None → next zs ≡ next (w ∷ ws) → single taking zs ≡ Err (unexpected, zs)
 refused taking w ws [] is h = refl
-refused taking w ws (z ∷ zs) is h = ap (λ o. taken o zs (z ∷ zs)) (ap taking (some_same z w h) ∙ is)
+refused taking w ws (z ∷ zs) is h = ap (λ o. taken o zs (z ∷ zs)) (ap taking (some_is z w h) ∙ is)
 
 taken_stopped : {A : Type 0} (taking : Taking A) (d n : ℕ) (a : A) (v : Symbol) → taking v ≡ Some a → (w : Symbol) (ws : Symbols) (e : Stop × Symbols) (o : Option A) → taking w ≡ o → taken o ws (w ∷ ws) ≡ Err e → Stopped (Single taking d) n (single taking) (w ∷ ws) e
 taken_stopped taking d n a v good w ws e (Some b) is h = absurd (ok_not_err _ _ h)

@@ -1,5 +1,5 @@
 -- What the laws of a grammar say of a call that reads it.
-use Rattle.std.proofs.Common.{ℕ, ◌≡◌, List, Ok, refl, sym, ◌∙◌, subst}
+use Rattle.std.proofs.Common.{ℕ, ◌≡◌, Ok, refl, sym, ◌∙◌, subst}
 use Rattle.gql_base.specs.declared.ways.source.Source.{Source}
 use Rattle.gql_base.specs.declared.ways.source.Halt.{Halt}
 use Rattle.gql_base.specs.declared.ways.source.Halt.TheVariants.{Unexpected, TooDeep, Memory}

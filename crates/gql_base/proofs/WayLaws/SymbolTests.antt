@@ -1,6 +1,6 @@
 -- What tests say of the first symbols of things.
 use Rattle.std.proofs.Common.{ℕ, suc, ◌≡◌, ◌≤◌, ◌⊎◌, inl, inr, Bool, true, false, List, [], ◌∷◌, ◌++◌, Option, Some, refl, sym, ap, ◌∙◌, subst}
-use Rattle.std.specs.Prelude.{◌==◌, ◌||◌, not, if◌then◌else◌}
+use Rattle.std.specs.Prelude.{◌==◌, not, if◌then◌else◌}
 use Rattle.std.proofs.lemmas.Bool.{eqb-true, eq-eqb}
 use Rattle.gql_base.specs.declared.lexical.token.TokenKind.{TokenKind}
 use Rattle.gql_base.specs.declared.lexical.token.TokenKind.TheVariants.{Name, Int, Str, BlockStr, Bang, Dollar, Amp, OpenParen, CloseParen, Spread, Colon, Equals, At, OpenBracket, CloseBracket, OpenBrace, Pipe, CloseBrace}
@@ -174,10 +174,6 @@ heads_after {test = test} p h = record { says = λ x f rest is. ap (λ (l : Nest
 pub then_law : {A B : Type 0} {S : A → Nested → Type 0} {T : B → Nested → Type 0} {n : ℕ} {first goes : Test} {r more : Reader A} {s more2 : Reader B}
     → Law S n first r more → Law T n goes s more2 → Passes goes first T → Law (Pair S T) n goes (pair r s) (pair more more2)
 then_law l m p = pair_law l m (λ a b f g rest is it e. p.fails b g rest it e)
-
-pub or_false : (a b : Bool) → (a || b) ≡ false → (a ≡ false) × (b ≡ false)
-or_false true b e = cc
-or_false false b e = (refl, e)
 
 -- brackets
 

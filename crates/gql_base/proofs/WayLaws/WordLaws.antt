@@ -1,5 +1,5 @@
 -- The laws of words, strings and things between two punctuators, and what tests say of their first symbols.
-use Rattle.std.proofs.Common.{ℕ, ◌≡◌, ◌≤◌, inl, inr, Bool, true, false, List, [], ◌∷◌, ◌++◌, Some, refl, sym, ap, ◌∙◌}
+use Rattle.std.proofs.Common.{ℕ, ◌≡◌, ◌≤◌, inl, inr, Bool, true, false, List, [], ◌++◌, Some, refl, ap, ◌∙◌}
 use Rattle.std.specs.Prelude.{◌||◌}
 use Rattle.std.specs.Str.{bytes_eq}
 use Rattle.std.proofs.lemmas.Slice.Eq.{bytes_eq-Decides}
@@ -10,15 +10,16 @@ use Rattle.gql_base.specs.ways.Reading.{Reader, Test, next, is_some, takes, sing
 use Rattle.gql_base.specs.ways.Grammar.{Nested, plain, Single, Pair, Image, Optional, OneOrMore}
 use Rattle.gql_base.proofs.WayLaws.ReadingLaws.{Law, Heads, image_law, single_law, after, regroup}
 use Rattle.gql_base.proofs.WayLaws.RepeatingLaws.{one_or_more_law}
-use Rattle.gql_base.proofs.WayLaws.SymbolTests.{IsPunctuator, when_true, mark_law, heads_single, heads_mark, passes_heads, then_law, or_false}
+use Rattle.gql_base.proofs.WayLaws.SymbolTests.{IsPunctuator, when_true, mark_law, heads_single, heads_mark, passes_heads, then_law}
+use Rattle.std.proofs.lemmas.Bool.{or_parts}
 
 -- what one of two tests says, and what both say
 
 pub left_false : (a b : Bool) → (a || b) ≡ false → a ≡ false
-left_false a b e = (or_false a b e).0
+left_false a b e = (or_parts a b e).0
 
 pub right_false : (a b : Bool) → (a || b) ≡ false → b ≡ false
-right_false a b e = (or_false a b e).1
+right_false a b e = (or_parts a b e).1
 
 pub or_both : (a b : Bool) → a ≡ false → b ≡ false → (a || b) ≡ false
 or_both true b e f = cc
@@ -81,7 +82,7 @@ pub between_law : {A : Type 0} {S : A → Nested → Type 0} {n d : ℕ} {first 
     → (first (Some (punctuator close_kind)) || up_to close_kind (Some (punctuator close_kind))) ≡ false
     → Law (Image inside (Pair (Single (exact open_kind) d) (Pair (OneOrMore S) (Single (exact close_kind) d)))) n never
     (image inside (pair (single (exact open_kind)) (pair (one_or_more (up_to close_kind) r) (single (exact close_kind))))) (image inside (pair (single (exact open_kind)) (pair (one_or_more (up_to close_kind) more) (single (exact close_kind)))))
-between_law {first = first} o c is le l heads apart close = image_law inside (after (mark_law o le) (then_law (one_or_more_law {goes = both} (up_to c) l heads refl apart (λ w e. or_false (first w) (up_to c w) e)) (mark_law c le)
+between_law {first = first} o c is le l heads apart close = image_law inside (after (mark_law o le) (then_law (one_or_more_law {goes = both} (up_to c) l heads refl apart (λ w e. or_parts (first w) (up_to c w) e)) (mark_law c le)
     (passes_heads (heads_mark c is close))))
   where
     both : Test

@@ -1,6 +1,6 @@
 -- How block strings are written (GraphQL October 2021, 2.9.4): block string characters between three marks and three
 -- marks. What they stand for, once their lines and indents are looked at, is in `Blocks`.
-use Rattle.std.specs.Prelude.{ℕ, ◌≡◌, Bool, true, false, ◌==◌, ◌&&◌, List, [], ◌∷◌, ◌++◌}
+use Rattle.std.specs.Prelude.{ℕ, ◌≡◌, true, false, ◌==◌, ◌&&◌, List, [], ◌∷◌, ◌++◌}
 use Rattle.std.specs.List.{flat_map}
 use Rattle.gql_base.specs.lexical.Characters.{is_block_byte}
 use Rattle.gql_base.specs.lexical.Strings.{begins_with_marks}

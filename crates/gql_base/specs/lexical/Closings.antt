@@ -1,12 +1,12 @@
 -- Where strings and block strings are closed, and the faults inside those that are.
-use Rattle.std.specs.Prelude.{ℕ, ◌≡◌, ◌⊎◌, ◌+◌, Bool, true, false, ◌==◌, List, [], ◌∷◌, ◌++◌, length}
+use Rattle.std.specs.Prelude.{ℕ, ◌≡◌, ◌⊎◌, ◌+◌, true, false, ◌==◌, List, [], ◌∷◌, ◌++◌, length}
 use Rattle.std.specs.List.{AllPass, flat_map}
 use Rattle.gql_base.specs.declared.lexical.lexing.LexFault.{LexFault}
 use Rattle.gql_base.specs.declared.lexical.lexing.LexFault.TheVariants.{BadChar, BadEscape}
 use Rattle.gql_base.specs.lexical.Characters.{is_line_end, is_comment_byte, is_block_byte}
 use Rattle.gql_base.specs.lexical.Strings.{begins_with_marks}
 use Rattle.gql_base.specs.lexical.Strings.{StringCharacter, character_bytes, IsCharacter, AreCharacters, characters_bytes}
-use Rattle.gql_base.specs.lexical.BlockStrings.{BlockCharacter, escaped_marks, other, marks, block_characters_bytes, AreApart, AreBlockCharacters}
+use Rattle.gql_base.specs.lexical.BlockStrings.{BlockCharacter, marks, block_characters_bytes, AreApart}
 
 -- a byte by itself, or `\` and the byte after it
 pub data RawCharacter : Type 0 where

@@ -1,5 +1,5 @@
 -- The faults of a text: the first place in it that is no part of any token and isn't ignored.
-use Rattle.std.specs.Prelude.{◌≡◌, ◌⊎◌, ℕ, ◌+◌, ◌<◌, Bool, false, List, [], ◌∷◌, ◌++◌, length, drop, IsTrue, None, Some}
+use Rattle.std.specs.Prelude.{◌≡◌, ◌⊎◌, ℕ, ◌+◌, ◌<◌, Bool, false, List, [], ◌∷◌, ◌++◌, length, drop, IsTrue}
 use Rattle.gql_base.specs.declared.lexical.lexing.LexFault.{LexFault}
 use Rattle.gql_base.specs.declared.lexical.lexing.LexFault.TheVariants.{BadChar, BadNumber, OpenText, BadEscape, FloatValue, Memory}
 use Rattle.gql_base.specs.lexical.Characters.{is_number_start, follows_no_number}

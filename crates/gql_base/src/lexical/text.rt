@@ -3,6 +3,7 @@
 ghost use Rattle.std.specs.Prelude.{◌≡◌, IfOk, IfErr, OnOk, OnErr, IsUtf8, string_bytes};
 
 use std::alloc::{AllocError, Global};
+use std::fmt;
 use std::marker::Model;
 
 /// A UTF-8 text. Contracts see it as the list of its bytes.
@@ -17,6 +18,20 @@ impl Model for Text {
     ghost Value = { List ℕ };
 
     ghost view = { λ text. string_bytes text.inner };
+}
+
+/// Prints the text between quotation marks, as it prints a `String`.
+impl fmt::Debug for Text {
+    fn fmt<W: fmt::Write>(&self, f: &mut fmt::Formatter<W>) -> fmt::Result {
+        fmt::Debug::fmt(&self.inner, f)
+    }
+}
+
+/// Prints the text as it is.
+impl fmt::Display for Text {
+    fn fmt<W: fmt::Write>(&self, f: &mut fmt::Formatter<W>) -> fmt::Result {
+        fmt::Display::fmt(&self.inner, f)
+    }
 }
 
 impl Text {

@@ -28,6 +28,8 @@ fn a_text_is_a_string(rt: HostRuntime) -> Result<(), Fail> {
     let text = Text::from(String::from_str(rt.alloc(), "id")?);
     assert!(rt; text == Text::copy_of(rt.alloc(), "id")?);
     assert!(rt; text != Text::copy_of(rt.alloc(), "ID")?);
+    let shown = format!(in rt.alloc(); "{text} {text:?}")?;
+    assert_eq!(rt; shown.as_str(), "id \"id\"");
     assert_eq!(rt; text.into_string().as_str(), "id");
     Ok(())
 }

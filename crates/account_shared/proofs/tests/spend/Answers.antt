@@ -1,4 +1,3 @@
-use Rattle.std.proofs.Common.{◌≡◌, ◌≤◌, ◌+◌, ◌<◌, ℕ, List, sym, ap, ◌∙◌, subst}
 use Rattle.account_shared.proofs.Idle.{idle_past_refusal, idle_past_ticket}
 use Rattle.account_shared.proofs.tests.spend.Goals as goal
 

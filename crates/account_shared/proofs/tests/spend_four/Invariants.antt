@@ -1,4 +1,4 @@
-use Rattle.std.proofs.Common.{◌≡◌, ◌≤◌, ◌+◌, ◌*◌}
+use Rattle.std.proofs.Common.{◌≡◌, ◌≤◌, ◌*◌}
 use Rattle.account_shared.specs.Views.{Belongs, IsIdle}
 use Rattle.account_shared.proofs.tests.spend_four.Given as goal
 

@@ -1,5 +1,5 @@
 -- By cases on the outcome.
-use Rattle.gateway_run.proofs.Statuses.{known, usage, other_words, file_failed, stream_failed, done}
+use Rattle.gateway_run.proofs.Statuses.{known, usage, other_words, file_failed, stream_failed, done, refused, faulty, no_memory}
 use Rattle.gateway_run.proofs.status_laws.a_status_says_what_was_done.Goals as goal
 
 pub returns-clause-known : goal.returns-clause-known
@@ -19,3 +19,12 @@ returns-clause-stream_failed c words files out err runs = stream_failed words fi
 
 pub returns-clause-done : goal.returns-clause-done
 returns-clause-done c words files out err runs = done words files out err runs.0 runs.1 runs.2
+
+pub returns-clause-refused : goal.returns-clause-refused
+returns-clause-refused c words files out err runs = refused words files out err runs.0 runs.1 runs.2
+
+pub returns-clause-faulty : goal.returns-clause-faulty
+returns-clause-faulty c words status files out err large runs = faulty words files status out err runs.0 large runs.1 runs.2
+
+pub returns-clause-no_memory : goal.returns-clause-no_memory
+returns-clause-no_memory c words files out err runs = no_memory words files out err runs.0 runs.1 runs.2

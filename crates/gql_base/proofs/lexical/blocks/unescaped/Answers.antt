@@ -5,8 +5,9 @@ use Rattle.gql_base.specs.lexical.Strings.{begins_with_marks}
 use Rattle.gql_base.specs.lexical.Scans.{is_plain_byte}
 use Rattle.gql_base.specs.lexical.Blocks.{unescaped}
 use Rattle.gql_base.proofs.LexicalLaws.StringValues.{border_of_run, border_of_escape, added, nothing_added}
-use Rattle.gql_base.proofs.LexicalLaws.BlockMarks.{copy_of_marks, copy_of_run, copy_of_none, mark_is_ascii, both_are}
+use Rattle.gql_base.proofs.LexicalLaws.BlockMarks.{copy_of_marks, copy_of_run, copy_of_none, mark_is_ascii}
 use Rattle.gql_base.proofs.lexical.blocks.unescaped.Goals as goal
+use Rattle.std.proofs.lemmas.Bool.{and_parts}
 
 pub loop-at-init : goal.loop-at-init
 loop-at-init c = record {
@@ -20,7 +21,7 @@ loop-at-preserved-then-escapes_marks c =
     ap (λ xs. (get_or xs c.loop-at.at 0 == 92) && begins_with_marks (drop (c.loop-at.at + 1) xs)) (sym c.as_bytes.ensures.value) ∙ sym c.escapes_marks.ensures.test ∙ c.if-escapes_marks.true in
     record {
       border = border_of_escape c.args.raw.now c.loop-at.at 4 c.utf8.raw (omega arith) (omega (arith, c.if-escapes_marks.ensures.within, ap length c.as_bytes.ensures.value))
-          (mark_is_ascii c.args.raw.now c.loop-at.at c.loop-at-test.true (both_are (get_or c.args.raw.now c.loop-at.at 0 == 92) (begins_with_marks (drop (c.loop-at.at + 1) c.args.raw.now)) here).1);
+          (mark_is_ascii c.args.raw.now c.loop-at.at c.loop-at-test.true (and_parts (get_or c.args.raw.now c.loop-at.at 0 == 92) (begins_with_marks (drop (c.loop-at.at + 1) c.args.raw.now)) here).1);
       so_far = added (string_bytes c.loop-at.text) (34 ∷ 34 ∷ 34 ∷ []) (string_bytes c.push_str.new.self) (unescaped (drop c.loop-at.at c.args.raw.now)) _ _
           c.in_ok-push_str.ensures.bytes
           (copy_of_marks c.args.raw.now c.loop-at.at c.loop-at-test.true here)

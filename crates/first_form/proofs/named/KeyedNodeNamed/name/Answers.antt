@@ -1,5 +1,5 @@
 use Rattle.first_form.specs.Views.{key_of}
-use Rattle.first_form.proofs.named.FirstNodeNamed.name.Goals as goal
+use Rattle.first_form.proofs.named.KeyedNodeNamed.name.Goals as goal
 
 pub returns : goal.returns
 unfolding key_of

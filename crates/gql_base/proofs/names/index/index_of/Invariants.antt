@@ -1,7 +1,7 @@
 use Rattle.std.proofs.Common.{◌≡◌, map, drop}
-use Rattle.first_form.specs.Schemas.{are_distinct}
-use Rattle.first_form.specs.Indexes.{FindsFirst}
-use Rattle.first_form.proofs.named.index_of.Given as goal
+use Rattle.gql_base.specs.names.Names.{are_distinct}
+use Rattle.gql_base.specs.names.Indexes.{FindsFirst}
+use Rattle.gql_base.proofs.names.index.index_of.Given as goal
 
 -- What is indexed so far are the things from here on.
 abbrev pub invariant-loop-at : goal.invariant-loop-at

@@ -1,8 +1,8 @@
 use Rattle.std.proofs.Common.{◌∙◌, ap, map, subst, sym}
-use Rattle.first_form.specs.Schemas.{are_distinct}
-use Rattle.first_form.specs.Indexes.{FindsFirst}
-use Rattle.first_form.proofs.Names.{put_first, still_distinct, dropped_before}
-use Rattle.first_form.proofs.named.index_of.Goals as goal
+use Rattle.gql_base.specs.names.Names.{are_distinct}
+use Rattle.gql_base.specs.names.Indexes.{FindsFirst}
+use Rattle.gql_base.proofs.NameLaws.IndexLaws.{put_first, still_distinct, dropped_before}
+use Rattle.gql_base.proofs.names.index.index_of.Goals as goal
 
 pub loop-at-preserved : goal.loop-at-preserved
 loop-at-preserved g c =

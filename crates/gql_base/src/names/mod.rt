@@ -1,0 +1,7 @@
+//! Things that are found by their names.
+
+pub mod index;
+#[cfg(test)]
+mod index_tests;
+pub mod laws;
+pub mod named;
