@@ -11,7 +11,8 @@ use Rattle.gql_base.specs.parts.OperationKinds.{kind_word}
 use Rattle.gql_base.proofs.WayLaws.ReadingLaws.{Law, Heads, image_law, choice_law, after, wider_law}
 use Rattle.gql_base.proofs.WayLaws.RepeatingLaws.{repeated_law, optional_law, passes_repeated}
 use Rattle.gql_base.proofs.WayLaws.LevelLaws.{Family}
-use Rattle.gql_base.proofs.WayLaws.SymbolTests.{mark_law, heads_mark, heads_pair, heads_image, heads_choice, passes_heads, passes_optional, passes_pair, then_law, or_false}
+use Rattle.gql_base.proofs.WayLaws.SymbolTests.{mark_law, heads_mark, heads_pair, heads_image, heads_choice, passes_heads, passes_optional, passes_pair, then_law}
+use Rattle.std.proofs.lemmas.Bool.{or_parts}
 use Rattle.gql_base.proofs.WayLaws.WordLaws.{heads_word, takes_word, word_law, heads_optional, takes_mark, between_law}
 use Rattle.gql_base.proofs.PartLaws.ArgumentLaws.{goes_directives, heads_directive, directives_law, kind_law, heads_kind}
 use Rattle.schema_reader.specs.Schemas.{root_of, IsRoot, schema_of, IsSchemaDefinition, IsTypeHead, scalar_of, IsScalar, AreInterfaces, IsFieldedType, object_of, IsObject, interface_of, IsInterface, AreMembers, union_of, IsUnion, enum_of, IsEnum, input_object_of, IsInputObject, IsTypeDefinition, IsRepeatable, AreLocations, directive_of, IsDirectiveDefinition, IsDefinition}
@@ -31,9 +32,9 @@ goes_definition w = goes_interfaces w || (goes_members w || (takes (exact OpenBr
 
 goes_parts : (w : Option Symbol) → goes_definition w ≡ false → (goes_interfaces w ≡ false) × (goes_members w ≡ false) × (takes (exact OpenBrace) w ≡ false) × (goes_directives w ≡ false)
 goes_parts w h =
-    let a = or_false (goes_interfaces w) (goes_members w || (takes (exact OpenBrace) w || goes_directives w)) h in
-    let b = or_false (goes_members w) (takes (exact OpenBrace) w || goes_directives w) a.1 in
-    let c = or_false (takes (exact OpenBrace) w) (goes_directives w) b.1 in
+    let a = or_parts (goes_interfaces w) (goes_members w || (takes (exact OpenBrace) w || goes_directives w)) h in
+    let b = or_parts (goes_members w) (takes (exact OpenBrace) w || goes_directives w) a.1 in
+    let c = or_parts (takes (exact OpenBrace) w) (goes_directives w) b.1 in
     (a.0, b.0, c.0, c.1)
 
 -- what a test says of this word
@@ -71,7 +72,7 @@ scalar_law left more d n le e = image_law scalar_of (wider_law (λ w h. (goes_pa
 
 maybe_interfaces_law : {d n : ℕ} → d ≤ n → Law (Optional [] (AreInterfaces d)) n goes_interfaces maybe_interfaces_at maybe_interfaces_at
 maybe_interfaces_law le = optional_law (takes (keyword (codes "implements"))) [] (image_law second (after (word_law (codes "implements") le) (names_law Amp (λ b at. refl) le))) (heads_image (heads_pair _ (takes_word (codes "implements"))))
-    (λ w h. or_false (takes (exact Amp) w) (takes (keyword (codes "implements")) w) h)
+    (λ w h. or_parts (takes (exact Amp) w) (takes (keyword (codes "implements")) w) h)
 
 fielded_type_law : (word : List ℕ) (left more d n : ℕ) → left ≤ more → n ≡ d + left → Law (IsFieldedType word d) n goes_definition (fielded_type_at word left) (fielded_type_at word more)
 fielded_type_law word left more d n le e = let inner : d ≤ n = omega (arith, e) in
@@ -86,7 +87,7 @@ heads_members : {b : Bool} {test : Test} (d : ℕ) → test (Some (punctuator Eq
 heads_members d e = heads_image (heads_pair _ (heads_mark Equals tt e))
 
 maybe_members_law : {d n : ℕ} → d ≤ n → Law (Optional [] (AreMembers d)) n goes_members maybe_members_at maybe_members_at
-maybe_members_law {d = d} le = optional_law (takes (exact Equals)) [] (image_law second (after (mark_law Equals le) (names_law Pipe (λ b at. refl) le))) (heads_members d refl) (λ w h. or_false (takes (exact Pipe) w) (takes (exact Equals) w) h)
+maybe_members_law {d = d} le = optional_law (takes (exact Equals)) [] (image_law second (after (mark_law Equals le) (names_law Pipe (λ b at. refl) le))) (heads_members d refl) (λ w h. or_parts (takes (exact Pipe) w) (takes (exact Equals) w) h)
 
 union_law : (left more d n : ℕ) → left ≤ more → n ≡ d + left → Law (IsUnion d) n goes_definition (union_at left) (union_at more)
 union_law left more d n le e = image_law union_of (then_law (type_head_law (codes "union") left more d n le e) (wider_law (λ w h. (goes_parts w h).1) (maybe_members_law (omega (arith, e)))) (passes_optional (heads_members d refl) (λ w h. (goes_parts w h).3)))
@@ -116,7 +117,7 @@ directive_definition_law : (left more d n : ℕ) → left ≤ more → n ≡ d +
 directive_definition_law left more d n le e = let inner : d ≤ n = omega (arith, e) in
     image_law directive_of (after (word_law (codes "directive") inner) (after (mark_law At inner) (after (plain_name_law inner)
     (then_law (maybe_arguments_law left more d n le e)
-    (then_law (repeatable_law inner) (wider_law (λ w h. (or_false (takes (exact Pipe) w) (takes (exact Equals) w) (goes_parts w h).1).0) (locations_law inner)) (passes_heads (heads_locations d (λ at. refl))))
+    (then_law (repeatable_law inner) (wider_law (λ w h. (or_parts (takes (exact Pipe) w) (takes (exact Equals) w) (goes_parts w h).1).0) (locations_law inner)) (passes_heads (heads_locations d (λ at. refl))))
     (passes_heads (heads_optional (heads_image (heads_word (codes "repeatable") (λ at. refl))) (heads_locations d (λ at. refl))))))))
 
 -- what words a test is asked of
@@ -216,7 +217,7 @@ goes_definitions w = goes_definition w || begins_definition w
 
 definitions_law : (n more : ℕ) → n ≤ more → Law (Repeated (IsDefinition 0)) n goes_definitions (definitions_at n) (definitions_at more)
 unfolding definitions_at
-definitions_law n more le = repeated_law begins_definition (definition_law n more 0 n le (omega arith)) (heads_definition 0 definition_begins) refl (heads_definition 0 ends_definition) (λ w h. or_false (goes_definition w) (begins_definition w) h)
+definitions_law n more le = repeated_law begins_definition (definition_law n more 0 n le (omega arith)) (heads_definition 0 definition_begins) refl (heads_definition 0 ends_definition) (λ w h. or_parts (goes_definition w) (begins_definition w) h)
 
 pub definitions_family : Family (Repeated (IsDefinition 0)) goes_definitions definitions_at
 definitions_family = record { law = definitions_law; at_end = refl }
