@@ -1,10 +1,10 @@
 -- Reading definitions gives what is written as them.
 use Rattle.std.proofs.Common.{ℕ, ◌+◌, ◌≡◌, ◌≤◌, Bool, true, false, List, [], Option, Some, refl, arith}
 use Rattle.std.specs.Prelude.{◌||◌, codes}
-use Rattle.gql_base.specs.declared.lexical.token.TokenKind.TheVariants.{Amp, Colon, Equals, At, OpenParen, OpenBrace, CloseBrace, Pipe}
+use Rattle.gql_base.specs.declared.lexical.token.TokenKind.TheVariants.{Amp, Colon, Equals, At, OpenBrace, CloseBrace, Pipe}
 use Rattle.gql_base.specs.declared.parts.trees.OperationKind.{OperationKind}
 use Rattle.gql_base.specs.ways.Symbols.{Symbol, punctuator, identifier, integer, string}
-use Rattle.gql_base.specs.ways.Reading.{Test, takes, second, exact, any_string, keyword, up_to, is_there, never}
+use Rattle.gql_base.specs.ways.Reading.{Test, takes, second, exact, keyword, up_to, never}
 use Rattle.gql_base.specs.ways.Grammar.{Optional, Repeated, Choice}
 use Rattle.gql_base.specs.parts.TypeReferences.{there}
 use Rattle.gql_base.specs.parts.OperationKinds.{kind_word}
@@ -13,11 +13,11 @@ use Rattle.gql_base.proofs.WayLaws.RepeatingLaws.{repeated_law, optional_law, pa
 use Rattle.gql_base.proofs.WayLaws.LevelLaws.{Family}
 use Rattle.gql_base.proofs.WayLaws.SymbolTests.{mark_law, heads_mark, heads_pair, heads_image, heads_choice, passes_heads, passes_optional, passes_pair, then_law}
 use Rattle.std.proofs.lemmas.Bool.{or_parts}
-use Rattle.gql_base.proofs.WayLaws.WordLaws.{heads_word, takes_word, word_law, heads_optional, takes_mark, between_law}
+use Rattle.gql_base.proofs.WayLaws.WordLaws.{heads_word, takes_word, word_law, heads_optional, between_law}
 use Rattle.gql_base.proofs.PartLaws.ArgumentLaws.{goes_directives, heads_directive, directives_law, kind_law, heads_kind}
 use Rattle.schema_reader.specs.Schemas.{root_of, IsRoot, schema_of, IsSchemaDefinition, IsTypeHead, scalar_of, IsScalar, AreInterfaces, IsFieldedType, object_of, IsObject, interface_of, IsInterface, AreMembers, union_of, IsUnion, enum_of, IsEnum, input_object_of, IsInputObject, IsTypeDefinition, IsRepeatable, AreLocations, directive_of, IsDirectiveDefinition, IsDefinition}
-use Rattle.schema_reader.specs.SchemaReading.{root_at, schema_definition_at, type_head_at, scalar_at, maybe_interfaces_at, fielded_type_at, object_at, interface_at, maybe_members_at, union_at, enum_at, input_object_at, type_definition_at, repeatable_at, locations_at, directive_definition_at, body_at, definition_at, begins_definition, definitions_at}
-use Rattle.schema_reader.proofs.FieldLaws.{plain_name_law, heads_plain_name, SaysOfStrings, description_law, heads_described, names_law, heads_between, maybe_between_law, heads_input, input_law, maybe_arguments_law, heads_field, field_law, heads_enum_value, enum_value_law}
+use Rattle.schema_reader.specs.SchemaReading.{root_at, schema_definition_at, type_head_at, scalar_at, maybe_interfaces_at, fielded_type_at, maybe_members_at, union_at, enum_at, input_object_at, type_definition_at, repeatable_at, locations_at, directive_definition_at, body_at, definition_at, begins_definition, definitions_at}
+use Rattle.schema_reader.proofs.FieldLaws.{plain_name_law, SaysOfStrings, description_law, heads_described, names_law, heads_between, maybe_between_law, heads_input, input_law, maybe_arguments_law, heads_field, field_law, heads_enum_value, enum_value_law}
 
 -- with what definitions may go on
 

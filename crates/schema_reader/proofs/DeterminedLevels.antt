@@ -1,6 +1,6 @@
 -- Where the symbols of things tell their nestings, symbols have one first fault, and none where they are those of a
 -- thing: for each grammar, whatever opens its levels.
-use Rattle.std.proofs.Common.{ℕ, suc, ◌≡◌, ◌⊎◌, inl, inr, true, false, List, [], ◌∷◌, ◌++◌, Ok, refl, sym, ap, ◌∙◌, subst, arith, append_assoc, append-nil}
+use Rattle.std.proofs.Common.{ℕ, suc, ◌≡◌, ◌⊎◌, inl, inr, false, List, [], ◌∷◌, ◌++◌, Ok, refl, sym, ap, ◌∙◌, subst, arith, append_assoc, append-nil}
 use Rattle.std.proofs.lemmas.Bool.{cases_Bool}
 use Rattle.gql_base.specs.ways.Symbols.{Symbol, Symbols}
 use Rattle.gql_base.specs.ways.Reading.{Reader, Test, next, repeated}

@@ -1,20 +1,18 @@
 -- Reading names, arguments, fields and enum values gives what is written as them.
-use Rattle.std.proofs.Common.{ℕ, ◌+◌, ◌≡◌, ◌≤◌, Bool, true, false, List, [], ◌∷◌, Option, None, Some, refl, ap, ◌∙◌, arith}
+use Rattle.std.proofs.Common.{ℕ, ◌+◌, ◌≡◌, ◌≤◌, Bool, true, false, List, [], None, Some, refl, ap, ◌∙◌, arith}
 use Rattle.std.specs.Prelude.{◌||◌}
-use Rattle.std.specs.Str.{bytes_eq}
 use Rattle.gql_base.specs.declared.lexical.token.TokenKind.{TokenKind}
-use Rattle.gql_base.specs.declared.lexical.token.TokenKind.TheVariants.{Bang, Colon, Equals, At, OpenParen, CloseParen, OpenBrace, CloseBrace}
+use Rattle.gql_base.specs.declared.lexical.token.TokenKind.TheVariants.{Bang, Colon, Equals, OpenParen, CloseParen}
 use Rattle.gql_base.specs.ways.Symbols.{Symbol, punctuator, identifier, integer, string}
-use Rattle.gql_base.specs.ways.Reading.{Reader, Test, takes, single, pair, image, optional, repeated, second, listed, exact, any_name, any_string, up_to, never}
-use Rattle.gql_base.specs.ways.Grammar.{Nested, Single, Pair, Image, Optional, Repeated}
-use Rattle.gql_base.specs.parts.Arguments.{IsDefault}
-use Rattle.gql_base.proofs.WayLaws.ReadingLaws.{Law, Heads, Passes, image_law, single_law, after, wider_law}
+use Rattle.gql_base.specs.ways.Reading.{Reader, Test, takes, optional, second, listed, exact, any_string, up_to, never}
+use Rattle.gql_base.specs.ways.Grammar.{Nested, Single, Pair, Optional}
+use Rattle.gql_base.proofs.WayLaws.ReadingLaws.{Law, Heads, image_law, single_law, after, wider_law}
 use Rattle.gql_base.proofs.WayLaws.RepeatingLaws.{repeated_law, optional_law, passes_repeated}
 use Rattle.gql_base.proofs.WayLaws.SymbolTests.{IsPunctuator, SaysOfNames, mark_law, name_law, heads_single, heads_mark, heads_name, heads_pair, heads_image, passes_heads, passes_optional, passes_pair, then_law}
 use Rattle.gql_base.proofs.WayLaws.WordLaws.{left_false, right_false, heads_string, string_law, takes_mark, heads_optional, between_law}
 use Rattle.gql_base.proofs.PartLaws.ArgumentLaws.{goes_directives, heads_directive, directives_law, goes_default, goes_variable, heads_default, default_law}
 use Rattle.gql_base.proofs.PartLaws.TypeLaws.{type_law}
-use Rattle.schema_reader.specs.Schemas.{NameText, name_of, IsName, IsDescription, IsOtherName, AreNames, Between, input_of, IsInput, AreArguments, field_of, IsField, AreFields, unless, enum_name, IsEnumValue}
+use Rattle.schema_reader.specs.Schemas.{NameText, name_of, IsName, IsDescription, IsOtherName, AreNames, Between, input_of, IsInput, AreArguments, field_of, IsField, unless, enum_name, IsEnumValue}
 use Rattle.schema_reader.specs.SchemaReading.{name_at, description_at, other_name_at, names_at, between, input_at, maybe_arguments_at, field_at, enum_value_at}
 
 -- names and descriptions

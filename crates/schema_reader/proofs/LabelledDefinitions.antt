@@ -6,10 +6,10 @@ use Rattle.gql_base.specs.declared.lexical.token.TokenKind.TheVariants.{Amp, Col
 use Rattle.gql_base.specs.declared.parts.trees.OperationKind.{OperationKind}
 use Rattle.gql_base.specs.ways.Symbols.{Symbol, punctuator, identifier, integer, string, kind_of}
 use Rattle.gql_base.specs.ways.Reading.{exact, second, inside, listed}
-use Rattle.gql_base.specs.ways.Grammar.{Nested, Single, Pair, Image, Optional, Repeated, OneOrMore}
+use Rattle.gql_base.specs.ways.Grammar.{Nested, Single, Pair, Image, Optional, Repeated}
 use Rattle.gql_base.specs.parts.TypeReferences.{there}
 use Rattle.gql_base.specs.parts.OperationKinds.{kind_word}
-use Rattle.schema_reader.specs.Schemas.{NameText, name_of, IsName, IsDescription, IsOtherName, AreNames, Between, input_of, IsInput, AreArguments, field_of, IsField, enum_name, IsEnumValue, root_of, IsRoot, schema_of, IsSchemaDefinition, IsTypeHead, scalar_of, IsScalar, AreInterfaces, IsFieldedType, object_of, IsObject, interface_of, IsInterface, AreMembers, union_of, IsUnion, enum_of, IsEnum, input_object_of, IsInputObject, IsTypeDefinition, IsRepeatable, AreLocations, directive_of, IsDirectiveDefinition, IsDefinition, IsSchema}
+use Rattle.schema_reader.specs.Schemas.{name_of, IsName, IsDescription, IsOtherName, AreNames, Between, input_of, IsInput, AreArguments, field_of, IsField, enum_name, IsEnumValue, root_of, IsRoot, schema_of, IsSchemaDefinition, IsTypeHead, scalar_of, AreInterfaces, IsFieldedType, object_of, interface_of, AreMembers, union_of, enum_of, input_object_of, IsTypeDefinition, AreLocations, directive_of, IsDirectiveDefinition, IsDefinition, IsSchema}
 use Rattle.schema_reader.proofs.FieldLaws.{enum_name_is}
 use Rattle.schema_reader.proofs.SchemaLevels.{Runs, none_runs, joined_runs, IsFlat, Labelled, single_labelled, mark_labelled, name_labelled, word_labelled, string_labelled, pair_labelled, image_labelled, choice_labelled, optional_labelled, repeated_labelled, one_or_more_labelled, type_labelled, colon_labelled, directives_labelled, default_labelled}
 

@@ -1,13 +1,13 @@
 -- Each text is a schema text or has one fault, and not both.
-use Rattle.std.proofs.Common.{ℕ, ◌≡◌, ◌⊎◌, inl, inr, true, false, List, [], ◌∷◌, Ok, Err, refl, sym, ap, ◌∙◌, subst, arith}
+use Rattle.std.proofs.Common.{ℕ, ◌≡◌, ◌⊎◌, inl, inr, false, List, [], ◌∷◌, Ok, Err, refl, sym, ap, ◌∙◌, subst}
 use Rattle.gql_base.specs.declared.lexical.token.Token.{Token}
 use Rattle.gql_base.specs.declared.lexical.lexing.LexFault.{LexFault}
 use Rattle.gql_base.specs.lexical.Faults.{HasFault}
 use Rattle.gql_base.specs.lexical.Tokens.{Lexes}
 use Rattle.gql_base.specs.ways.Symbols.{Symbols, symbols_from}
-use Rattle.gql_base.specs.ways.Reading.{Stop, unexpected, too_deep, Reading, next, is_there}
+use Rattle.gql_base.specs.ways.Reading.{Stop, unexpected, too_deep, Reading, next}
 use Rattle.gql_base.specs.ways.Grammar.{Repeated}
-use Rattle.gql_base.specs.ways.FirstFaults.{level_limit, IsUnexpected, IsTooDeep, IsWritten}
+use Rattle.gql_base.specs.ways.FirstFaults.{level_limit, IsUnexpected, IsWritten}
 use Rattle.gql_base.specs.ways.Sources.{offset_of}
 use Rattle.gql_base.proofs.LexicalLaws.OneDivision.{lexes_once, lexes_or_has_fault, no_fault, one_fault}
 use Rattle.gql_base.proofs.LexicalLaws.TextFaults.{no_memory_fault}
@@ -19,7 +19,7 @@ use Rattle.schema_reader.specs.declared.schema_text.SchemaTextFault.{SchemaTextF
 use Rattle.schema_reader.specs.declared.schema_text.SchemaTextFault.TheVariants.{Lex, Unexpected, Extension, TooDeep, Memory}
 use Rattle.schema_reader.specs.Schemas.{DefinitionTree, IsDefinition, IsSchema}
 use Rattle.schema_reader.specs.SchemaReading.{begins_definition, definition_at, definitions_at}
-use Rattle.schema_reader.specs.SchemaAnswers.{HasSchema, BeginsExtension, ExtendsAt, IsFaultAmong, HasFaultAmong, IsSchemaFault, HasSchemaFault}
+use Rattle.schema_reader.specs.SchemaAnswers.{HasSchema, BeginsExtension, ExtendsAt, IsFaultAmong, HasFaultAmong, HasSchemaFault}
 use Rattle.schema_reader.proofs.DefinitionLaws.{definitions_family}
 use Rattle.schema_reader.proofs.RepeatedParts.{definitions_repeat}
 use Rattle.schema_reader.proofs.SchemaLevels.{determined}

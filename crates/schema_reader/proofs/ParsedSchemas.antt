@@ -11,7 +11,7 @@ use Rattle.gql_base.specs.declared.lexical.lexing.LexFault.{LexFault}
 use Rattle.gql_base.specs.declared.lexical.lexing.LexFault.TheVariants as lexical
 use Rattle.gql_base.specs.lexical.Tokens.{Lexes, IsFaultOf}
 use Rattle.gql_base.specs.ways.Symbols.{Symbols, symbols_from}
-use Rattle.gql_base.specs.ways.Reading.{unexpected, too_deep, next, is_there}
+use Rattle.gql_base.specs.ways.Reading.{unexpected, next, is_there}
 use Rattle.gql_base.specs.ways.Grammar.{Repeated}
 use Rattle.gql_base.specs.ways.FirstFaults.{level_limit, IsWritten}
 use Rattle.gql_base.specs.ways.Sources.{ahead, Halts, offset_of}
@@ -26,7 +26,7 @@ use Rattle.schema_reader.specs.declared.trees.SchemaDef.{SchemaDef}
 use Rattle.schema_reader.specs.Trees.{definition_tree, schema_trees}
 use Rattle.schema_reader.specs.Schemas.{DefinitionTree, IsDefinition, IsSchema}
 use Rattle.schema_reader.specs.SchemaReading.{begins_definition, definitions_at}
-use Rattle.schema_reader.specs.SchemaAnswers.{HasSchema, ExtendsAt, IsFaultAmong, IsSchemaFault, schema_fault}
+use Rattle.schema_reader.specs.SchemaAnswers.{HasSchema, IsFaultAmong, IsSchemaFault, schema_fault}
 use Rattle.schema_reader.proofs.DefinitionLaws.{definitions_family}
 use Rattle.schema_reader.proofs.SchemaSteps.{are_definitions, written_schema, unexpected_schema, too_deep_schema, none_unexpected, no_extension, extends_there}
 

@@ -1,16 +1,15 @@
 -- The nestings of the symbols of a schema text are told by its symbols alone. A square bracket opens a level. A brace
 -- opens one inside of another level, and after a colon or an equals sign, where a value begins; any other brace holds
 -- the fields or values of a definition.
-use Rattle.std.proofs.Common.{ℕ, zero, suc, ◌≡◌, inl, inr, Bool, true, false, List, [], ◌∷◌, ◌++◌, None, Some, refl, sym, ap, ◌∙◌, subst, append_assoc, append-nil}
-use Rattle.std.specs.Prelude.{codes}
+use Rattle.std.proofs.Common.{ℕ, zero, suc, ◌≡◌, inl, inr, Bool, true, false, List, [], ◌∷◌, ◌++◌, Some, refl, sym, ap, ◌∙◌, subst, append_assoc, append-nil}
 use Rattle.gql_base.specs.declared.lexical.token.TokenKind.{TokenKind}
-use Rattle.gql_base.specs.declared.lexical.token.TokenKind.TheVariants.{Name, Bang, Dollar, Amp, Colon, Equals, At, OpenParen, CloseParen, OpenBracket, CloseBracket, OpenBrace, CloseBrace, Pipe}
+use Rattle.gql_base.specs.declared.lexical.token.TokenKind.TheVariants.{Bang, Dollar, Colon, Equals, At, OpenParen, CloseParen, OpenBracket, CloseBracket, OpenBrace, CloseBrace}
 use Rattle.gql_base.specs.ways.Symbols.{Symbol, punctuator, identifier, integer, string, Symbols, kind_of}
 use Rattle.gql_base.specs.ways.Reading.{Taking, exact, any_name, any_string, keyword, second, inside, some_second, listed}
-use Rattle.gql_base.specs.ways.Grammar.{Nested, plain, Single, Pair, Image, Choice, Empty, Optional, Repeated, OneOrMore, Bracketed}
+use Rattle.gql_base.specs.ways.Grammar.{Nested, plain, Single, Pair, Image, Choice, Optional, Repeated, OneOrMore, Bracketed}
 use Rattle.gql_base.specs.parts.Values.{ValueTree, variable_value, integer_value, string_value, boolean_value, null_value, enum_value, list_value, object_value, ValueTrees, no_value, value_then, FieldTrees, no_field, field_then, literal, named_value_of, IsValue, AreValues, AreFields}
 use Rattle.gql_base.specs.parts.TypeReferences.{TypeTree, named_type, list_type, non_null_type, IsType}
-use Rattle.gql_base.specs.parts.Arguments.{IsArgument, AreArguments, IsDirective, AreDirectives, IsDefault}
+use Rattle.gql_base.specs.parts.Arguments.{IsArgument, AreArguments, AreDirectives, IsDefault}
 use Rattle.gql_base.proofs.WayLaws.ReadingLaws.{regroup}
 use Rattle.gql_base.proofs.WayLaws.AlikeSymbols.{first_same}
 use Rattle.gql_base.proofs.WayLaws.SymbolTests.{IsPunctuator, exact_is, name_is}

@@ -1,9 +1,9 @@
 -- What reading definitions up to the end or to `extend` says of schema texts.
-use Rattle.std.proofs.Common.{ℕ, suc, ◌≡◌, ◌≤◌, Bool, true, false, List, [], ◌∷◌, ◌++◌, Option, None, Some, Ok, Err, refl, sym, ap, ◌∙◌, subst, arith, append-nil}
+use Rattle.std.proofs.Common.{ℕ, suc, ◌≡◌, true, false, List, [], ◌∷◌, ◌++◌, Option, None, Some, Ok, Err, refl, sym, ap, ◌∙◌, subst, arith, append-nil}
 use Rattle.std.specs.Prelude.{not, codes}
 use Rattle.gql_base.specs.ways.Symbols.{Symbol, Symbols, identifier}
-use Rattle.gql_base.specs.ways.Reading.{Stop, next, is_some, is_there, keyword, listed}
-use Rattle.gql_base.specs.ways.Grammar.{Nested, plain, Within, Repeated}
+use Rattle.gql_base.specs.ways.Reading.{Stop, next, is_some, is_there, keyword}
+use Rattle.gql_base.specs.ways.Grammar.{Nested, plain, Repeated}
 use Rattle.gql_base.specs.ways.FirstFaults.{NoneGoesOn, IsUnexpected, IsTooDeep, IsWritten}
 use Rattle.gql_base.proofs.WayLaws.ReadingLaws.{regroup, within_front, within_back, ok_same, ok_not_err}
 use Rattle.gql_base.proofs.WayLaws.LevelLaws.{deep_enough, is_read}

@@ -1,5 +1,5 @@
 -- What the reader of schema texts answers.
-use Rattle.std.specs.Prelude.{ℕ, ◌≡◌, List, [], ◌∷◌, Result, Ok, Err, codes}
+use Rattle.std.specs.Prelude.{ℕ, ◌≡◌, List, ◌∷◌, Result, Ok, Err, codes}
 use Rattle.gql_base.specs.declared.lexical.token.Token.{Token}
 use Rattle.gql_base.specs.lexical.Tokens.{Lexes}
 use Rattle.gql_base.specs.ways.Symbols.{Symbols, identifier, symbols_from}

@@ -3,7 +3,7 @@
 use Rattle.std.specs.Prelude.{ℕ, ◌&&◌, not, Bool, true, false, List, [], None, Some, codes}
 use Rattle.gql_base.specs.declared.lexical.token.TokenKind.{TokenKind}
 use Rattle.gql_base.specs.declared.lexical.token.TokenKind.TheVariants.{Amp, Colon, Equals, At, OpenParen, CloseParen, OpenBrace, CloseBrace, Pipe}
-use Rattle.gql_base.specs.ways.Reading.{Reader, Test, Taking, takes, single, pair, image, choice, optional, repeated, one_or_more, second, inside, listed, exact, any_name, any_string, keyword, up_to, is_there}
+use Rattle.gql_base.specs.ways.Reading.{Reader, Test, takes, single, pair, image, choice, optional, repeated, one_or_more, second, inside, listed, exact, any_name, any_string, keyword, up_to, is_there}
 use Rattle.gql_base.specs.parts.TypeReferences.{type_at, there}
 use Rattle.gql_base.specs.parts.Arguments.{directives_at, maybe_default_at}
 use Rattle.gql_base.specs.parts.OperationKinds.{kind_word}

@@ -1,5 +1,5 @@
 -- Schema texts (GraphQL October 2021, 3): their trees, and the symbols that they are written with.
-use Rattle.std.specs.Prelude.{ℕ, ◌||◌, Bool, true, false, List, [], ◌∷◌, Option, None, Some, codes}
+use Rattle.std.specs.Prelude.{ℕ, ◌||◌, Bool, true, false, List, [], Option, None, Some, codes}
 use Rattle.std.specs.Str.{bytes_eq}
 use Rattle.gql_base.specs.declared.lexical.token.TokenKind.{TokenKind}
 use Rattle.gql_base.specs.declared.lexical.token.TokenKind.TheVariants.{Amp, Colon, Equals, At, OpenParen, CloseParen, OpenBrace, CloseBrace, Pipe}

@@ -1,6 +1,6 @@
 //! Reading the definitions of schemas and directives (GraphQL October 2021, 3.3 and 3.13).
 
-ghost use Rattle.std.specs.Prelude.{◌≡◌, ◌<◌, ◌≤◌, length, map, IfOk};
+ghost use Rattle.std.specs.Prelude.{◌<◌, ◌≤◌, length, map, IfOk};
 ghost use Rattle.gql_base.specs.declared.lexical.token.TokenKind.TheVariants.{CloseBrace};
 ghost use Rattle.gql_base.specs.ways.Reading.{one_or_more, up_to};
 ghost use Rattle.gql_base.specs.ways.Sources.{ahead, Reads};

@@ -1,9 +1,7 @@
 //! Reading a schema from its text.
 
-ghost use Rattle.std.specs.Prelude.{◌≡◌, ◌<◌, ◌≤◌, ℕ, List, [], length, map, IfOk, IfErr, false};
-ghost use Rattle.gql_base.specs.ways.Symbols.{symbols_from};
+ghost use Rattle.std.specs.Prelude.{◌≡◌, ◌<◌, ◌≤◌, List, [], length, map, IfOk, IfErr, false};
 ghost use Rattle.gql_base.specs.ways.Reading.{next};
-ghost use Rattle.gql_base.specs.ways.Grammar.{Nested, plain, Within};
 ghost use Rattle.gql_base.specs.ways.FirstFaults.{level_limit, IsWritten};
 ghost use Rattle.gql_base.specs.ways.Sources.{ahead, Reads};
 ghost use Rattle.gql_base.specs.ways.Halting.{fault_of_halt, fault_of_lexing};

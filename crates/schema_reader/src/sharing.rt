@@ -5,7 +5,7 @@ use crate::trees::{DefBody, EnumValueDef, FieldDef, InputValue, RootDef};
 
 fn is_shared<T: Send + Sync>() {}
 
-/// Threads may share the trees of schema texts and their faults.
+/// Threads may share what definitions hold, and the faults of schema texts.
 pub fn schemas_are_shared() {
     is_shared::<DefBody>();
     is_shared::<RootDef>();

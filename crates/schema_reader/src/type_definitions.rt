@@ -4,7 +4,7 @@ ghost use Rattle.std.specs.Prelude.{◌≡◌, ◌<◌, ◌≤◌, length, map, 
 ghost use Rattle.gql_base.specs.parts.Trees.{directive_tree};
 ghost use Rattle.gql_base.specs.ways.Sources.{ahead, Reads};
 ghost use Rattle.schema_reader.specs.SchemaReading.{type_head_at, scalar_at, interfaces_at, maybe_interfaces_at, fielded_type_at, object_at, interface_at, members_at, maybe_members_at, union_at, enum_at, input_object_at, type_definition_at};
-ghost use Rattle.schema_reader.specs.Trees.{field_tree, fielded_tree, named_tree};
+ghost use Rattle.schema_reader.specs.Trees.{fielded_tree, named_tree};
 
 use crate::enum_parts::maybe_enum_values;
 use crate::field_parts::{maybe_fields, maybe_input_fields};

@@ -3,7 +3,7 @@ use Rattle.gql_base.specs.ways.FirstFaults.{level_limit}
 use Rattle.gql_base.specs.ways.Reading.{repeated}
 use Rattle.gql_base.specs.ways.Sources.{ahead}
 use Rattle.gql_base.proofs.WayLaws.Loops.{joined}
-use Rattle.schema_reader.specs.SchemaReading.{definition_at, begins_definition, definitions_at}
+use Rattle.schema_reader.specs.SchemaReading.{definition_at, begins_definition}
 use Rattle.schema_reader.specs.Trees.{definition_tree}
 use Rattle.schema_reader.proofs.schema_text.definitions.Given as goal
 
