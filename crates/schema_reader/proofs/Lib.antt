@@ -1,0 +1,10 @@
+pub mod FieldLaws
+pub mod DefinitionLaws
+pub mod RepeatedParts
+pub mod DeterminedLevels
+pub mod SchemaLevels
+pub mod LabelledDefinitions
+pub mod SchemaSteps
+pub mod OneSchemaFault
+pub mod OneSchema
+pub mod ParsedSchemas
