@@ -7,7 +7,9 @@ use Rattle.document_reader.specs.declared.trees.Document.{Document}
 use Rattle.document_reader.specs.declared.document.DocFault.{DocFault}
 use Rattle.document_reader.specs.Documents.{DefinitionTree}
 use Rattle.document_reader.specs.Trees.{definition_tree}
-use Rattle.document_reader.specs.DocumentAnswers.{IsDocumentOf, HasDocument, HasDocumentFault}
+use Rattle.gql_base.specs.ways.TextFaults.{no_memory}
+use Rattle.document_reader.specs.declared.document.DocFault.TheVariants.{Lex, Unexpected, TooDeep, Memory as NoMemory}
+use Rattle.document_reader.specs.DocumentAnswers.{IsDocumentOf, told_of_document, HasDocument, HasDocumentFault}
 use Rattle.first_form.specs.Schemas.{TypeTree, HasFirstSchema}
 use Rattle.first_form.specs.Documents.{HasFirstDocument}
 use Rattle.static_cost.specs.declared.first.FirstNode.{FirstNode}
@@ -57,16 +59,27 @@ within_exceeds : (operation other : List FirstNode) → firsts_of other ≡ firs
 within_exceeds operation other same within (inl exceeds) = bounded_exceeds types operation within.0.types within.1.of_types within.2.of_types (exceeds_alike types other operation same exceeds)
 within_exceeds operation other same within (inr exceeds) = bounded_exceeds fields operation within.0.fields within.1.of_fields within.2.of_fields (exceeds_alike fields other operation same exceeds)
 
+-- what a fault tells is want of memory only where the fault is
+told_memory : (fault : DocFault) → told_of_document fault ≡ no_memory → fault ≡ NoMemory
+told_memory (Lex fault) same = absurd (cc)
+told_memory (Unexpected at) same = absurd (cc)
+told_memory (TooDeep at) same = absurd (cc)
+told_memory NoMemory same = refl
+
+-- why a document file holds no document
+document_fault : (document : List ℕ) (fault : DocFault) → HoldsNoDocument document fault → HasDocumentFault document fault
+document_fault document fault none = (none.is_fault, λ same. none.of_text (told_memory fault same))
+
 -- a text that is no document is none of the first form
 not_held : OneText → (types : List TypeTree) (document : List ℕ) (fault : DocFault) (nodes : Firsts) → HoldsNoDocument document fault → HoldsDocument types document nodes → ⊥
 not_held texts forms document fault nodes none held =
-    texts.not_both document (map definition_tree held.document.definitions.items) fault (texts.documents document held.document held.is_document) (none.is_fault, none.of_text)
+    texts.not_both document (map definition_tree held.document.definitions.items) fault (texts.documents document held.document held.is_document) (document_fault document fault none)
 
 -- and none of another form
 no_other : OneText → (types : List TypeTree) (document : List ℕ) (fault : DocFault) → HoldsNoDocument document fault → (¬ IsText DOCUMENT_LIMIT document) ⊎ HoldsOtherDocument types document → ⊥
 no_other texts forms document fault none (inl no_text) = no_text none.text
 no_other texts forms document fault none (inr other) =
-    texts.not_both document (map definition_tree other.document.definitions.items) fault (texts.documents document other.document other.is_document) (none.is_fault, none.of_text)
+    texts.not_both document (map definition_tree other.document.definitions.items) fault (texts.documents document other.document other.is_document) (document_fault document fault none)
 
 -- a document of another form is none of the first
 other_held : OneText → (schema document : List ℕ) (types : List TypeTree) (operation : List FirstNode) → HoldsSchema schema types → (¬ IsText DOCUMENT_LIMIT document) ⊎ HoldsOtherDocument types document
@@ -94,7 +107,7 @@ one_refusal texts schema document SchemaNotBuilt TypesTooCostly a b = absurd (a 
 one_refusal texts schema document SchemaNotBuilt FieldsTooCostly a b = absurd (a b.1.types b.1.of_schema)
 one_refusal texts schema document SchemaNotBuilt BothTooCostly a b = absurd (a b.1.types b.1.of_schema)
 one_refusal texts schema document (NoDocument fault) SchemaNotBuilt a b = absurd (b a.0 a.1)
-one_refusal texts schema document (NoDocument fault) (NoDocument other) a b = ap NoDocument (texts.one_fault document fault other (a.2.is_fault, a.2.of_text) (b.2.is_fault, b.2.of_text))
+one_refusal texts schema document (NoDocument fault) (NoDocument other) a b = ap NoDocument (texts.one_fault document fault other (document_fault document fault a.2) (document_fault document other b.2))
 one_refusal texts schema document (NoDocument fault) DocumentNotBuilt a b = absurd (no_other texts b.0 document fault a.2 b.2)
 one_refusal texts schema document (NoDocument fault) TypesTooCostly a b = absurd (not_held texts b.1.types document fault (firsts_of b.0) a.2 b.1.of_document)
 one_refusal texts schema document (NoDocument fault) FieldsTooCostly a b = absurd (not_held texts b.1.types document fault (firsts_of b.0) a.2 b.1.of_document)

@@ -30,7 +30,7 @@ pub enum Refusal {
     #[error("the schema hasn't the form that can be priced")]
     SchemaNotBuilt,
     /// The document's text is no document of GraphQL. The fault is not want of memory.
-    #[error("the text is no document of GraphQL")]
+    #[error("the text is no document of GraphQL: {0}")]
     NoDocument(DocFault),
     /// The document hasn't the form that can be priced.
     #[error("the document hasn't the form that can be priced")]

@@ -1,1 +1,6 @@
 mod Growing
+pub mod Taking
+pub mod Fronts
+pub mod Dialling
+pub mod Rises
+pub mod Readings

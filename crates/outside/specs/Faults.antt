@@ -9,6 +9,10 @@ last_count = 2 ^ 64 - 1
 abbrev pub Rose : ℕ → ℕ → Type 0
 Rose before after = (before < after) ⊎ (last_count ≤ after)
 
+-- the count rose by so much at least, or it stands at its last value
+abbrev pub RoseBy : ℕ → ℕ → ℕ → Type 0
+RoseBy much before after = min (before + much) last_count ≤ after
+
 -- the count that follows, which stops at the last one
 abbrev pub next_count : ℕ → ℕ
 next_count count = min (count + 1) last_count

@@ -1,2 +1,5 @@
 pub mod Faults
 pub mod Contents
+pub mod Taken
+pub mod Ticks
+pub mod Dials

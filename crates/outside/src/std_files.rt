@@ -30,7 +30,7 @@ impl<R: rt::Files + Drop> StdFiles<R> {
 }
 
 // What one call of the reader gave, tried again where it was interrupted; nothing where it failed.
-fn given<R: Read>(from: &mut R, into: &mut [u8]) -> Option<usize>
+pub(crate) fn given<R: Read>(from: &mut R, into: &mut [u8]) -> Option<usize>
     ensures within { IfSome result (λ count. count ≤ length into.new) }
     ensures bytes { IfSome result (λ count. Gives (R.remaining from.old) (R.remaining from.new) count into.new) }
 {

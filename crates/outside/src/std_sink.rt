@@ -25,7 +25,7 @@ impl<W: Write + Drop> StdSink<W> {
 }
 
 // What one call of the writer took, tried again where it was interrupted; nothing where it failed.
-fn taken<W: Write>(to: &mut W, piece: &[u8]) -> Option<usize>
+pub(crate) fn taken<W: Write>(to: &mut W, piece: &[u8]) -> Option<usize>
     ensures within { IfSome result (λ count. count ≤ length piece.now) }
     ensures bytes { MatchOption result (Keeps (W.contents to.old) (W.contents to.new))
         (λ count. Appends (W.contents to.old) (W.contents to.new) (take count piece.now)) }

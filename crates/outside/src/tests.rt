@@ -1,11 +1,14 @@
 //! One test of each form in memory and of each adapter.
 use crate::{
-    Failures, FileFault, Files, MemFile, MemFiles, MemSink, Sink, StdFiles, StdSink, WriteFault,
-    write_whole,
+    Clock, Cut, DialFault, Failures, FileFault, Files, FirmSink, FirmSource, FirmWire, ListClock,
+    MemFile, MemFiles, MemSink, MemSource, MemWire, ReadFault, Sink, Source, StdFiles, StdSink,
+    StdSource, SystemClock, TcpWire, Wire, WireFault, WriteFault, write_whole,
 };
 use std::alloc::Global;
 use std::fmt::InlineText;
 use std::fs;
+use std::io::{Read, Write};
+use std::net::TcpListener;
 use std::test::Fail;
 
 fn schema_file(alloc: Global) -> Result<Vec<MemFile>, Fail> {
@@ -113,5 +116,89 @@ fn a_writer_of_the_system_takes_what_it_has_room_for(rt: HostRuntime) -> Result<
     assert_eq!(rt; &room, b"2.0");
     let told = InlineText::<64>::of(WriteFault);
     assert_eq!(rt; told.as_str(), "the stream took nothing");
+    Ok(())
+}
+
+#[test]
+fn streams_are_read_to_their_end(rt: HostRuntime) -> Result<(), Fail> {
+    let alloc = rt.alloc();
+    let mut into = [0u8; 8];
+    let mut failing = Vec::new(alloc);
+    failing.push(1)?;
+    let mut source = MemSource::new(Vec::from_slice(alloc, b"GET /")?, Failures::of(failing));
+    source.cut = Cut { ahead: 3 };
+    assert_eq!(rt; source.read(&mut into), Ok(3));
+    assert_eq!(rt; source.read(&mut into), Err(ReadFault));
+    assert_eq!(rt; source.read(&mut into), Ok(2));
+    assert_eq!(rt; source.read(&mut into), Ok(0));
+    let mut firm = FirmSource {
+        left: Vec::from_slice(alloc, b"POST")?,
+    };
+    assert_eq!(rt; firm.read(&mut into), Ok(4));
+    assert_eq!(rt; &into[..4], b"POST".as_slice());
+    fs::write(&rt, "read.txt", b"a file")?;
+    let mut file = StdSource::new(fs::open(&rt, "read.txt")?);
+    assert_eq!(rt; file.read(&mut into), Ok(6));
+    assert_eq!(rt; file.read(&mut into), Ok(0));
+    fs::remove_file(&rt, "read.txt")?;
+    assert_eq!(rt; write_whole(&mut FirmSink, b"anything"), Ok(()));
+    Ok(())
+}
+
+#[test]
+fn clocks_give_their_readings(rt: HostRuntime) -> Result<(), Fail> {
+    let mut readings = Vec::new(rt.alloc());
+    readings.push(7)?;
+    let mut clock = ListClock { readings };
+    assert_eq!(rt; clock.seconds(), 7);
+    assert_eq!(rt; clock.seconds(), 0);
+    assert!(rt; 1_700_000_000 < SystemClock::new(rt.clone()?).seconds());
+    Ok(())
+}
+
+#[test]
+fn wires_in_memory_carry_a_reply(rt: HostRuntime) -> Result<(), Fail> {
+    let alloc = rt.alloc();
+    let mut into = [0u8; 8];
+    let mut replies = Vec::new(alloc);
+    replies.push(Vec::from_slice(alloc, b"pong")?)?;
+    let mut failing = Vec::new(alloc);
+    failing.push(3)?;
+    let mut wire = MemWire::new(alloc, replies, Failures::none(alloc), Failures::of(failing));
+    assert_eq!(rt; wire.dial(), Ok(()));
+    wire.write_cut = Cut { ahead: 1 };
+    assert_eq!(rt; wire.write(b"ping"), Ok(1));
+    assert_eq!(rt; wire.read(&mut into), Ok(4));
+    assert_eq!(rt; wire.read(&mut into), Ok(0));
+    assert_eq!(rt; wire.read(&mut into), Err(WireFault));
+    wire.hang_up();
+    assert!(rt;
+        matches!(&wire.latest, Some(dial) if dial.sent.as_slice() == b"p".as_slice() && dial.ended)
+    );
+    let mut firm = FirmWire::new(Vec::from_slice(alloc, b"pong")?);
+    assert_eq!(rt; firm.dial(), Ok(()));
+    assert_eq!(rt; firm.write(b"ping"), Ok(4));
+    assert_eq!(rt; firm.read(&mut into), Ok(4));
+    firm.hang_up();
+    Ok(())
+}
+
+#[test]
+fn a_wire_over_tcp_carries_a_reply(rt: HostRuntime) -> Result<(), Fail> {
+    let mut into = [0u8; 8];
+    let listener = TcpListener::bind(&rt, "127.0.0.1:0")?;
+    let address = format!(in rt.alloc(); "{}", listener.local_addr()?)?;
+    let mut wire = TcpWire::new(rt.clone()?, address);
+    assert_eq!(rt; wire.dial(), Ok(()));
+    assert_eq!(rt; wire.write(b"ping"), Ok(4));
+    let (mut peer, _) = listener.accept()?;
+    assert_eq!(rt; peer.read(&mut into)?, 4);
+    assert_eq!(rt; peer.write(b"pong")?, 4);
+    assert_eq!(rt; wire.read(&mut into), Ok(4));
+    drop(peer);
+    assert_eq!(rt; wire.read(&mut into), Ok(0));
+    wire.hang_up();
+    drop(listener);
+    assert_eq!(rt; wire.dial(), Err(DialFault));
     Ok(())
 }

@@ -47,7 +47,7 @@ impl<F: Files + Drop> Files for PaddedFiles<F> {
 
     ghost content = { λ _ _. None };
 
-    ghost faults = { λ files. files.faults };
+    ghost faults = { λ files _. files.faults };
 
     fn read(&mut self, alloc: Global, name: &str, limit: usize) -> Result<Vec<u8>, FileFault> {
         let (name, length) = padded_name(name);

@@ -1,0 +1,13 @@
+-- The latest dial was changed.
+use Rattle.std.proofs.Common.{rules}
+use Rattle.outside.specs.Dials.{written_by}
+use Rattle.outside.proofs.Dialling.{latest_changed}
+use Rattle.outside.proofs.mem_wire.MemWireWire.write.Goals as goal
+
+pub returns-then-is_err-clause-sent : goal.returns-then-is_err-clause-sent
+returns-then-is_err-clause-sent c =
+    latest_changed (written_by c.send-sent.result c.args.piece.now) c.args.self.now.past.items c.args.self.now.latest c.in-Some.dial.now c.send-sent.new.self (search rules) c.send-sent.ensures.dial
+
+pub returns-else-is_err-clause-sent : goal.returns-else-is_err-clause-sent
+returns-else-is_err-clause-sent c =
+    latest_changed (written_by c.send-sent.result c.args.piece.now) c.args.self.now.past.items c.args.self.now.latest c.in-Some.dial.now c.send-sent.new.self (search rules) c.send-sent.ensures.dial
