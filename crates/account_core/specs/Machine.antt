@@ -125,8 +125,9 @@ IsReplied limit s caller (settlement number window bound measured) done =
     (open_grant caller number s.grants ≡ Some (grant caller number window bound)) × Within bound measured
 IsReplied limit s caller _ _ = ⊥
 
--- What a call leaves. A grant brings the machine to its window, with what is carried into it, and opens. A refusal changes nothing. A settlement
--- closes its grant, and adds the measured cost to what is settled, unless it is late: the grant's window is over.
+-- What a call leaves. A grant brings the machine to its window, with what is carried into it, and opens. A refusal changes
+-- nothing. A settlement closes its grant, and adds the measured cost to what is settled, unless it is late: the grant's
+-- window is over.
 abbrev pub state_after_call : Limit → State → ℕ → ℕ → Call → CallReply → State
 state_after_call limit s caller number (reservation window bound) (granted at) =
     record {

@@ -1,5 +1,5 @@
-//! The account of one client: what it has settled and what it holds in a window, and the law that
-//! both together never pass the window's allowance.
+//! The account of one client: what it has settled, holds and carries in a window, and the law that
+//! what is settled and held never passes the allowance and what is carried.
 //!
 //! A budget is kept by windows of time. Before a request goes out, its greatest cost is reserved;
 //! when the reply is in, the reservation is settled at the measured cost. A client whose limit says
