@@ -14,6 +14,8 @@ use Rattle.account_shared.specs.declared.Lane.{Lane}
 use Rattle.account_shared.specs.declared.Slot.{Slot}
 use Rattle.account_shared.specs.declared.Accounts.TheInside.{Inside as AccountsInside}
 use Rattle.account_shared.specs.declared.Passes.TheInside.{Inside}
+use Rattle.account_core.specs.declared.Account.{Account}
+use Rattle.account_shared.specs.declared.Totals.TheInside.{Inside as TotalsInside}
 use Rattle.account_shared.specs.Views.{Label, label_of, KnowsClient, PassesView, AccountsView, JoinsTo}
 
 abbrev pub lane_cell : Lane → TableId
@@ -58,6 +60,9 @@ IsFirst v = (v.live ≡ true) × (v.name ≡ 0)
 
 abbrev pub accounts_view : AccountsInside → AccountsView
 accounts_view a = record { cells = map slot_cell a.slots.items; limits = map slot_limit a.slots.items }
+
+abbrev pub totals_view : TotalsInside → List Account
+totals_view t = t.accounts.items
 
 -- a slot's limit fits the cap of costs
 abbrev pub IsSlot : Slot → Type 0

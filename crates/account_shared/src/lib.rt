@@ -82,6 +82,16 @@ pub struct Totals {
     accounts: Vec<Account>,
 }
 
+impl Model for Totals {
+    ghost use Rattle.account_shared.specs.Inside.{totals_view};
+    ghost use Rattle.std.specs.Prelude.{List};
+    ghost use Rattle.account_core.specs.declared.Account as account_type;
+
+    ghost Value = { List account_type.Account };
+
+    ghost view = { totals_view };
+}
+
 fn open_slot(alloc: Global, limit: Limit) -> Result<(Slot, Lane), AllocError>
     ensures { IfOk result (λ o. (o.0.limit ≡ limit) × (lane_cell o.1 ≡ slot_cell o.0) × (lane_view o.1 ≡ first_view limit)) }
 {
@@ -297,7 +307,6 @@ impl Accounts {
     /// It takes no memory, and may wait for the steps of other workers.
     pub fn settle<R: Wait>(&self, rt: &R, passes: &mut Passes, ticket: Ticket, measured: Cost)
         requires belong { Belongs passes.old self.now }
-        requires client { ticket.client < length self.now.limits }
         requires made { passes.old.made < 2 ^ 63 }
         requires granted { IsOpen passes.old ticket.client ticket.seq ticket.window ticket.bound }
         requires measured { Within ticket.bound measured }
@@ -319,7 +328,7 @@ impl Accounts {
         requires first { passes.label.name ≡ 0 }
         requires alone { passes.label.out ≡ [] }
         requires idle { IsIdle passes }
-        ensures accounts { result.accounts.items ≡ map account_seen passes.clients }
+        ensures accounts { result ≡ map account_seen passes.clients }
         ensures closed { (k : ℕ) → k < length passes.clients → ClosesTo (client_at passes k) (account_seen (client_at passes k)) }
     {
         let Accounts { slots, mut room } = self;
@@ -331,8 +340,8 @@ impl Accounts {
 impl Totals {
     /// A client's account after the last call.
     pub fn account(&self, client: u32) -> Account
-        requires { client < vec_len self.now.accounts }
-        ensures { (d : account_type.Account) → result ≡ get_or self.now.accounts.items client d }
+        requires { client < length self.now }
+        ensures { (d : account_type.Account) → result ≡ get_or self.now client d }
     {
         self.accounts[client as usize]
     }
