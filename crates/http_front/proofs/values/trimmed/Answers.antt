@@ -1,0 +1,8 @@
+-- Both ends.
+use Rattle.std.proofs.Common.{rules}
+use Rattle.httparse.specs.Grammar.{trim_ows}
+use Rattle.http_front.proofs.values.trimmed.Goals as goal
+
+pub returns : goal.returns
+unfolding trim_ows
+returns c = search rules

@@ -1,0 +1,62 @@
+-- In the service of the code: what its parts answer.
+use Rattle.std.specs.Prelude.{◌≡◌, ℕ, ◌-◌, ◌≤◌, ◌<◌, Bool, false, List, [], ◌++◌, length, Option, Some, None, Result, Ok, Err, IsTrue, ⊤}
+use Rattle.httparse.specs.Grammar.{RequestHead, print_request}
+use Rattle.http_front.specs.declared.fault.FrontFault.{FrontFault}
+use Rattle.http_front.specs.declared.fault.FrontFault.TheVariants as fault
+use Rattle.http_front.specs.declared.front.Ask.{Ask}
+use Rattle.http_front.specs.declared.head.Head.{Head}
+use Rattle.http_front.specs.Heads.{wants}
+use Rattle.http_front.specs.Asks.{AsksFor, IsPartOfHead, IsAsk, HasFault}
+
+-- the faults of the tests of a head
+abbrev pub IsOfHead : FrontFault → Type 0
+IsOfHead fault.NotFound = ⊤
+IsOfHead fault.BadMethod = ⊤
+IsOfHead fault.NoKey = ⊤
+IsOfHead fault.Coded = ⊤
+IsOfHead fault.BadMedia = ⊤
+IsOfHead fault.Chunked = ⊤
+IsOfHead fault.NoLength = ⊤
+IsOfHead fault.BadLength = ⊤
+IsOfHead (fault.BodyTooLarge n) = ⊤
+IsOfHead f = ⊥
+
+-- a head at the front, as the code keeps it
+pub record HeadIs (bytes : List ℕ) (head : Head) : Type 0 where
+  pub of : RequestHead
+  pub asks : AsksFor bytes of (wants head.key head.length head.close)
+  pub len : head.len ≡ length (print_request of)
+
+-- one look at the bytes
+abbrev pub LookIs : List ℕ → Result (Option Head) FrontFault → Type 0
+LookIs bytes (Ok (Some head)) = HeadIs bytes head
+LookIs bytes (Ok None) = IsPartOfHead bytes × (length bytes < 16384)
+LookIs bytes (Err f) = HasFault bytes false f
+
+-- one piece more, behind the old bytes
+abbrev pub PieceSays : List ℕ → List ℕ → List ℕ → Result Bool FrontFault → Type 0
+PieceSays old new piece (Ok ended) = (new ≡ old ++ piece) × (IsTrue ended → piece ≡ []) × (ended ≡ false → 0 < length piece)
+PieceSays old new piece (Err fault.ReadFault) = piece ≡ []
+PieceSays old new piece (Err fault.Memory) = ⊤
+PieceSays old new piece (Err f) = ⊥
+
+abbrev pub HeadSays : List ℕ → Result Head FrontFault → List ℕ → Bool → Type 0
+HeadSays new (Ok head) bytes ended = HeadIs bytes head × (new ≡ bytes)
+HeadSays new (Err f) bytes ended = HasFault bytes ended f
+
+abbrev pub BodySays : ℕ → List ℕ → Result (Unit {0}) FrontFault → List ℕ → Bool → Type 0
+BodySays total new (Ok u) bytes ended = (total ≤ length bytes) × (new ≡ bytes)
+BodySays total new (Err (fault.Truncated missing)) bytes ended = (length bytes < total) × (missing ≡ total - length bytes) × IsTrue ended
+BodySays total new (Err fault.ReadFault) bytes ended = length bytes < total
+BodySays total new (Err fault.Memory) bytes ended = ⊤
+BodySays total new (Err f) bytes ended = ⊥
+
+abbrev pub AskSays : List ℕ → Result Ask FrontFault → List ℕ → Bool → Type 0
+AskSays new (Ok ask) bytes ended = IsAsk bytes ask new
+AskSays new (Err f) bytes ended = HasFault bytes ended f
+
+-- the end before a whole head
+abbrev pub AtEndIs : List ℕ → FrontFault → Type 0
+AtEndIs bytes fault.End = bytes ≡ []
+AtEndIs bytes fault.BadHead = 0 < length bytes
+AtEndIs bytes f = ⊥

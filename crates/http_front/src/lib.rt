@@ -1,0 +1,20 @@
+//! HTTP/1.1 as a server meets it (RFC 9112): requests at the front of a source, in whatever pieces it gives
+//! them, and replies.
+#![tactic(auto)]
+
+mod fault;
+mod fields;
+mod front;
+mod head;
+pub mod laws;
+mod lengths;
+mod reading;
+mod reply;
+pub mod sharing;
+#[cfg(test)]
+mod tests;
+mod values;
+
+pub use fault::FrontFault;
+pub use front::{Ask, Front};
+pub use reply::{Answer, write_reply};
