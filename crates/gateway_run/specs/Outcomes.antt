@@ -2,6 +2,7 @@
 use Rattle.std.specs.Prelude.{◌≡◌, ◌⊎◌, ℕ, List, Option}
 use Rattle.std.specs.Io.KnownBytes.{Appends, Keeps}
 use Rattle.outside.specs.Faults.{Rose}
+use Rattle.outside.specs.Contents.{AppendsFront}
 use Rattle.gateway_run.specs.declared.finish.TheConstants.{USAGE_TEXT}
 use Rattle.gateway_run.specs.declared.outcome.Outcome.{Outcome}
 use Rattle.gateway_run.specs.declared.outcome.Outcome.TheVariants.{Done, Refused, FileFailed, Faulty, Usage, Memory}
@@ -76,13 +77,17 @@ IsKept stream = Keeps stream.before stream.after
 abbrev pub HasFailed : StreamTold → Type 0
 HasFailed stream = Rose stream.faults_before stream.faults_after
 
--- The text was written whole and the status is this, or the stream failed and the status is that of a failed stream.
-abbrev pub Writes : List ℕ → ℕ → ℕ → StreamTold → Type 0
-Writes text status result stream = ((result ≡ status) × Gains stream text) ⊎ ((result ≡ STREAM_FAILED) × HasFailed stream)
+-- It failed, and took a front of this text and nothing else.
+abbrev pub FailsAmid : StreamTold → List ℕ → Type 0
+FailsAmid stream text = HasFailed stream × AppendsFront stream.before stream.after text
 
--- The status is this, and the text was written whole or the stream failed.
+-- The text was written whole and the status is this, or the stream failed amid it and the status is that of a failed stream.
+abbrev pub Writes : List ℕ → ℕ → ℕ → StreamTold → Type 0
+Writes text status result stream = ((result ≡ status) × Gains stream text) ⊎ ((result ≡ STREAM_FAILED) × FailsAmid stream text)
+
+-- The status is this, and the text was written whole or the stream failed amid it.
 abbrev pub Mentions : List ℕ → ℕ → ℕ → StreamTold → Type 0
-Mentions text status result stream = (result ≡ status) × (Gains stream text ⊎ HasFailed stream)
+Mentions text status result stream = (result ≡ status) × (Gains stream text ⊎ FailsAmid stream text)
 
 -- What an outcome ends with: the status, and what is written on the output stream and on the error stream.
 abbrev pub Ends : Outcome → ℕ → StreamTold → StreamTold → Type 0

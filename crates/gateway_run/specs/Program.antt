@@ -10,7 +10,7 @@ use Rattle.gateway_run.specs.declared.outcome.Outcome.TheVariants.{Done, Refused
 use Rattle.gateway_run.specs.Commands.{Asks, IsNoCommand}
 use Rattle.outside.specs.Faults.{Rose}
 use Rattle.gateway_run.specs.Texts.{line, file_text}
-use Rattle.gateway_run.specs.Outcomes.{FilesTold, StreamTold, Gains, IsKept, HasFailed, Ends}
+use Rattle.gateway_run.specs.Outcomes.{FilesTold, StreamTold, Gains, IsKept, HasFailed, FailsAmid, Ends}
 use Rattle.gateway_run.specs.Price.{PriceCameTo}
 use Rattle.gateway_run.specs.Meter.{MeterCameTo}
 
@@ -51,7 +51,7 @@ pub record NamesFile (words : List (List ℕ)) (files : FilesTold) (out err : St
   pub of_command : IsFileOf command name
   pub unread : Rose (files.faults_before name) (files.faults_after name)
   pub silent : IsKept out
-  pub told : Gains err (line (file_text name)) ⊎ HasFailed err
+  pub told : Gains err (line (file_text name)) ⊎ FailsAmid err (line (file_text name))
 
 -- The command came to this output, and just that was written.
 abbrev pub PrintsOutput : List (List ℕ) → FilesTold → StreamTold → StreamTold → Type 0

@@ -3,6 +3,7 @@
 ghost use Rattle.std.specs.Prelude.{◌≡◌, ◌≤◌, ◌⊎◌, OnOk, OnErr};
 ghost use Rattle.std.specs.Io.KnownBytes.{Appends};
 ghost use Rattle.outside.specs.Faults.{Rose};
+ghost use Rattle.outside.specs.Contents.{AppendsFront};
 ghost use Rattle.gateway_run.specs.Texts.{line, file_text};
 ghost use Rattle.gateway_run.specs.Outcomes.{stream_told, Writes, Mentions, Ends};
 
@@ -22,6 +23,7 @@ fn write_line<K: Sink>(to: &mut K, text: &[u8]) -> Result<(), WriteFault>
     ensures whole { OnOk result (Appends (K.written to.old) (K.written to.new) (line text.now)) }
     ensures count { K.faults to.old ≤ K.faults to.new }
     ensures cause { OnErr result (Rose (K.faults to.old) (K.faults to.new)) }
+    ensures front { OnErr result (AppendsFront (K.written to.old) (K.written to.new) (line text.now)) }
 {
     write_whole(to, text)?;
     write_whole(to, b"\n")
@@ -41,6 +43,7 @@ fn write_or_fail<K: Sink>(to: &mut K, text: &[u8], status: u8) -> u8
 fn write_name<E: Sink>(to: &mut E, name: &[u8]) -> Result<(), WriteFault>
     ensures whole { OnOk result (Appends (E.written to.old) (E.written to.new) (line (file_text name.now))) }
     ensures cause { OnErr result (Rose (E.faults to.old) (E.faults to.new)) }
+    ensures front { OnErr result (AppendsFront (E.written to.old) (E.written to.new) (line (file_text name.now))) }
 {
     write_whole(to, b"file ")?;
     write_line(to, name)
