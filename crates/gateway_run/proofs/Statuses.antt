@@ -14,7 +14,7 @@ use Rattle.gateway_run.specs.Commands.{Asks, IsNoCommand}
 use Rattle.gateway_run.specs.Outcomes.{FilesTold, StreamTold, IsKept, Writes, Ends}
 use Rattle.gateway_run.specs.Price.{PriceOf}
 use Rattle.gateway_run.specs.Meter.{status_of, MeterOf}
-use Rattle.gateway_run.specs.Program.{CameTo, IsCommandOf, ComeTo, IsFileOf, NamesFile, OneFailed, PrintsOutput, PrintsRefusal, PrintsFault, IsSilent}
+use Rattle.gateway_run.specs.Program.{CommandCameTo, IsCommandOf, ComeTo, IsFileOf, NamesFile, OneFailed, PrintsOutput, PrintsRefusal, PrintsFault, IsSilent}
 
 -- the bytes that were read come to no file that failed, and to no wrong use
 price_file : (schema document name : List ℕ) → PriceOf schema document (FileFailed name) → ⊥
@@ -60,21 +60,21 @@ meter_faulty schema document reply text status (inr (inr (inl faulty))) = fault_
 meter_faulty schema document reply text status (inr (inr (inr refused))) = absurd refused.2
 
 -- what commands come to
-came_file : (command : Command) (files : FilesTold) (name : List ℕ) → CameTo command files (FileFailed name) → IsFileOf command name × Rose (files.faults_before name) (files.faults_after name)
+came_file : (command : Command) (files : FilesTold) (name : List ℕ) → CommandCameTo command files (FileFailed name) → IsFileOf command name × Rose (files.faults_before name) (files.faults_after name)
 came_file (Price schema document) files name (inl stopped) = stopped
 came_file (Price schema document) files name (inr read) = absurd (price_file read.0 read.1 name read.4)
 came_file (Meter schema document reply) files name (inl stopped) = stopped
 came_file (Meter schema document reply) files name (inr (inl large)) = absurd large.1
 came_file (Meter schema document reply) files name (inr (inr read)) = absurd (meter_file read.0 read.1 read.4.0 name read.4.3)
 
-came_usage : (command : Command) (files : FilesTold) → CameTo command files Usage → ⊥
+came_usage : (command : Command) (files : FilesTold) → CommandCameTo command files Usage → ⊥
 came_usage (Price schema document) files (inl stopped) = stopped
 came_usage (Price schema document) files (inr read) = price_usage read.0 read.1 read.4
 came_usage (Meter schema document reply) files (inl stopped) = stopped
 came_usage (Meter schema document reply) files (inr (inl large)) = large.1
 came_usage (Meter schema document reply) files (inr (inr read)) = meter_usage read.0 read.1 read.4.0 read.4.3
 
-came_faulty : (command : Command) (files : FilesTold) (status : ℕ) (text : List ℕ) → CameTo command files (Faulty status text) → IsReplyStatus status
+came_faulty : (command : Command) (files : FilesTold) (status : ℕ) (text : List ℕ) → CommandCameTo command files (Faulty status text) → IsReplyStatus status
 came_faulty (Price schema document) files status text (inl stopped) = absurd stopped
 came_faulty (Price schema document) files status text (inr read) = absurd (price_faulty read.0 read.1 text status read.4)
 came_faulty (Meter schema document reply) files status text (inl stopped) = absurd stopped
@@ -188,10 +188,10 @@ file_failed words files out err Usage come ends = absurd (omega (arith, ends.1.0
 file_failed words files out err Memory come ends = absurd (omega (arith, ends.0))
 
 pub stream_failed : (words : List (List ℕ)) (files : FilesTold) (out err : StreamTold) (outcome : Outcome) → ComeTo words files outcome → Ends outcome STREAM_FAILED out err → OneFailed out err
-stream_failed words files out err (Done output) come ends = inl (writes_failed DONE (λ same. omega (arith, same)) ends.0, ends.1)
-stream_failed words files out err (Refused text) come ends = inr (ends.0, writes_failed REFUSED (λ same. omega (arith, same)) ends.1)
+stream_failed words files out err (Done output) come ends = inl ((writes_failed DONE (λ same. omega (arith, same)) ends.0).0, ends.1)
+stream_failed words files out err (Refused text) come ends = inr (ends.0, (writes_failed REFUSED (λ same. omega (arith, same)) ends.1).0)
 stream_failed words files out err (FileFailed name) come ends = absurd (omega (arith, ends.1.0))
-stream_failed words files out err (Faulty number text) come ends = inr (ends.0, writes_failed number (no_stream number (come_faulty words files number text come)) ends.1)
+stream_failed words files out err (Faulty number text) come ends = inr (ends.0, (writes_failed number (no_stream number (come_faulty words files number text come)) ends.1).0)
 stream_failed words files out err Usage come ends = absurd (omega (arith, ends.1.0))
 stream_failed words files out err Memory come ends = absurd (omega (arith, ends.0))
 

@@ -51,7 +51,8 @@ IsTooLarge reply = (r : List ℕ) × IsRead REPLY_LIMIT reply r × (REPLY_LIMIT 
 abbrev pub WithinLimit : Option (List ℕ) → (List ℕ → Type 0) → Type 0
 WithinLimit reply P = (r : List ℕ) × IsRead REPLY_LIMIT reply r × (length r ≤ REPLY_LIMIT) × P r
 
--- A file was not read; or all were, and the reply is longer than its limit; or it is within, and the three came to that.
+-- A file was not read; or the reply is longer than its limit, whatever the other two are; or it is within, and the three
+-- came to that.
 abbrev pub MeterCameTo : List ℕ → List ℕ → List ℕ → FilesTold → Outcome → Type 0
 MeterCameTo schema document reply files outcome = IsStopped (λ name. (name ≡ schema) ⊎ (name ≡ document) ⊎ (name ≡ reply)) files outcome
     ⊎ (IsTooLarge (files.content reply) × IsRefusedAs (too_large_text reply) outcome)

@@ -15,9 +15,9 @@ use Rattle.gateway_run.specs.Price.{PriceCameTo}
 use Rattle.gateway_run.specs.Meter.{MeterCameTo}
 
 -- What a command came to.
-abbrev pub CameTo : Command → FilesTold → Outcome → Type 0
-CameTo (Price schema document) files outcome = PriceCameTo schema document files outcome
-CameTo (Meter schema document reply) files outcome = MeterCameTo schema document reply files outcome
+abbrev pub CommandCameTo : Command → FilesTold → Outcome → Type 0
+CommandCameTo (Price schema document) files outcome = PriceCameTo schema document files outcome
+CommandCameTo (Meter schema document reply) files outcome = MeterCameTo schema document reply files outcome
 
 -- The outcome of words that were not read into a command.
 abbrev pub no_command : WordsFault → Outcome
@@ -26,7 +26,7 @@ no_command NoMemory = Memory
 
 -- The command that the words ask for came to this.
 abbrev pub IsCommandOf : List (List ℕ) → FilesTold → Outcome → Type 0
-IsCommandOf words files outcome = (command : Command) × Asks words command × CameTo command files outcome
+IsCommandOf words files outcome = (command : Command) × Asks words command × CommandCameTo command files outcome
 
 -- What words came to: those of a command, what it came to; those of none, a wrong use; and there was no memory only for words of a command.
 abbrev pub ComeTo : List (List ℕ) → FilesTold → Outcome → Type 0

@@ -2,7 +2,7 @@
 
 ghost use Rattle.std.specs.Prelude.{◌≡◌};
 ghost use Rattle.gateway_run.specs.Outcomes.{files_told, stream_told, Ends};
-ghost use Rattle.gateway_run.specs.Program.{no_command, CameTo, ComeTo, Runs};
+ghost use Rattle.gateway_run.specs.Program.{no_command, CommandCameTo, ComeTo, Runs};
 
 use crate::command::{Command, WordsFault, command_of};
 use crate::finish::finish;
@@ -15,7 +15,7 @@ use std::alloc::Global;
 
 // Does a command, and gives what it came to.
 fn outcome_of<F: Files>(alloc: Global, command: Command, files: &mut F) -> Outcome
-    ensures { CameTo command (files_told (F.content files.old) (F.faults files.old) (F.faults files.new)) result }
+    ensures { CommandCameTo command (files_told (F.content files.old) (F.faults files.old) (F.faults files.new)) result }
 {
     match command {
         Command::Price { schema, document } => price(alloc, schema, document, files),
