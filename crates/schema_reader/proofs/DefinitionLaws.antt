@@ -15,7 +15,7 @@ use Rattle.gql_base.proofs.WayLaws.SymbolTests.{mark_law, heads_mark, heads_pair
 use Rattle.std.proofs.lemmas.Bool.{or_parts}
 use Rattle.gql_base.proofs.WayLaws.WordLaws.{heads_word, takes_word, word_law, heads_optional, between_law}
 use Rattle.gql_base.proofs.PartLaws.ArgumentLaws.{goes_directives, heads_directive, directives_law, kind_law, heads_kind}
-use Rattle.schema_reader.specs.Schemas.{root_of, IsRoot, schema_of, IsSchemaDefinition, IsTypeHead, scalar_of, IsScalar, AreInterfaces, IsFieldedType, object_of, IsObject, interface_of, IsInterface, AreMembers, union_of, IsUnion, enum_of, IsEnum, input_object_of, IsInputObject, IsTypeDefinition, IsRepeatable, AreLocations, directive_of, IsDirectiveDefinition, IsDefinition}
+use Rattle.schema_reader.specs.Schemas.{root_of, IsRoot, schema_of, IsSchemaDefinition, IsTypeHead, scalar_of, IsScalar, AreInterfaces, IsFieldedType, object_type_of, IsObject, interface_of, IsInterface, AreMembers, union_of, IsUnion, enum_of, IsEnum, input_object_of, IsInputObject, IsTypeDefinition, IsRepeatable, AreLocations, directive_of, IsDirectiveDefinition, IsDefinition}
 use Rattle.schema_reader.specs.SchemaReading.{root_at, schema_definition_at, type_head_at, scalar_at, maybe_interfaces_at, fielded_type_at, maybe_members_at, union_at, enum_at, input_object_at, type_definition_at, repeatable_at, locations_at, directive_definition_at, body_at, definition_at, begins_definition, definitions_at}
 use Rattle.schema_reader.proofs.FieldLaws.{plain_name_law, SaysOfStrings, description_law, heads_described, names_law, heads_between, maybe_between_law, heads_input, input_law, maybe_arguments_law, heads_field, field_law, heads_enum_value, enum_value_law}
 
@@ -162,7 +162,7 @@ type_definition_law : (left more d n : ℕ) → left ≤ more → n ≡ d + left
 unfolding type_definition_at
 type_definition_law left more d n le e =
     choice_law (takes (keyword (codes "scalar"))) (scalar_law left more d n le e)
-    (choice_law (takes (keyword (codes "type"))) (image_law object_of (fielded_type_law (codes "type") left more d n le e))
+    (choice_law (takes (keyword (codes "type"))) (image_law object_type_of (fielded_type_law (codes "type") left more d n le e))
     (choice_law (takes (keyword (codes "interface"))) (image_law interface_of (fielded_type_law (codes "interface") left more d n le e))
     (choice_law (takes (keyword (codes "union"))) (union_law left more d n le e)
     (choice_law (takes (keyword (codes "enum"))) (enum_law left more d n le e) (input_object_law left more d n le e)

@@ -12,7 +12,7 @@ use Rattle.gql_base.proofs.WayLaws.SymbolTests.{IsPunctuator, SaysOfNames, mark_
 use Rattle.gql_base.proofs.WayLaws.WordLaws.{left_false, right_false, heads_string, string_law, takes_mark, heads_optional, between_law}
 use Rattle.gql_base.proofs.PartLaws.ArgumentLaws.{goes_directives, heads_directive, directives_law, goes_default, goes_variable, heads_default, default_law}
 use Rattle.gql_base.proofs.PartLaws.TypeLaws.{type_law}
-use Rattle.schema_reader.specs.Schemas.{NameText, name_of, IsName, IsDescription, IsOtherName, AreNames, Between, input_of, IsInput, AreArguments, field_of, IsField, unless, enum_name, IsEnumValue}
+use Rattle.schema_reader.specs.Schemas.{NameText, name_of, IsName, IsDescription, IsOtherName, AreNames, Between, input_of, IsInput, AreArgumentDefinitions, field_of, IsField, unless, enum_name, IsEnumValue}
 use Rattle.schema_reader.specs.SchemaReading.{name_at, description_at, other_name_at, names_at, between, input_at, maybe_arguments_at, field_at, enum_value_at}
 
 -- names and descriptions
@@ -72,7 +72,7 @@ input_law left more d n le e = let inner : d ≤ n = omega (arith, e) in
     (passes_pair (passes_optional (heads_default d refl) (λ w h. h)) (passes_repeated (heads_directive true d refl) (λ w h. left_false (takes (exact Bang) w) (goes_default w) h))))))
     (passes_heads (heads_pair _ (heads_plain_name (λ b at. refl)))))
 
-pub maybe_arguments_law : (left more d n : ℕ) → left ≤ more → n ≡ d + left → Law (Optional [] (AreArguments d)) n (takes (exact OpenParen)) (maybe_arguments_at left) (maybe_arguments_at more)
+pub maybe_arguments_law : (left more d n : ℕ) → left ≤ more → n ≡ d + left → Law (Optional [] (AreArgumentDefinitions d)) n (takes (exact OpenParen)) (maybe_arguments_at left) (maybe_arguments_at more)
 maybe_arguments_law left more d n le e = maybe_between_law OpenParen CloseParen tt tt (omega (arith, e)) (input_law left more d n le e) (heads_input d (λ v. refl) (λ b at. refl)) (heads_input d (λ v. refl) (λ b at. refl)) refl
 
 -- fields

@@ -9,7 +9,7 @@ use Rattle.gql_base.specs.ways.Reading.{exact, second, inside, listed}
 use Rattle.gql_base.specs.ways.Grammar.{Nested, Single, Pair, Image, Optional, Repeated}
 use Rattle.gql_base.specs.parts.TypeReferences.{there}
 use Rattle.gql_base.specs.parts.OperationKinds.{kind_word}
-use Rattle.schema_reader.specs.Schemas.{name_of, IsName, IsDescription, IsOtherName, AreNames, Between, input_of, IsInput, AreArguments, field_of, IsField, enum_name, IsEnumValue, root_of, IsRoot, schema_of, IsSchemaDefinition, IsTypeHead, scalar_of, AreInterfaces, IsFieldedType, object_of, interface_of, AreMembers, union_of, enum_of, input_object_of, IsTypeDefinition, AreLocations, directive_of, IsDirectiveDefinition, IsDefinition, IsSchema}
+use Rattle.schema_reader.specs.Schemas.{name_of, IsName, IsDescription, IsOtherName, AreNames, Between, input_of, IsInput, AreArgumentDefinitions, field_of, IsField, enum_name, IsEnumValue, root_of, IsRoot, schema_of, IsSchemaDefinition, IsTypeHead, scalar_of, AreInterfaces, IsFieldedType, object_type_of, interface_of, AreMembers, union_of, enum_of, input_object_of, IsTypeDefinition, AreLocations, directive_of, IsDirectiveDefinition, IsDefinition, IsSchema}
 use Rattle.schema_reader.proofs.FieldLaws.{enum_name_is}
 use Rattle.schema_reader.proofs.SchemaLevels.{Runs, none_runs, joined_runs, IsFlat, Labelled, single_labelled, mark_labelled, name_labelled, word_labelled, string_labelled, pair_labelled, image_labelled, choice_labelled, optional_labelled, repeated_labelled, one_or_more_labelled, type_labelled, colon_labelled, directives_labelled, default_labelled}
 
@@ -39,7 +39,7 @@ braces_labelled s = optional_labelled [] (image_labelled inside (pair_labelled {
 input_labelled : Labelled (IsInput 0) false false 0
 input_labelled = image_labelled input_of (pair_labelled description_labelled (pair_labelled plain_name_labelled (pair_labelled colon_labelled (pair_labelled type_labelled (pair_labelled (optional_labelled None default_labelled) (directives_labelled true))))))
 
-arguments_labelled : Labelled (Optional [] (AreArguments 0)) false false 0
+arguments_labelled : Labelled (Optional [] (AreArgumentDefinitions 0)) false false 0
 arguments_labelled = optional_labelled [] (image_labelled inside (pair_labelled {m = false} (mark_labelled OpenParen tt (refl, refl, refl)) (pair_labelled (one_or_more_labelled input_labelled) (mark_labelled CloseParen tt (refl, refl, refl)))))
 
 field_labelled : Labelled (IsField 0) false false 0
@@ -81,7 +81,7 @@ locations_labelled = image_labelled second (pair_labelled {m = false} (word_labe
 type_definition_labelled : Labelled (IsTypeDefinition 0) false false 0
 type_definition_labelled =
     choice_labelled (image_labelled scalar_of (head_labelled (codes "scalar")))
-    (choice_labelled (image_labelled object_of (fielded_labelled (codes "type")))
+    (choice_labelled (image_labelled object_type_of (fielded_labelled (codes "type")))
     (choice_labelled (image_labelled interface_of (fielded_labelled (codes "interface")))
     (choice_labelled (image_labelled union_of (pair_labelled (head_labelled (codes "union")) (optional_labelled [] members_labelled)))
     (choice_labelled (image_labelled enum_of (pair_labelled (head_labelled (codes "enum")) (braces_labelled enum_value_labelled)))

@@ -7,7 +7,7 @@ use Rattle.gql_base.specs.ways.Reading.{Reader, Test, takes, single, pair, image
 use Rattle.gql_base.specs.parts.TypeReferences.{type_at, there}
 use Rattle.gql_base.specs.parts.Arguments.{directives_at, maybe_default_at}
 use Rattle.gql_base.specs.parts.OperationKinds.{kind_word}
-use Rattle.schema_reader.specs.Schemas.{NameText, Description, RootTree, InputTree, FieldTree, EnumValueTree, NamedBody, DefinitionTree, HeadTree, FieldedTree, name_of, input_of, field_of, enum_name, root_of, schema_of, scalar_of, object_of, interface_of, union_of, enum_of, input_object_of, directive_of}
+use Rattle.schema_reader.specs.Schemas.{NameText, Description, RootTree, InputDefTree, FieldDefTree, EnumValueTree, NamedBody, DefinitionTree, HeadTree, FieldedTree, name_of, input_of, field_of, enum_name, root_of, schema_of, scalar_of, object_type_of, interface_of, union_of, enum_of, input_object_of, directive_of}
 
 abbrev pub name_at : Reader NameText
 name_at = image name_of (single any_name)
@@ -30,28 +30,28 @@ names_at mark = image second (pair (maybe_mark_at mark) (some_names_at mark))
 abbrev pub between : {A : Type 0} → TokenKind → TokenKind → Reader A → Reader (List A)
 between open_kind close_kind r = image inside (pair (single (exact open_kind)) (pair (one_or_more (up_to close_kind) r) (single (exact close_kind))))
 
-abbrev pub input_at : ℕ → Reader InputTree
+abbrev pub input_at : ℕ → Reader InputDefTree
 input_at left = image input_of (pair description_at (pair name_at (pair (single (exact Colon)) (pair (type_at left) (pair (maybe_default_at left) (directives_at true left))))))
 
-abbrev pub arguments_at : ℕ → Reader (List InputTree)
+abbrev pub arguments_at : ℕ → Reader (List InputDefTree)
 arguments_at left = between OpenParen CloseParen (input_at left)
 
-abbrev pub maybe_arguments_at : ℕ → Reader (List InputTree)
+abbrev pub maybe_arguments_at : ℕ → Reader (List InputDefTree)
 maybe_arguments_at left = optional (takes (exact OpenParen)) [] (arguments_at left)
 
-abbrev pub input_fields_at : ℕ → Reader (List InputTree)
+abbrev pub input_fields_at : ℕ → Reader (List InputDefTree)
 input_fields_at left = between OpenBrace CloseBrace (input_at left)
 
-abbrev pub maybe_input_fields_at : ℕ → Reader (List InputTree)
+abbrev pub maybe_input_fields_at : ℕ → Reader (List InputDefTree)
 maybe_input_fields_at left = optional (takes (exact OpenBrace)) [] (input_fields_at left)
 
-abbrev pub field_at : ℕ → Reader FieldTree
+abbrev pub field_at : ℕ → Reader FieldDefTree
 field_at left = image field_of (pair description_at (pair name_at (pair (maybe_arguments_at left) (pair (single (exact Colon)) (pair (type_at left) (directives_at true left))))))
 
-abbrev pub fields_at : ℕ → Reader (List FieldTree)
+abbrev pub fields_at : ℕ → Reader (List FieldDefTree)
 fields_at left = between OpenBrace CloseBrace (field_at left)
 
-abbrev pub maybe_fields_at : ℕ → Reader (List FieldTree)
+abbrev pub maybe_fields_at : ℕ → Reader (List FieldDefTree)
 maybe_fields_at left = optional (takes (exact OpenBrace)) [] (fields_at left)
 
 abbrev pub enum_value_at : ℕ → Reader EnumValueTree
@@ -88,7 +88,7 @@ abbrev pub fielded_type_at : List ℕ → ℕ → Reader FieldedTree
 fielded_type_at word left = image second (pair (single (keyword word)) (pair name_at (pair maybe_interfaces_at (pair (directives_at true left) (maybe_fields_at left)))))
 
 abbrev pub object_at : ℕ → Reader NamedBody
-object_at left = image object_of (fielded_type_at (codes "type") left)
+object_at left = image object_type_of (fielded_type_at (codes "type") left)
 
 abbrev pub interface_at : ℕ → Reader NamedBody
 interface_at left = image interface_of (fielded_type_at (codes "interface") left)

@@ -26,12 +26,12 @@ abbrev pub RootTree : Type 0
 RootTree = OperationKind × NameText
 
 -- an argument or an input field: its description, name, type, default and directives
-abbrev pub InputTree : Type 0
-InputTree = Description × NameText × TypeTree × Option ValueTree × List DirectiveTree
+abbrev pub InputDefTree : Type 0
+InputDefTree = Description × NameText × TypeTree × Option ValueTree × List DirectiveTree
 
 -- a field: its description, name, arguments, type and directives
-abbrev pub FieldTree : Type 0
-FieldTree = Description × NameText × List InputTree × TypeTree × List DirectiveTree
+abbrev pub FieldDefTree : Type 0
+FieldDefTree = Description × NameText × List InputDefTree × TypeTree × List DirectiveTree
 
 abbrev pub EnumValueTree : Type 0
 EnumValueTree = Description × (NameText × List DirectiveTree)
@@ -39,12 +39,12 @@ EnumValueTree = Description × (NameText × List DirectiveTree)
 pub data BodyTree : Type 0 where
   schema_body : (roots : List RootTree) → BodyTree
   scalar_body : BodyTree
-  object_body : (interfaces : List NameText) (fields : List FieldTree) → BodyTree
-  interface_body : (interfaces : List NameText) (fields : List FieldTree) → BodyTree
+  object_body : (interfaces : List NameText) (fields : List FieldDefTree) → BodyTree
+  interface_body : (interfaces : List NameText) (fields : List FieldDefTree) → BodyTree
   union_body : (members : List NameText) → BodyTree
   enum_body : (values : List EnumValueTree) → BodyTree
-  input_body : (fields : List InputTree) → BodyTree
-  directive_body : (arguments : List InputTree) (repeatable : Bool) (locations : List NameText) → BodyTree
+  input_body : (fields : List InputDefTree) → BodyTree
+  directive_body : (arguments : List InputDefTree) (repeatable : Bool) (locations : List NameText) → BodyTree
 
 -- what a definition has after its description: a name, directives and a body
 abbrev pub NamedBody : Type 0
@@ -79,26 +79,26 @@ Between open_kind close_kind d S = Image inside (Pair (Single (exact open_kind) 
 
 -- arguments and fields
 
-abbrev pub input_of : Description × (NameText × (Unit {0} × (TypeTree × (Option ValueTree × List DirectiveTree)))) → InputTree
+abbrev pub input_of : Description × (NameText × (Unit {0} × (TypeTree × (Option ValueTree × List DirectiveTree)))) → InputDefTree
 input_of p = (p.0, p.1.0, p.1.1.1.0, p.1.1.1.1.0, p.1.1.1.1.1)
 
-abbrev pub IsInput : ℕ → InputTree → Nested → Type 0
+abbrev pub IsInput : ℕ → InputDefTree → Nested → Type 0
 IsInput d = Image input_of (Pair (IsDescription d) (Pair (IsName d) (Pair (Single (exact Colon) d) (Pair (IsType d) (Pair (Optional None (IsDefault d)) (AreDirectives true d))))))
 
-abbrev pub AreArguments : ℕ → List InputTree → Nested → Type 0
-AreArguments d = Between OpenParen CloseParen d (IsInput d)
+abbrev pub AreArgumentDefinitions : ℕ → List InputDefTree → Nested → Type 0
+AreArgumentDefinitions d = Between OpenParen CloseParen d (IsInput d)
 
-abbrev pub AreInputFields : ℕ → List InputTree → Nested → Type 0
+abbrev pub AreInputFields : ℕ → List InputDefTree → Nested → Type 0
 AreInputFields d = Between OpenBrace CloseBrace d (IsInput d)
 
-abbrev pub field_of : Description × (NameText × (List InputTree × (Unit {0} × (TypeTree × List DirectiveTree)))) → FieldTree
+abbrev pub field_of : Description × (NameText × (List InputDefTree × (Unit {0} × (TypeTree × List DirectiveTree)))) → FieldDefTree
 field_of p = (p.0, p.1.0, p.1.1.0, p.1.1.1.1.0, p.1.1.1.1.1)
 
-abbrev pub IsField : ℕ → FieldTree → Nested → Type 0
-IsField d = Image field_of (Pair (IsDescription d) (Pair (IsName d) (Pair (Optional [] (AreArguments d)) (Pair (Single (exact Colon) d) (Pair (IsType d) (AreDirectives true d))))))
+abbrev pub IsField : ℕ → FieldDefTree → Nested → Type 0
+IsField d = Image field_of (Pair (IsDescription d) (Pair (IsName d) (Pair (Optional [] (AreArgumentDefinitions d)) (Pair (Single (exact Colon) d) (Pair (IsType d) (AreDirectives true d))))))
 
-abbrev pub AreFields : ℕ → List FieldTree → Nested → Type 0
-AreFields d = Between OpenBrace CloseBrace d (IsField d)
+abbrev pub AreFieldDefinitions : ℕ → List FieldDefTree → Nested → Type 0
+AreFieldDefinitions d = Between OpenBrace CloseBrace d (IsField d)
 
 -- enum values
 
@@ -155,16 +155,16 @@ AreInterfaces d = Image second (Pair (Single (keyword (codes "implements")) d) (
 
 -- what an object type and an interface type have: a name, interfaces, directives and fields
 abbrev pub FieldedTree : Type 0
-FieldedTree = NameText × (List NameText × (List DirectiveTree × List FieldTree))
+FieldedTree = NameText × (List NameText × (List DirectiveTree × List FieldDefTree))
 
 abbrev pub IsFieldedType : List ℕ → ℕ → FieldedTree → Nested → Type 0
-IsFieldedType word d = Image second (Pair (Single (keyword word) d) (Pair (IsName d) (Pair (Optional [] (AreInterfaces d)) (Pair (AreDirectives true d) (Optional [] (AreFields d))))))
+IsFieldedType word d = Image second (Pair (Single (keyword word) d) (Pair (IsName d) (Pair (Optional [] (AreInterfaces d)) (Pair (AreDirectives true d) (Optional [] (AreFieldDefinitions d))))))
 
-abbrev pub object_of : FieldedTree → NamedBody
-object_of p = (p.0, p.1.1.0, object_body p.1.0 p.1.1.1)
+abbrev pub object_type_of : FieldedTree → NamedBody
+object_type_of p = (p.0, p.1.1.0, object_body p.1.0 p.1.1.1)
 
 abbrev pub IsObject : ℕ → NamedBody → Nested → Type 0
-IsObject d = Image object_of (IsFieldedType (codes "type") d)
+IsObject d = Image object_type_of (IsFieldedType (codes "type") d)
 
 abbrev pub interface_of : FieldedTree → NamedBody
 interface_of p = (p.0, p.1.1.0, interface_body p.1.0 p.1.1.1)
@@ -187,7 +187,7 @@ enum_of p = (p.0.0, p.0.1, enum_body p.1)
 abbrev pub IsEnum : ℕ → NamedBody → Nested → Type 0
 IsEnum d = Image enum_of (Pair (IsTypeHead (codes "enum") d) (Optional [] (AreEnumValues d)))
 
-abbrev pub input_object_of : HeadTree × List InputTree → NamedBody
+abbrev pub input_object_of : HeadTree × List InputDefTree → NamedBody
 input_object_of p = (p.0.0, p.0.1, input_body p.1)
 
 abbrev pub IsInputObject : ℕ → NamedBody → Nested → Type 0
@@ -206,11 +206,11 @@ abbrev pub AreLocations : ℕ → List NameText → Nested → Type 0
 AreLocations d = Image second (Pair (Single (keyword (codes "on")) d) (AreNames Pipe d))
 
 -- it has no directives itself
-abbrev pub directive_of : Unit {0} × (Unit {0} × (NameText × (List InputTree × (Bool × List NameText)))) → NamedBody
+abbrev pub directive_of : Unit {0} × (Unit {0} × (NameText × (List InputDefTree × (Bool × List NameText)))) → NamedBody
 directive_of p = (p.1.1.0, [], directive_body p.1.1.1.0 p.1.1.1.1.0 p.1.1.1.1.1)
 
 abbrev pub IsDirectiveDefinition : ℕ → NamedBody → Nested → Type 0
-IsDirectiveDefinition d = Image directive_of (Pair (Single (keyword (codes "directive")) d) (Pair (Single (exact At) d) (Pair (IsName d) (Pair (Optional [] (AreArguments d)) (Pair (IsRepeatable d) (AreLocations d))))))
+IsDirectiveDefinition d = Image directive_of (Pair (Single (keyword (codes "directive")) d) (Pair (Single (exact At) d) (Pair (IsName d) (Pair (Optional [] (AreArgumentDefinitions d)) (Pair (IsRepeatable d) (AreLocations d))))))
 
 -- schema texts
 

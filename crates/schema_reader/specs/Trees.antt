@@ -11,15 +11,15 @@ use Rattle.schema_reader.specs.declared.trees.InputValue.{InputValue}
 use Rattle.schema_reader.specs.declared.trees.EnumValueDef.{EnumValueDef}
 use Rattle.schema_reader.specs.declared.type_definitions.NamedDef.{NamedDef}
 use Rattle.schema_reader.specs.declared.type_definitions.FieldedType.{FieldedType}
-use Rattle.schema_reader.specs.Schemas.{RootTree, InputTree, FieldTree, EnumValueTree, NamedBody, FieldedTree, BodyTree, schema_body, scalar_body, object_body, interface_body, union_body, enum_body, input_body, directive_body, DefinitionTree}
+use Rattle.schema_reader.specs.Schemas.{RootTree, InputDefTree, FieldDefTree, EnumValueTree, NamedBody, FieldedTree, BodyTree, schema_body, scalar_body, object_body, interface_body, union_body, enum_body, input_body, directive_body, DefinitionTree}
 
 abbrev pub root_tree : RootDef → RootTree
 root_tree r = (r.kind, r.name)
 
-abbrev pub input_tree : InputValue → InputTree
+abbrev pub input_tree : InputValue → InputDefTree
 input_tree v = (v.description, v.name, type_tree v.of, maybe_value v.default, map directive_tree v.directives.items)
 
-abbrev pub field_tree : FieldDef → FieldTree
+abbrev pub field_tree : FieldDef → FieldDefTree
 field_tree f = (f.description, f.name, map input_tree f.arguments.items, type_tree f.of, map directive_tree f.directives.items)
 
 abbrev pub enum_value_tree : EnumValueDef → EnumValueTree

@@ -134,6 +134,10 @@ fn definitions_are_read(rt: HostRuntime) -> Result<(), Fail> {
             "A@0 B interface c( f=@0)@0;",
         ),
         (
+            "\"d\" interface A interface B @a {c: D @e}",
+            "'d' A@0 interface;B@1 interface c()@1;",
+        ),
+        (
             "union A union B @a = | C | D \"e\" union E = extend",
             "A@0;B@1 C D;'e' E@0 extend;",
         ),
@@ -145,6 +149,8 @@ fn definitions_are_read(rt: HostRuntime) -> Result<(), Fail> {
             "input A input B { input: [C] = [[{}]] @d type: D }",
             "A@0;B@0 input=@1 type@0;",
         ),
+        ("input A @a {b: C}", "A@1 b@0;"),
+        ("directive @a(b: C @d) on E", "a@0 b@1 false E;"),
         (
             "directive @on(a: B c: D = true) repeatable on | repeatable | on",
             "on@0 a@0 c=@0 true repeatable on;",
@@ -202,6 +208,26 @@ fn faults_are_told_at_their_first_place(rt: HostRuntime) -> Result<(), Fail> {
         ("directive @a repeatable repeatable on B", "Unexpected 24"),
         ("directive @a on", "Unexpected 15"),
         ("directive @a on B @c", "Unexpected 18"),
+        ("type {a: B}", "Unexpected 5"),
+        ("interface {a: B}", "Unexpected 10"),
+        ("union = A", "Unexpected 6"),
+        ("enum {a}", "Unexpected 5"),
+        ("input {a: B}", "Unexpected 6"),
+        ("directive @ on", "Unexpected 14"),
+        ("directive", "Unexpected 9"),
+        ("schema {query:}", "Unexpected 14"),
+        ("type A {: B}", "Unexpected 8"),
+        ("type A {b C}", "Unexpected 10"),
+        ("type A {b:}", "Unexpected 10"),
+        ("type A {b(c): D}", "Unexpected 11"),
+        ("type A {b(c:): D}", "Unexpected 12"),
+        ("type A {\"d\"}", "Unexpected 11"),
+        ("input A {}", "Unexpected 9"),
+        ("interface A {}", "Unexpected 13"),
+        ("interface A implements {b: C}", "Unexpected 23"),
+        ("union A = B |", "Unexpected 13"),
+        ("directive @a on B |", "Unexpected 19"),
+        ("input A {b: C =}", "Unexpected 15"),
     ] {
         assert_eq!(rt; told(rt.alloc(), text)?.as_str(), fault, "{text}");
     }
