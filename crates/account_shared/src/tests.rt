@@ -1,5 +1,5 @@
-ghost use Rattle.std.specs.Prelude.{◌≡◌, ◌≤◌, ◌<◌, ◌+◌, ◌^◌, length};
-ghost use Rattle.account_shared.specs.Views.{Belongs, IsIdle};
+ghost use Rattle.std.specs.Prelude.{◌≡◌, ◌≤◌, ◌<◌, ◌+◌, ◌^◌, [], length, OnOk};
+ghost use Rattle.account_shared.specs.Views.{Belongs, IsIdle, first_label};
 
 use super::*;
 use std::process::Abort;
@@ -176,32 +176,38 @@ fn keeps_windows_and_carries(rt: HostRuntime) -> Result<(), Fail> {
     Ok(())
 }
 
-/// The first worker reserves in window 0 and settles at half, once another has spent. What was left
-/// for that one where it is short.
+/// The first worker reserves in window 0. While that grant is open another is split off and spends;
+/// then the first settles at less, and both are joined. What was left for the other where it is short.
 fn spend_beside<R: Wait>(
     rt: &R,
+    alloc: Global,
     accounts: &Accounts,
     first: &mut Passes,
-    second: &mut Passes,
     window: u64,
     bound: Cost,
-) -> Option<Cost>
-    requires belong { Belongs first.old accounts.now × Belongs second.old accounts.now }
+) -> Result<Option<Cost>, AllocError>
+    requires belong { Belongs first.old accounts.now }
     requires client { 0 < length accounts.now.limits }
-    requires made { (first.old.made ≡ 0) × (second.old.made ≡ 0) }
-    requires idle { IsIdle first.old × IsIdle second.old }
-    ensures belong { Belongs first.new accounts.now × Belongs second.new accounts.now }
-    ensures label { (first.new.label ≡ first.old.label) × (second.new.label ≡ second.old.label) }
-    ensures idle { IsIdle first.new }
-    ensures second_idle { IsIdle second.new }
+    requires first { (first.old.made ≡ 0) × (first.old.label ≡ first_label) }
+    requires idle { IsIdle first.old }
+    ensures belong { Belongs first.new accounts.now }
+    ensures label { OnOk result ((first.new.label.name ≡ 0) × (first.new.label.out ≡ [])) }
+    ensures idle { OnOk result (IsIdle first.new) }
 {
     match accounts.reserve(rt, first, 0, 0, BOUND) {
-        Reply::Granted(early) => {
-            let left = spend(rt, accounts, second, window, bound);
-            accounts.settle(rt, first, early, ONE);
-            left
-        }
-        Reply::Short { left } => Some(left),
+        Reply::Granted(early) => match first.split(alloc, accounts) {
+            Ok(mut second) => {
+                let left = spend(rt, accounts, &mut second, window, bound);
+                accounts.settle(rt, first, early, ONE);
+                first.join(rt, accounts, second);
+                Ok(left)
+            }
+            Err(fault) => {
+                accounts.settle(rt, first, early, ONE);
+                Err(fault)
+            }
+        },
+        Reply::Short { left } => Ok(Some(left)),
     }
 }
 
@@ -222,10 +228,8 @@ fn pair<R: Wait>(
     let mut limits = Vec::with_capacity(alloc, 1)?;
     limits.push(limit)?;
     let (accounts, mut first) = Accounts::make(alloc, limits)?;
-    let mut second = first.split(alloc, &accounts)?;
-    let left = spend_beside(rt, &accounts, &mut first, &mut second, window, bound);
+    let left = spend_beside(rt, alloc, &accounts, &mut first, window, bound)?;
     let made = first.made();
-    first.join(rt, &accounts, second);
     let totals = accounts.close(rt, first);
     Ok((left, made, totals.account(0)))
 }
