@@ -12,5 +12,6 @@ pub mod PlacelessTwice
 pub mod BareDocuments
 pub mod ReadingBackLaws
 pub mod OneDocument
+pub mod OnePlace
 pub mod CountedDocuments
 pub mod OneDocumentFault

@@ -5,6 +5,7 @@ use Rattle.gql_base.specs.ways.Reading.{next, is_there}
 use Rattle.gql_base.specs.ways.FirstFaults.{level_limit}
 use Rattle.gql_base.specs.ways.TextFaults.{TextFault, lexical_fault, unexpected_at, too_deep_at, no_memory, HasTextFault}
 use Rattle.gql_base.proofs.WayLaws.RepeatingLaws.{repeats, one_or_more_ends}
+use Rattle.gql_base.proofs.WayLaws.DeterminedNestings.{by_counting}
 use Rattle.gql_base.proofs.WayLaws.OneTextFault.{tree_or_fault, no_text_fault, one_text_fault}
 use Rattle.document_reader.specs.declared.document.DocFault.{DocFault}
 use Rattle.document_reader.specs.declared.document.DocFault.TheVariants.{Lex, Unexpected, TooDeep, Memory}
@@ -49,7 +50,7 @@ document_or_fault text = elim (tree_or_fault document_family (nothing_left level
 ]
 
 pub no_document_fault : (text : List ℕ) (trees : List DefinitionTree) (fault : DocFault) → HasDocument text trees → HasDocumentFault text fault → ⊥
-no_document_fault text trees fault is bad = no_text_fault document_counted text trees (told_of_document fault) is bad
+no_document_fault text trees fault is bad = no_text_fault (by_counting document_counted) text trees (told_of_document fault) is bad
 
 pub one_document_fault : (text : List ℕ) (fault other : DocFault) → HasDocumentFault text fault → HasDocumentFault text other → fault ≡ other
-one_document_fault text fault other is it = sym (told_back fault) ∙ (ap document_fault (one_text_fault document_counted text (told_of_document fault) (told_of_document other) is it) ∙ told_back other)
+one_document_fault text fault other is it = sym (told_back fault) ∙ (ap document_fault (one_text_fault (by_counting document_counted) text (told_of_document fault) (told_of_document other) is it) ∙ told_back other)

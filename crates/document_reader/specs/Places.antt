@@ -1,5 +1,5 @@
 -- Where the definitions of a document stand in its text.
-use Rattle.std.specs.Prelude.{ℕ, ◌≡◌, ◌≤◌, ◌<◌, List, [], ◌∷◌, ◌++◌, length}
+use Rattle.std.specs.Prelude.{ℕ, ◌≡◌, ◌≤◌, ◌<◌, List, [], ◌∷◌, ◌++◌, length, Option, None, Some}
 use Rattle.gql_base.specs.declared.lexical.token.Token.{Token}
 use Rattle.gql_base.specs.ways.Symbols.{symbols_from}
 use Rattle.gql_base.specs.ways.Grammar.{Nested, plain, Within}
@@ -14,6 +14,11 @@ use Rattle.document_reader.specs.Trees.{definition_tree}
 abbrev pub BeginsAt : ℕ → Definition → Type 0
 BeginsAt offset (Op operation) = operation.at ≡ offset
 BeginsAt offset (Frag fragment) = Unit {0}
+
+-- the offset that an operation tells; a fragment tells none
+abbrev pub operation_offset : Definition → Option ℕ
+operation_offset (Op operation) = Some operation.at
+operation_offset (Frag fragment) = None
 
 -- The tokens from one number up to before another are a definition.
 pub record StandsFrom (text : List ℕ) (tokens : List Token) (from to : ℕ) (definition : Definition) : Type 0 where

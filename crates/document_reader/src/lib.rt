@@ -7,8 +7,6 @@ mod fault_laws;
 mod picking;
 mod printing;
 mod printing_laws;
-#[cfg(test)]
-mod printing_tests;
 mod reading_back;
 mod selections;
 #[cfg(test)]

@@ -6,6 +6,7 @@ ghost use Rattle.gql_base.specs.printing.Alike.{AreAlike};
 ghost use Rattle.document_reader.specs.declared.trees.Document.{Document};
 ghost use Rattle.document_reader.specs.Documents.{DefinitionTree, IsDocument};
 ghost use Rattle.document_reader.specs.Trees.{definition_tree};
+ghost use Rattle.document_reader.specs.Places.{operation_offset};
 ghost use Rattle.document_reader.specs.DocumentAnswers.{IsDocumentOf};
 ghost use Rattle.document_reader.specs.PlacelessDocuments.{document_placeless};
 
@@ -16,8 +17,9 @@ pub fn offsets_change_no_document()
 {}
 
 /// No symbols are written as two documents, however deep they nest, and no text is two documents: their trees are the
-/// same, with their offsets.
+/// same, with the offsets of names, and so are the offsets of their operations.
 pub fn a_text_is_one_document()
     ensures symbols { (trees others : List DefinitionTree) (ws vs : Nested) → IsDocument trees ws → IsDocument others vs → plain ws ≡ plain vs → trees ≡ others }
     ensures texts { (text : List ℕ) (document other : Document) → IsDocumentOf text document → IsDocumentOf text other → map definition_tree document.definitions.items ≡ map definition_tree other.definitions.items }
+    ensures places { (text : List ℕ) (document other : Document) → IsDocumentOf text document → IsDocumentOf text other → map operation_offset document.definitions.items ≡ map operation_offset other.definitions.items }
 {}

@@ -20,3 +20,4 @@ pub mod DecimalTexts
 pub mod ScannedStrings
 pub mod ScannedBlocks
 pub mod ScannedClosings
+pub mod StringTokens

@@ -10,6 +10,7 @@ pub mod Readings
 pub mod AlikeSymbols
 pub mod AlikeLaws
 pub mod CountedLevels
+pub mod DeterminedNestings
 pub mod FirstPlace
 pub mod FaultPlaces
 pub mod OneTextFault

@@ -11,6 +11,7 @@ pub mod Closings
 pub mod Faults
 pub mod Tokens
 pub mod Literals
+pub mod StringTokens
 -- What serves proofs: how strings are scanned, and how a piece is found at the front of a text.
 pub mod Scans
 pub mod Fronts

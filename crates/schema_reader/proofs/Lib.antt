@@ -1,7 +1,6 @@
 pub mod FieldLaws
 pub mod DefinitionLaws
 pub mod RepeatedParts
-pub mod DeterminedLevels
 pub mod SchemaLevels
 pub mod LabelledDefinitions
 pub mod SchemaSteps

@@ -12,7 +12,9 @@ use Rattle.gql_base.specs.ways.Sources.{offset_of}
 use Rattle.gql_base.proofs.LexicalLaws.OneDivision.{lexes_once, lexes_or_has_fault, no_fault, one_fault}
 use Rattle.gql_base.proofs.LexicalLaws.TextFaults.{no_memory_fault}
 use Rattle.gql_base.proofs.WayLaws.LevelLaws.{is_unexpected, is_too_deep, is_written}
-use Rattle.gql_base.proofs.WayLaws.FirstPlace.{one_unexpected, written_or_unexpected}
+use Rattle.gql_base.proofs.WayLaws.DeterminedNestings.{Determined}
+use Rattle.gql_base.proofs.WayLaws.RepeatingLaws.{repeated_ends}
+use Rattle.gql_base.proofs.WayLaws.FirstPlace.{one_unexpected, unexpected_or_too_deep, one_too_deep, written_or_unexpected, written_or_too_deep}
 use Rattle.gql_base.proofs.WayLaws.FaultPlaces.{same_offset, unexpected_place, too_deep_place}
 use Rattle.gql_base.proofs.WayLaws.OneTextFault.{is_lexical_fault}
 use Rattle.schema_reader.specs.declared.schema_text.SchemaTextFault.{SchemaTextFault}
@@ -24,7 +26,6 @@ use Rattle.schema_reader.proofs.DefinitionLaws.{definitions_family}
 use Rattle.schema_reader.proofs.RepeatedParts.{definitions_repeat}
 use Rattle.schema_reader.proofs.SchemaLevels.{determined}
 use Rattle.schema_reader.proofs.LabelledDefinitions.{schema_labelled}
-use Rattle.schema_reader.proofs.DeterminedLevels.{Determined, unexpected_or_deep, one_deep, written_or_deep, repeated_ends}
 use Rattle.schema_reader.proofs.SchemaSteps.{written_schema, unexpected_schema, too_deep_schema, none_unexpected, extension_unexpected, no_extension, extends_there}
 
 schema_levels : Determined IsSchema
@@ -36,7 +37,7 @@ no_fault_among : (text : List ℕ) (tokens : List Token) (trees : List Definitio
 no_fault_among text tokens trees (Lex fault) is bad m = bad
 no_fault_among text tokens trees (Unexpected at) is bad m = written_or_unexpected level_limit _ trees _ is bad.2
 no_fault_among text tokens trees (Extension at) is bad m = written_or_unexpected level_limit _ trees _ is (extension_unexpected level_limit _ _ bad.2)
-no_fault_among text tokens trees (TooDeep at) is bad m = written_or_deep schema_levels level_limit _ trees _ is bad.2
+no_fault_among text tokens trees (TooDeep at) is bad m = written_or_too_deep schema_levels level_limit _ trees _ is bad.2
 no_fault_among text tokens trees Memory is bad m = m refl
 
 -- a fault is lexical or among the tokens
@@ -65,17 +66,17 @@ one_among text tokens Memory other is it a b = absurd (a refl)
 one_among text tokens (Unexpected at) (Lex fault) is it a b = absurd it
 one_among text tokens (Unexpected at) (Unexpected place) is it a b = ap Unexpected (is.1 ∙ (same_offset text tokens is.0 it.0 (one_unexpected level_limit _ _ _ is.2 it.2) ∙ sym it.1))
 one_among text tokens (Unexpected at) (Extension place) is it a b = absurd (not_both_kinds text tokens is.0 it.0 is.2 is.3 it.2)
-one_among text tokens (Unexpected at) (TooDeep place) is it a b = absurd (unexpected_or_deep schema_levels level_limit _ _ _ is.2 it.2)
+one_among text tokens (Unexpected at) (TooDeep place) is it a b = absurd (unexpected_or_too_deep schema_levels level_limit _ _ _ is.2 it.2)
 one_among text tokens (Unexpected at) Memory is it a b = absurd (b refl)
 one_among text tokens (Extension at) (Lex fault) is it a b = absurd it
 one_among text tokens (Extension at) (Unexpected place) is it a b = absurd (not_both_kinds text tokens it.0 is.0 it.2 it.3 is.2)
 one_among text tokens (Extension at) (Extension place) is it a b = ap Extension (is.1 ∙ (same_offset text tokens is.0 it.0 (one_unexpected level_limit _ _ _ (extension_unexpected level_limit _ _ is.2) (extension_unexpected level_limit _ _ it.2)) ∙ sym it.1))
-one_among text tokens (Extension at) (TooDeep place) is it a b = absurd (unexpected_or_deep schema_levels level_limit _ _ _ (extension_unexpected level_limit _ _ is.2) it.2)
+one_among text tokens (Extension at) (TooDeep place) is it a b = absurd (unexpected_or_too_deep schema_levels level_limit _ _ _ (extension_unexpected level_limit _ _ is.2) it.2)
 one_among text tokens (Extension at) Memory is it a b = absurd (b refl)
 one_among text tokens (TooDeep at) (Lex fault) is it a b = absurd it
-one_among text tokens (TooDeep at) (Unexpected place) is it a b = absurd (unexpected_or_deep schema_levels level_limit _ _ _ it.2 is.2)
-one_among text tokens (TooDeep at) (Extension place) is it a b = absurd (unexpected_or_deep schema_levels level_limit _ _ _ (extension_unexpected level_limit _ _ it.2) is.2)
-one_among text tokens (TooDeep at) (TooDeep place) is it a b = ap TooDeep (is.1 ∙ (same_offset text tokens is.0 it.0 (one_deep schema_levels level_limit _ _ _ is.2 it.2) ∙ sym it.1))
+one_among text tokens (TooDeep at) (Unexpected place) is it a b = absurd (unexpected_or_too_deep schema_levels level_limit _ _ _ it.2 is.2)
+one_among text tokens (TooDeep at) (Extension place) is it a b = absurd (unexpected_or_too_deep schema_levels level_limit _ _ _ (extension_unexpected level_limit _ _ it.2) is.2)
+one_among text tokens (TooDeep at) (TooDeep place) is it a b = ap TooDeep (is.1 ∙ (same_offset text tokens is.0 it.0 (one_too_deep schema_levels level_limit _ _ _ is.2 it.2) ∙ sym it.1))
 one_among text tokens (TooDeep at) Memory is it a b = absurd (b refl)
 
 pub one_schema_fault : (text : List ℕ) (fault other : SchemaTextFault) → HasSchemaFault text fault → HasSchemaFault text other → fault ≡ other

@@ -14,7 +14,7 @@ use Rattle.gql_base.proofs.WayLaws.ReadingLaws.{regroup}
 use Rattle.gql_base.proofs.WayLaws.AlikeSymbols.{first_same}
 use Rattle.gql_base.proofs.WayLaws.SymbolTests.{IsPunctuator, exact_is, name_is}
 use Rattle.gql_base.proofs.WayLaws.WordLaws.{word_is, string_is}
-use Rattle.schema_reader.proofs.DeterminedLevels.{Determined}
+use Rattle.gql_base.proofs.WayLaws.DeterminedNestings.{Determined}
 
 -- what symbols do to levels
 

@@ -1,5 +1,5 @@
 -- What the laws of values and types say of the calls that read one of them.
-use Rattle.std.proofs.Common.{ℕ, ◌≡◌, Bool, true, false, List, [], ◌∷◌, ◌++◌, Some, Ok, inl, inr, refl, sym, ap, ◌∙◌}
+use Rattle.std.proofs.Common.{ℕ, arith, ◌≡◌, Bool, true, false, List, [], ◌∷◌, ◌++◌, Some, Ok, inl, inr, refl, sym, ap, ◌∙◌}
 use Rattle.std.specs.Prelude.{◌==◌}
 use Rattle.std.proofs.lemmas.Bool.{cases_Bool}
 use Rattle.gql_base.specs.declared.ways.source.Source.{Source}
@@ -13,8 +13,8 @@ use Rattle.gql_base.specs.ways.Grammar.{Nested, plain, Within}
 use Rattle.gql_base.specs.ways.Sources.{ahead, Halts}
 use Rattle.gql_base.specs.ways.Halting.{fault_of_halt}
 use Rattle.gql_base.specs.parts.Answers.{told_of_value, EndsBefore}
-use Rattle.gql_base.specs.parts.TypeReferences.{TypeTree, named_type, list_type, non_null_type, IsType, type_at}
-use Rattle.gql_base.proofs.WayLaws.ReadingLaws.{ok_same}
+use Rattle.gql_base.specs.parts.TypeReferences.{TypeTree, named_type, list_type, non_null_type, IsNullable, IsType, type_at}
+use Rattle.gql_base.proofs.WayLaws.ReadingLaws.{ok_same, within_append, regroup}
 use Rattle.gql_base.proofs.WayLaws.LevelLaws.{is_read}
 use Rattle.gql_base.proofs.WayLaws.SymbolTests.{exact_is}
 use Rattle.gql_base.proofs.PartLaws.TypeLaws.{type_family, non_null_read}
@@ -50,3 +50,27 @@ pub type_is_read : (n : ℕ) (t : TypeTree) (front : Nested) (ws rest : Symbols)
 type_is_read n (named_type m at) front ws rest is within end cut = is_read n type_family (named_type m at) front ws rest is within cut (named_ends rest m at end)
 type_is_read n (list_type t) front ws rest is within end cut = is_read n type_family (list_type t) front ws rest is within cut (ends rest t end)
 type_is_read n (non_null_type t) front ws rest is within end cut = ap (type_at n) cut ∙ non_null_read n t front rest is within
+
+-- a type that is written is read, with the `!` that may follow it
+
+with_its_bang : (t : TypeTree) (front : Nested) → IsNullable t → IsType 0 t front → IsType 0 (non_null_type t) (front ++ ((punctuator Bang, 0) ∷ []))
+unfolding IsType
+with_its_bang t front nullable is = (nullable, front, refl, is)
+
+nullable_is_read : (n : ℕ) (t : TypeTree) (front : Nested) (ws rest : Symbols) → IsNullable t → IsType 0 t front → Within n front → ws ≡ plain front ++ rest → (x : TypeTree × Symbols) × (type_at n ws ≡ Ok x)
+nullable_is_read n t front ws [] nullable is within cut = ((t, []), is_read n type_family t front ws [] is within cut refl)
+nullable_is_read n t front ws (w ∷ rest) nullable is within cut = elim (cases_Bool (kind_number Bang == kind_number (kind_of w))) [
+  | inl same ↦
+      let last : Nested = (punctuator Bang, 0) ∷ [] in
+      let bang : w ≡ punctuator Bang = exact_is Bang w tt tt (ap when same) in (
+        (non_null_type t, rest),
+        type_is_read n (non_null_type t) (front ++ last) ws rest (with_its_bang t front nullable is) (within_append n front last within (omega arith, tt)) tt
+            (cut ∙ (ap (λ (v : Symbol). plain front ++ (v ∷ rest)) bang ∙ sym (regroup front last rest))),
+      )
+  | inr other ↦ ((t, w ∷ rest), is_read n type_family t front ws (w ∷ rest) is within cut (ap (λ b. is_some (when b)) other))
+]
+
+pub written_type_is_read : (n : ℕ) (t : TypeTree) (front : Nested) (ws rest : Symbols) → IsType 0 t front → Within n front → ws ≡ plain front ++ rest → (x : TypeTree × Symbols) × (type_at n ws ≡ Ok x)
+written_type_is_read n (named_type m at) front ws rest is within cut = nullable_is_read n (named_type m at) front ws rest tt is within cut
+written_type_is_read n (list_type t) front ws rest is within cut = nullable_is_read n (list_type t) front ws rest tt is within cut
+written_type_is_read n (non_null_type t) front ws rest is within cut = ((non_null_type t, rest), type_is_read n (non_null_type t) front ws rest is within tt cut)

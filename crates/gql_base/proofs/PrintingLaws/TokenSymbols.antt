@@ -47,12 +47,12 @@ inner_is n at size long e =
     enough : (m : ℕ) → n + n ≤ m → nat_le (n + n) m ≡ true
     enough m le = grind (arith, nat_tests)
 
-string_body : (text after body : List ℕ) (at : ℕ) → IsUtf8 text → at ≤ length text → drop at text ≡ lexeme_bytes (text_lexeme body) ++ after → bytes_at text (inner_span 1 (token_at at (text_lexeme body)).span) ≡ body
+pub string_body : (text after body : List ℕ) (at : ℕ) → IsUtf8 text → at ≤ length text → drop at text ≡ lexeme_bytes (text_lexeme body) ++ after → bytes_at text (inner_span 1 (token_at at (text_lexeme body)).span) ≡ body
 string_body text after body at utf8 within cut =
     ap (bytes_at text) (inner_is 1 at (length body) (length (lexeme_bytes (text_lexeme body))) (omega (arith, length-append body (34 ∷ []))))
     ∙ body_bytes text (34 ∷ []) body after at utf8 within (cut ∙ ap (λ xs. 34 ∷ xs) (append_assoc body (34 ∷ []) after)) (omega arith) (omega arith, omega arith)
 
-block_body : (text after body : List ℕ) (at : ℕ) → IsUtf8 text → at ≤ length text → drop at text ≡ lexeme_bytes (block body) ++ after → bytes_at text (inner_span 3 (token_at at (block body)).span) ≡ body
+pub block_body : (text after body : List ℕ) (at : ℕ) → IsUtf8 text → at ≤ length text → drop at text ≡ lexeme_bytes (block body) ++ after → bytes_at text (inner_span 3 (token_at at (block body)).span) ≡ body
 block_body text after body at utf8 within cut =
     ap (bytes_at text) (inner_is 3 at (length body) (length (lexeme_bytes (block body))) (omega (arith, length-append body (34 ∷ 34 ∷ 34 ∷ []))))
     ∙ body_bytes text (34 ∷ 34 ∷ 34 ∷ []) body after at utf8 within (cut ∙ ap (λ xs. 34 ∷ 34 ∷ 34 ∷ xs) (append_assoc body (34 ∷ 34 ∷ 34 ∷ []) after)) (omega arith) (omega arith, omega arith)

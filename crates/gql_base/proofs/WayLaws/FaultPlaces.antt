@@ -10,7 +10,7 @@ use Rattle.gql_base.specs.ways.FirstFaults.{level_limit, IsUnexpected, IsTooDeep
 use Rattle.gql_base.specs.ways.TextFaults.{TextFault, lexical_fault, unexpected_at, too_deep_at, no_memory, IsFaultFrom}
 use Rattle.gql_base.specs.ways.Sources.{offset_of, first_offset}
 use Rattle.gql_base.proofs.WayLaws.AlikeSymbols.{first_same}
-use Rattle.gql_base.proofs.WayLaws.CountedLevels.{Counted}
+use Rattle.gql_base.proofs.WayLaws.DeterminedNestings.{Determined}
 use Rattle.gql_base.proofs.WayLaws.FirstPlace.{one_unexpected, unexpected_or_too_deep, one_too_deep}
 
 none_of_length : (ts : List Token) → length ts ≡ 0 → ts ≡ []
@@ -49,7 +49,7 @@ too_deep_place {S = S} n text tokens from rest t = (from + length (plain t.front
 
 -- one fault
 
-pub one_fault_from : {A : Type 0} {S : A → Nested → Type 0} {d : ℕ} → Counted S d → (text : List ℕ) (tokens : List Token) (from : ℕ) (fault other : TextFault) → IsFaultFrom S text tokens from fault → IsFaultFrom S text tokens from other → (fault ≡ no_memory → ⊥) → (other ≡ no_memory → ⊥) → fault ≡ other
+pub one_fault_from : {A : Type 0} {S : A → Nested → Type 0} → Determined S → (text : List ℕ) (tokens : List Token) (from : ℕ) (fault other : TextFault) → IsFaultFrom S text tokens from fault → IsFaultFrom S text tokens from other → (fault ≡ no_memory → ⊥) → (other ≡ no_memory → ⊥) → fault ≡ other
 one_fault_from s text tokens from (lexical_fault fault) other is it a b = absurd is
 one_fault_from s text tokens from no_memory other is it a b = absurd (a refl)
 one_fault_from s text tokens from (unexpected_at at) (lexical_fault fault) is it a b = absurd it

@@ -1,11 +1,12 @@
--- Symbols have one first fault, and none where they are those of a thing.
+-- Where the symbols of things tell their nestings, symbols have one first fault, and none where they are those of a
+-- thing: for each grammar, whatever opens its levels.
 use Rattle.std.proofs.Common.{ℕ, suc, ◌≡◌, ◌⊎◌, inl, inr, [], ◌∷◌, ◌++◌, length, refl, sym, ap, ◌∙◌, subst, arith, append_assoc, append-nil, length-append}
-use Rattle.gql_base.specs.ways.Symbols.{Symbol, Symbols, kind_of}
+use Rattle.gql_base.specs.ways.Symbols.{Symbol, Symbols}
 use Rattle.gql_base.specs.ways.Grammar.{Nested, plain, Within}
 use Rattle.gql_base.specs.ways.FirstFaults.{NoneGoesOn, IsUnexpected, IsTooDeep, IsWritten}
 use Rattle.gql_base.proofs.WayLaws.ReadingLaws.{plain_append, within_front, within_back}
 use Rattle.gql_base.proofs.WayLaws.AlikeSymbols.{first_same}
-use Rattle.gql_base.proofs.WayLaws.CountedLevels.{nesting, levels_after, nested, Counted}
+use Rattle.gql_base.proofs.WayLaws.DeterminedNestings.{Determined}
 
 -- two cuts of the same symbols
 
@@ -23,40 +24,15 @@ two_cuts (w ∷ f) rest (v ∷ g) other e =
       | inr m ↦ inr (m.0, cc (h.0, m.1), m.2)
     ]
 
--- counting
-
--- what is counted of more symbols is counted of the first ones
-front_counted : (d : ℕ) (f more : Nested) → nested d (plain (f ++ more)) ≡ f ++ more → nested d (plain f) ≡ f
-unfolding nested
-front_counted d [] more e = refl
-front_counted d (w ∷ f) more e =
-    let h = first_same (w.0, nesting d (kind_of w.0)) w (nested (levels_after d (kind_of w.0)) (plain (f ++ more))) (f ++ more) e in
-    let t = front_counted (levels_after d (kind_of w.0)) f more h.1 in
-    cc (h.0, t)
-
-counted_more : (d : ℕ) (xs ys : Symbols) → (m : Nested) × (nested d (xs ++ ys) ≡ nested d xs ++ m)
-unfolding nested
-counted_more d [] ys = (nested d ys, refl)
-counted_more d (x ∷ xs) ys = let r = counted_more (levels_after d (kind_of x)) xs ys in (r.0, ap (λ (l : Nested). (x, nesting d (kind_of x)) ∷ l) r.1)
-
--- the beginnings of things have the nestings that are counted
-begins_counted : {A : Type 0} {S : A → Nested → Type 0} {d : ℕ} → Counted S d → (a : A) (f more : Nested) → S a (f ++ more) → nested d (plain f) ≡ f
-unfolding nested
-begins_counted {d = d} s a f more is = front_counted d f more (ap (nested d) (sym (append-nil (plain (f ++ more)))) ∙ (s.counts a (f ++ more) is [] ∙ append-nil (f ++ more)))
-
--- Where the symbols of one beginning go on as those of another, its nestings do.
-same_nestings : {A : Type 0} {S : A → Nested → Type 0} {d : ℕ} → Counted S d → (a b : A) (f more g others : Nested) (m : Symbols) → S a (f ++ more) → S b (g ++ others) → plain f ≡ plain g ++ m → (k : Nested) × (f ≡ g ++ k)
-same_nestings {d = d} s a b f more g others m is it e =
-    let k = counted_more d (plain g) m in
-    (k.0, sym (begins_counted s a f more is) ∙ (ap (nested d) e ∙ (k.1 ∙ ap (λ (l : Nested). l ++ k.0) (begins_counted s b g others it))))
+-- a symbol that opens a level too many
 
 -- No thing begins with symbols that are nested n deep at most and hold one that opens a level too many.
-never_deeper : {A : Type 0} {S : A → Nested → Type 0} {d : ℕ} → Counted S d → (n : ℕ) (a b : A) (f more g others : Nested) (w : Symbol) (m : Symbols) → S a (f ++ more) → Within n f → S b (g ++ ((w, suc n) ∷ others)) → plain f ≡ plain g ++ (w ∷ m) → ⊥
+never_deeper : {A : Type 0} {S : A → Nested → Type 0} → Determined S → (n : ℕ) (a b : A) (f more g others : Nested) (w : Symbol) (m : Symbols) → S a (f ++ more) → Within n f → S b (g ++ ((w, suc n) ∷ others)) → plain f ≡ plain g ++ (w ∷ m) → ⊥
 never_deeper {S = S} s n a b f more g others w m is within it e =
     let last : Nested = (w, suc n) ∷ [] in
     let it2 : S b ((g ++ last) ++ others) = subst (S b) (sym (append_assoc g last others)) it in
     let e2 : plain f ≡ plain (g ++ last) ++ m = e ∙ (sym (append_assoc (plain g) (w ∷ []) m) ∙ ap (λ (l : Symbols). l ++ m) (sym (plain_append g last))) in
-    let k = same_nestings s a b f more (g ++ last) others m is it2 e2 in
+    let k = s.same a b f more (g ++ last) others m is it2 e2 in
     let deep : Within n last = within_back n g last (within_front n (g ++ last) k.0 (subst (Within n) k.1 within)) in
     omega (arith, deep.0)
 
@@ -97,7 +73,7 @@ one_unexpected {S = S} n ws rest other u v =
 
 -- levels above the limit
 
-pub unexpected_or_too_deep : {A : Type 0} {S : A → Nested → Type 0} {d : ℕ} → Counted S d → (n : ℕ) (ws rest other : Symbols) → IsUnexpected S n ws rest → IsTooDeep S n ws other → ⊥
+pub unexpected_or_too_deep : {A : Type 0} {S : A → Nested → Type 0} → Determined S → (n : ℕ) (ws rest other : Symbols) → IsUnexpected S n ws rest → IsTooDeep S n ws other → ⊥
 unexpected_or_too_deep {S = S} s n ws rest other u t =
     let w = t.opens.0 in
     let last : Nested = (w, suc n) ∷ [] in
@@ -108,13 +84,13 @@ unexpected_or_too_deep {S = S} s n ws rest other u t =
     never_deeper s n u.begins.0 t.opens.2 u.front u.begins.1 t.front t.opens.3 w m.0 u.begins.2 u.within t.opens.5 e
 
 -- Symbols of things that are nested n deep at most don't hold the symbol that opens a level too many.
-reaches : {A : Type 0} {S : A → Nested → Type 0} {d : ℕ} → Counted S d → (n : ℕ) (ws rest : Symbols) (t : IsTooDeep S n ws rest) (a : A) (f more : Nested) (m left : Symbols) → S a (f ++ more) → Within n f → plain f ≡ plain t.front ++ m → rest ≡ m ++ left → rest ≡ left
+reaches : {A : Type 0} {S : A → Nested → Type 0} → Determined S → (n : ℕ) (ws rest : Symbols) (t : IsTooDeep S n ws rest) (a : A) (f more : Nested) (m left : Symbols) → S a (f ++ more) → Within n f → plain f ≡ plain t.front ++ m → rest ≡ m ++ left → rest ≡ left
 reaches s n ws rest t a f more [] left is within e h = h
 reaches s n ws rest t a f more (v ∷ m) left is within e h =
     let same = first_same t.opens.0 v t.opens.1 (m ++ left) (sym t.opens.4 ∙ h) in
     absurd (never_deeper s n a t.opens.2 f more t.front t.opens.3 t.opens.0 m is within t.opens.5 (e ∙ ap (λ (l : Symbol). plain t.front ++ (l ∷ m)) (sym same.0)))
 
-pub one_too_deep : {A : Type 0} {S : A → Nested → Type 0} {d : ℕ} → Counted S d → (n : ℕ) (ws rest other : Symbols) → IsTooDeep S n ws rest → IsTooDeep S n ws other → rest ≡ other
+pub one_too_deep : {A : Type 0} {S : A → Nested → Type 0} → Determined S → (n : ℕ) (ws rest other : Symbols) → IsTooDeep S n ws rest → IsTooDeep S n ws other → rest ≡ other
 one_too_deep s n ws rest other t u = elim (two_cuts (plain t.front) rest (plain u.front) other (sym t.cut ∙ u.cut)) [
   | inl m ↦ reaches s n ws rest t u.opens.2 u.front ((u.opens.0, suc n) ∷ u.opens.3) m.0 other u.opens.5 u.within m.1 m.2
   | inr m ↦ sym (reaches s n ws other u t.opens.2 t.front ((t.opens.0, suc n) ∷ t.opens.3) m.0 rest t.opens.5 t.within m.1 m.2)
@@ -129,7 +105,7 @@ written_or_unexpected {S = S} n ws a rest is u = by_rest rest u.stops (sym (appe
     by_rest [] stops e = stops a is.front is.written (e ∙ append-nil (plain u.front))
     by_rest (w ∷ rest) stops e = stops a is.front rest is.written e
 
-pub written_or_too_deep : {A : Type 0} {S : A → Nested → Type 0} {d : ℕ} → Counted S d → (n : ℕ) (ws : Symbols) (a : A) (rest : Symbols) → IsWritten S n ws a [] → IsTooDeep S n ws rest → ⊥
+pub written_or_too_deep : {A : Type 0} {S : A → Nested → Type 0} → Determined S → (n : ℕ) (ws : Symbols) (a : A) (rest : Symbols) → IsWritten S n ws a [] → IsTooDeep S n ws rest → ⊥
 written_or_too_deep {S = S} s n ws a rest is t =
     let all : S a (is.front ++ []) = subst (S a) (sym (append-nil is.front)) is.written in
     let e : plain is.front ≡ plain t.front ++ (t.opens.0 ∷ t.opens.1) = sym (append-nil (plain is.front)) ∙ (sym is.cut ∙ (t.cut ∙ ap (λ (l : Symbols). plain t.front ++ l) t.opens.4)) in

@@ -18,7 +18,7 @@ use Rattle.gql_base.proofs.LexicalLaws.OneDivision.{lexes_once, lexes_or_has_fau
 use Rattle.gql_base.proofs.LexicalLaws.TextFaults.{no_memory_fault}
 use Rattle.gql_base.proofs.WayLaws.ReadingLaws.{within_front, within_back, ok_same}
 use Rattle.gql_base.proofs.WayLaws.LevelLaws.{Family, deep_enough, is_unexpected, is_too_deep, is_written, is_read}
-use Rattle.gql_base.proofs.WayLaws.CountedLevels.{Counted}
+use Rattle.gql_base.proofs.WayLaws.DeterminedNestings.{Determined}
 use Rattle.gql_base.proofs.WayLaws.FirstPlace.{written_or_unexpected, written_or_too_deep}
 use Rattle.gql_base.proofs.WayLaws.FaultPlaces.{unexpected_place, too_deep_place, one_fault_from}
 use Rattle.gql_base.proofs.WayLaws.Readings.{halts_for_memory}
@@ -54,7 +54,7 @@ pub is_lexical_fault : (text : List ℕ) (fault : LexFault) → IsFaultOf text f
 is_lexical_fault text fault (inl bad) not_memory = bad
 is_lexical_fault text fault (inr is) not_memory = absurd (not_memory is)
 
-pub no_text_fault : {A : Type 0} {S : A → Nested → Type 0} {d : ℕ} → Counted S d → (text : List ℕ) (a : A) (fault : TextFault) → HasTree S text a → HasTextFault S text fault → ⊥
+pub no_text_fault : {A : Type 0} {S : A → Nested → Type 0} → Determined S → (text : List ℕ) (a : A) (fault : TextFault) → HasTree S text a → HasTextFault S text fault → ⊥
 no_text_fault s text a (lexical_fault fault) is bad = no_fault text is.0 fault is.1 (is_lexical_fault text fault bad.0.0 bad.0.1)
 no_text_fault {S = S} s text a (unexpected_at at) is bad =
     let same : bad.0.0 ≡ is.0 = lexes_once text bad.0.0 is.0 bad.0.1 is.1 in
@@ -77,7 +77,7 @@ found S text (unexpected_at at) is = inr is.0
 found S text (too_deep_at at) is = inr is.0
 found S text no_memory is = absurd (is.1 refl)
 
-pub one_text_fault : {A : Type 0} {S : A → Nested → Type 0} {d : ℕ} → Counted S d → (text : List ℕ) (fault other : TextFault) → HasTextFault S text fault → HasTextFault S text other → fault ≡ other
+pub one_text_fault : {A : Type 0} {S : A → Nested → Type 0} → Determined S → (text : List ℕ) (fault other : TextFault) → HasTextFault S text fault → HasTextFault S text other → fault ≡ other
 one_text_fault {S = S} s text fault other is it = elim (found S text fault is) [
   | inl f ↦ elim (found S text other it) [
     | inl g ↦ f.1 ∙ (ap lexical_fault (one_fault text f.0 g.0 f.2 g.2) ∙ sym g.1)

@@ -150,7 +150,7 @@ module _ (text xs after : List ℕ) (at : ℕ) (within : at ≤ length text) (cu
 pub bytes_of_token : (text after : List ℕ) (at : ℕ) (l : Lexeme) → IsUtf8 text → at ≤ length text → drop at text ≡ lexeme_bytes l ++ after → IsLexeme l → bytes_at text (token_at at l).span ≡ lexeme_bytes l
 bytes_of_token text after at l utf8 within cut is = part_bytes text (lexeme_bytes l) after at within cut (not_empty (token l) is) (lexeme_ends l is) utf8
 
-same_lexeme : (l : Lexeme) → IsLexeme l → lexeme_with (kind_of l) (lexeme_bytes l) ≡ l
+pub same_lexeme : (l : Lexeme) → IsLexeme l → lexeme_with (kind_of l) (lexeme_bytes l) ≡ l
 same_lexeme (word bytes) is = refl
 same_lexeme (number bytes) is = refl
 same_lexeme (string body) is = ap string (inner_string body)

@@ -92,6 +92,13 @@ one_or_more_ends test r p ws x e =
     let o = others_ok r (repeated test r) ws x e in
     fails_after test (o.0.0 ∷ o.1.0, o.1.1) x o.4 (up_to_ends test r p (length o.0.1) o.0.1 o.1 (omega arith) o.3)
 
+-- reading things one after the other ends where the test fails
+pub repeated_ends : {A : Type 0} (test : Test) (r : Reader A) → Repeats test r → (ws : Symbols) (x : List A × Symbols) → repeated test r ws ≡ Ok x → test (next x.1) ≡ false
+repeated_ends test r p ws x e = elim (cases_Bool (test (next ws))) [
+  | inl t ↦ one_or_more_ends test r p ws x (sym (another test r p ws t) ∙ e)
+  | inr t ↦ subst (λ z. test (next z.1) ≡ false) (ok_same ([], ws) x (sym (no_other test r p ws t) ∙ e)) t
+]
+
 -- the law of things one after the other
 
 abbrev Step : {A : Type 0} → (A → Nested → Type 0) → List A → Nested → Type 0

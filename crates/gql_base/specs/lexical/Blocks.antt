@@ -70,10 +70,14 @@ without_blank_end ls = take (length ls - prefix_len is_blank_line (reverse ls)) 
 
 -- ---- the value
 
--- The value of what stands between the marks of a block string: its lines without their common indent, then
--- without the blank ones in front, then without the blank ones at the end, and joined by line feeds.
+-- The lines of a text without their common indent, then without the blank ones in front, then without the blank ones at
+-- the end, and joined by line feeds.
+abbrev pub lines_value : List ℕ → List ℕ
+lines_value text = join_with_byte 10 (without_blank_end (without_blank_front (without_indent (lines_of text))))
+
+-- the value of what stands between the marks of a block string
 unfoldable pub block_text : List ℕ → List ℕ
-block_text raw = join_with_byte 10 (without_blank_end (without_blank_front (without_indent (lines_of (unescaped raw)))))
+block_text raw = lines_value (unescaped raw)
 
 -- ---- parts of the lines: these words serve the proof of the reading alone
 

@@ -6,6 +6,7 @@ use Rattle.gql_base.specs.declared.parts.readers.ValueFault.{ValueFault}
 use Rattle.gql_base.specs.declared.parts.readers.ValueFault.TheVariants.{Unexpected, TooDeep, Memory}
 use Rattle.gql_base.specs.ways.Symbols.{Symbols, punctuator, symbols_from}
 use Rattle.gql_base.specs.ways.Grammar.{Nested}
+use Rattle.gql_base.specs.ways.FirstFaults.{level_limit, IsWritten}
 use Rattle.gql_base.specs.ways.TextFaults.{TextFault, unexpected_at, too_deep_at, no_memory, IsFaultFrom}
 use Rattle.gql_base.specs.parts.TypeReferences.{TypeTree, non_null_type}
 
@@ -20,9 +21,13 @@ told_of_value (Unexpected at) = unexpected_at at
 told_of_value (TooDeep at) = too_deep_at at
 told_of_value Memory = no_memory
 
--- why nothing is read from a token on, with the offset of the first fault
+-- From a token on no thing is written, whatever comes after it.
+abbrev pub NoneIsRead : {A : Type 0} → (A → Nested → Type 0) → List ℕ → List Token → ℕ → Type 0
+NoneIsRead S text tokens from = (a : _) (rest : Symbols) → IsWritten S level_limit (symbols_from text tokens from) a rest → ⊥
+
+-- Why nothing is read from a token on, with the offset of the first fault. Memory may run out where a thing is written.
 abbrev pub IsFault : {A : Type 0} → (A → Nested → Type 0) → List ℕ → List Token → ℕ → ValueFault → Type 0
-IsFault S text tokens from fault = IsFaultFrom S text tokens from (told_of_value fault)
+IsFault S text tokens from fault = IsFaultFrom S text tokens from (told_of_value fault) × ((fault ≡ Memory → ⊥) → NoneIsRead S text tokens from)
 
 -- no `!` follows a type to which it would belong
 abbrev pub EndsBefore : TypeTree → Symbols → Type 0

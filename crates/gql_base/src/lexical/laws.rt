@@ -6,6 +6,8 @@ ghost use Rattle.gql_base.specs.lexical.Strings.{StringCharacter, IsBody, charac
 ghost use Rattle.gql_base.specs.lexical.BlockStrings.{BlockCharacter, IsBlockBody, block_characters_value};
 ghost use Rattle.gql_base.specs.lexical.Blocks.{unescaped};
 ghost use Rattle.gql_base.specs.lexical.Scans.{text_value};
+ghost use Rattle.gql_base.specs.lexical.StringTokens.{StandsFor};
+ghost use Rattle.gql_base.specs.lexical.Literals.{string_of};
 ghost use Rattle.gql_base.specs.lexical.Pieces.{Lexeme};
 ghost use Rattle.gql_base.specs.declared.lexical.lexing.LexFault.{LexFault};
 ghost use Rattle.gql_base.specs.declared.lexical.lexing.LexFault.TheVariants.{Memory};
@@ -40,8 +42,9 @@ pub fn tokens_lie_in_their_text()
 {}
 
 /// The value of a string is what its characters stand for, one after the other. That of a block string is made of the
-/// lines of what its characters stand for.
+/// lines of what its characters stand for. So in a text each string token has the value of its characters.
 pub fn strings_stand_for_their_characters()
     ensures strings { (characters : List StringCharacter) (body : List ℕ) → IsBody characters body → text_value 0 body ≡ characters_value characters }
     ensures blocks { (characters : List BlockCharacter) (body : List ℕ) → IsBlockBody characters body → unescaped body ≡ block_characters_value characters }
+    ensures tokens { (text : List ℕ) (tokens : List Token) → IsUtf8 text → Lexes text tokens → All (λ token. StandsFor (string_of text token) (lexeme_of text token)) tokens }
 {}

@@ -1,8 +1,9 @@
 //! The values of number and string tokens.
 
-ghost use Rattle.std.specs.Prelude.{◌≡◌, ◌+◌, ◌≤◌, length, drop, IfOk};
+ghost use Rattle.std.specs.Prelude.{◌≡◌, ◌+◌, ◌≤◌, List, length, drop, IfOk};
 ghost use Rattle.std.specs.List.{prefix_len};
 ghost use Rattle.std.specs.Char.{InScalarRange};
+ghost use Rattle.gql_base.specs.lexical.Strings.{StringCharacter, IsBody, characters_value};
 ghost use Rattle.gql_base.specs.lexical.Scans.{text_value, is_plain_byte};
 ghost use Rattle.gql_base.specs.lexical.Literals.{integer_of, integer_value, inner_span, mark_length, marked_value, string_of};
 
@@ -60,7 +61,8 @@ fn character_of(number: u32) -> char
 /// What stands between the marks of a string, with the character of each escape in its place (GraphQL October
 /// 2021, 2.9.4). It fails for want of memory alone.
 pub fn string_value(alloc: Global, body: &str) -> Result<Text, AllocError>
-    ensures { IfOk result (λ value. value ≡ text_value 0 body.now) }
+    ensures value { IfOk result (λ value. value ≡ text_value 0 body.now) }
+    ensures characters { IfOk result (λ value. (characters : List StringCharacter) → IsBody characters body.now → value ≡ characters_value characters) }
 {
     let mut value = String::new(alloc);
     let mut at = 0;

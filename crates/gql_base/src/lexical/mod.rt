@@ -1,8 +1,6 @@
 //! Texts, and the tokens that they are made of (GraphQL October 2021, 2.1 and 2.9).
 
 pub mod blocks;
-#[cfg(test)]
-mod blocks_tests;
 mod characters;
 pub mod laws;
 pub mod lexing;

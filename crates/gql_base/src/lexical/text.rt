@@ -29,6 +29,13 @@ impl fmt::Debug for Text {
 
 /// Prints the text as it is.
 impl fmt::Display for Text {
+    ghost use Rattle.std.specs.Prelude.{Some};
+    ghost use Rattle.std.specs.Fmt.{styled_text};
+
+    ghost output = { λ text. Some text };
+
+    ghost styled_output = { λ text spec. Some (styled_text spec text) };
+
     fn fmt<W: fmt::Write>(&self, f: &mut fmt::Formatter<W>) -> fmt::Result {
         fmt::Display::fmt(&self.inner, f)
     }

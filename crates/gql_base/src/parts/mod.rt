@@ -3,8 +3,6 @@
 pub mod arguments;
 pub mod fault_laws;
 pub mod readers;
-#[cfg(test)]
-mod readers_tests;
 pub mod tree_laws;
 pub mod trees;
 pub mod types;

@@ -6,6 +6,7 @@ use Rattle.std.proofs.lemmas.Str.{IsCharBoundary-start}
 use Rattle.gql_base.specs.lexical.Scans.{escape_at, text_value, is_plain_byte}
 use Rattle.gql_base.proofs.LexicalLaws.Escapes.{escape_scalar, escape_some, escape_last}
 use Rattle.gql_base.proofs.LexicalLaws.StringValues.{value_of_escape, value_of_run, value_of_none, border_of_run, border_of_escape, added, nothing_added}
+use Rattle.gql_base.proofs.LexicalLaws.ScannedStrings.{body_value}
 use Rattle.gql_base.proofs.lexical.literals.string_value.Goals as goal
 
 pub loop-at-init : goal.loop-at-init
@@ -51,7 +52,12 @@ loop-at-preserved c =
           c.loop-at.invariant.so_far;
     }
 
-pub returns : goal.returns
-returns c =
+pub returns-clause-value : goal.returns-clause-value
+returns-clause-value c =
     c.from.ensures ∙ nothing_added (string_bytes c.loop-at.value) (text_value 0 (drop c.loop-at.at c.args.body.now)) _
     (value_of_none c.args.body.now c.loop-at.at (omega (arith, c.loop-at-test.false))) c.loop-at.invariant.so_far
+
+pub returns-clause-characters : goal.returns-clause-characters
+returns-clause-characters c = λ characters is.
+    c.from.ensures ∙ (nothing_added (string_bytes c.loop-at.value) (text_value 0 (drop c.loop-at.at c.args.body.now)) _
+    (value_of_none c.args.body.now c.loop-at.at (omega (arith, c.loop-at-test.false))) c.loop-at.invariant.so_far ∙ body_value characters c.args.body.now is)

@@ -26,5 +26,7 @@ returns-in-Err-clause-only c = λ t front rest is within cut.
 
 pub returns-in-Err-clause-fault : goal.returns-in-Err-clause-fault
 returns-in-Err-clause-fault c =
-    let s : Source = record { text = c.args.text; tokens = c.args.tokens } in
-    fault_from (value_family false) s c.args.from c.in-Err.halt (told_of_value c.fault_of.result) c.in-Err.ensures.read c.fault_of.ensures
+    let s : Source = record { text = c.args.text; tokens = c.args.tokens } in (
+      fault_from (value_family false) s c.args.from c.in-Err.halt (told_of_value c.fault_of.result) c.in-Err.ensures.read c.fault_of.ensures,
+      λ not_memory t rest w. not_memory (gives_err s c.in-Err.halt c.fault_of.result (value_at false level_limit (ahead s c.args.from)) (t, rest) c.in-Err.ensures.read c.fault_of.ensures (is_read level_limit (value_family false) t w.front (ahead s c.args.from) rest w.written w.within w.cut refl)),
+    )
