@@ -1,5 +1,5 @@
 -- Indexes of lists by their names.
-use Rattle.std.proofs.Common.{ℕ, ◌≡◌, ◌<◌, ◌≤◌, ◌-◌, ◌+◌, arith, drop, get_or, Bool, true, false, cond, List, [], ◌∷◌, length, map, find, Option, None, Some, inl, inr, refl, sym, ap, ap₂, ◌∙◌}
+use Rattle.std.proofs.Common.{ℕ, ◌≡◌, ◌<◌, ◌≤◌, ◌-◌, ◌+◌, arith, drop, get_or, Bool, true, false, List, [], ◌∷◌, length, map, find, Option, None, Some, inl, inr, refl, sym, ap, ap₂, ◌∙◌}
 use Rattle.std.specs.Prelude.{option_copied, is_some, not, ◌&&◌, slice_get, MatchOption, IfSome}
 use Rattle.std.specs.Borrow.{Bor}
 use Rattle.std.specs.List.{list_any, position_from, position_or_len}
@@ -13,7 +13,7 @@ use Rattle.std.proofs.lemmas.Iterator.Adapters.{position_from-zero}
 use Rattle.std.proofs.lemmas.List.{drop_more}
 use Rattle.std.proofs.lemmas.List.Folds.{find_at}
 use Rattle.std.proofs.lemmas.Option.{slice_get_past, slice_get_read}
-use Rattle.gql_base.specs.names.Names.{are_distinct, first_of_name, has_name, place_of_name}
+use Rattle.gql_base.specs.names.Names.{are_distinct, has_name}
 use Rattle.gql_base.specs.names.Indexes.{FindsFrom}
 
 -- with one more in front, the first of a name is this one, or what was found
