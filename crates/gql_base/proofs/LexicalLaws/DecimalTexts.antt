@@ -9,11 +9,11 @@ use Rattle.std.specs.Str.Parse.{digits_value}
 use Rattle.std.proofs.lemmas.Bool.Decides.{nat_tests}
 use Rattle.std.proofs.lemmas.List.Elements.{All-nil, All-cons, All-append}
 use Rattle.std.proofs.lemmas.Fmt.{decimal_by_steps_wide, decimal_is_IsNumeral_wide}
+use Rattle.std.proofs.lemmas.Bool.{le-leb, lt-ltb}
 use Rattle.gql_base.specs.lexical.Numbers.{IsWhole, minus_bytes}
 use Rattle.gql_base.specs.lexical.Pieces.{IsInRange, IsInteger}
 use Rattle.gql_base.specs.lexical.Literals.{is_numeral, integer_value}
 use Rattle.gql_base.proofs.LexicalLaws.Integers.{whole_digits, integer_is_text}
-use Rattle.gql_base.proofs.LexicalLaws.Runs.{le_true, lt_true}
 
 -- ---- digits
 
@@ -83,7 +83,7 @@ numeral_whole ws is = rw (some (length ws) (whole_digits ws is).1) (whole_digits
     some n more = grind (arith, nat_tests)
 
 minus_written : (ws : List ℕ) → IsWhole ws → digits_value 10 ws ≤ 2 ^ 127 → integer_value (45 ∷ ws) ≡ neg_ℤ (pos (digits_value 10 ws))
-minus_written ws is small = rw (numeral_whole ws is, le_true (digits_value 10 ws) (2 ^ 127) small) refl
+minus_written ws is small = rw (numeral_whole ws is, le-leb (digits_value 10 ws) (2 ^ 127) small) refl
 
 no_sign : (c : ℕ) → is_ascii_digit c ≡ true → ((c == 45) ≡ false) × ((c == 43) ≡ false)
 no_sign c is = (grind (arith, nat_tests), grind (arith, nat_tests))
@@ -91,7 +91,7 @@ no_sign c is = (grind (arith, nat_tests), grind (arith, nat_tests))
 plain_written : (c : ℕ) (cs : List ℕ) → IsWhole (c ∷ cs) → digits_value 10 (c ∷ cs) < 2 ^ 127 → integer_value (c ∷ cs) ≡ pos (digits_value 10 (c ∷ cs))
 plain_written c cs is small =
     let s = no_sign c is.0 in
-    rw (s.0, s.1, numeral_whole (c ∷ cs) is, lt_true (digits_value 10 (c ∷ cs)) (2 ^ 127) small) refl
+    rw (s.0, s.1, numeral_whole (c ∷ cs) is, lt-ltb (digits_value 10 (c ∷ cs)) (2 ^ 127) small) refl
 
 value_written : (minus : Bool) (ws : List ℕ) → IsWhole ws → IsInRange minus (digits_value 10 ws) → integer_value (minus_bytes minus ++ ws) ≡ with_sign minus (digits_value 10 ws)
 unfolding with_sign

@@ -3,7 +3,7 @@ use Rattle.std.proofs.Common.{◌≡◌, inl, inr, ℕ, suc, ◌+◌, ◌-◌, �
 use Rattle.std.specs.List.{prefix_len}
 use Rattle.std.specs.Char.{is_ascii_digit}
 use Rattle.std.specs.Str.Parse.{digits_value}
-use Rattle.std.proofs.lemmas.Bool.{cases_Bool, eqb-true}
+use Rattle.std.proofs.lemmas.Bool.{cases_Bool, eqb-true, le-leb, lt-ltb, leb-true, ltb-true}
 use Rattle.std.proofs.lemmas.Bool.Decides.{nat_tests}
 use Rattle.std.proofs.lemmas.List.{take-append-drop, length-take, length-append, append-nil, append_assoc, take_at, drop_at}
 use Rattle.std.proofs.lemmas.List.Sums.{prefix_len-le-length}
@@ -19,7 +19,7 @@ use Rattle.gql_base.specs.lexical.Strings.{begins_with_marks}
 use Rattle.gql_base.specs.lexical.Pieces.{word, number, string, block, mark, Piece, token, byte_order_mark, blank, comment, mark_bytes, kind_of, lexeme_bytes, piece_bytes, IsInRange, IsInteger, IsPiece, EndsBefore, BeginsWithout, BeginsNothing}
 use Rattle.gql_base.specs.lexical.Faults.{begins_as_number}
 use Rattle.gql_base.specs.lexical.Fronts.{mark_of, is_byte_order_mark, is_spread, piece_from, front_with, mark_front, found_front, number_found, integer_fits, text_front, front_of}
-use Rattle.gql_base.proofs.LexicalLaws.Runs.{run_is_whole, run_passes, run_stops, rest_of, le_true, lt_true, le_is, lt_is}
+use Rattle.gql_base.proofs.LexicalLaws.Runs.{run_is_whole, run_passes, run_stops, rest_of}
 use Rattle.gql_base.proofs.LexicalLaws.Integers.{fits_plain}
 use Rattle.gql_base.proofs.LexicalLaws.Numerals.{number_there, number_is, IntegerThere, integer_is, found_at}
 use Rattle.gql_base.proofs.LexicalLaws.ScannedStrings.{body_faultless, body_closed, body_scanned, single, ends_apart}
@@ -59,9 +59,9 @@ mark_no_number c is = grind (arith, nat_tests)
 -- ---- a piece that begins a text is found
 
 integer_small : (minus : Bool) (ws : List ℕ) → IsWhole ws → IsInRange minus (digits_value 10 ws) → integer_fits (minus_bytes minus ++ ws) ≡ true
-integer_small true ws is small = le_true (digits_value 10 ws) (2 ^ 127) small
+integer_small true ws is small = le-leb (digits_value 10 ws) (2 ^ 127) small
 integer_small false [] is small = absurd is
-integer_small false (c ∷ cs) is small = fits_plain c cs is.0 ∙ lt_true (digits_value 10 (c ∷ cs)) (2 ^ 127) small
+integer_small false (c ∷ cs) is small = fits_plain c cs is.0 ∙ lt-ltb (digits_value 10 (c ∷ cs)) (2 ^ 127) small
 
 pub integer_begins : (minus : Bool) (ws after : List ℕ) → IsWhole ws → begins_as_number ((minus_bytes minus ++ ws) ++ after) ≡ true
 integer_begins true ws after is = refl
@@ -293,9 +293,9 @@ piece_there text after p f cut is ends told =
     }
 
 fits_small : (minus : Bool) (ws : List ℕ) → IsWhole ws → integer_fits (minus_bytes minus ++ ws) ≡ true → IsInRange minus (digits_value 10 ws)
-fits_small true ws is fits = le_is (digits_value 10 ws) (2 ^ 127) fits
+fits_small true ws is fits = leb-true (digits_value 10 ws) (2 ^ 127) fits
 fits_small false [] is fits = absurd is
-fits_small false (c ∷ cs) is fits = lt_is (digits_value 10 (c ∷ cs)) (2 ^ 127) (sym (fits_plain c cs is.0) ∙ fits)
+fits_small false (c ∷ cs) is fits = ltb-true (digits_value 10 (c ∷ cs)) (2 ^ 127) (sym (fits_plain c cs is.0) ∙ fits)
 
 integer_begins_with : (text : List ℕ) (end : ℕ) (f : Front) (there : IntegerThere text end) → integer_fits (take end text) ≡ true → front_with (Some Int) end ≡ f → BeginsWith text f
 integer_begins_with text end f there fits told =

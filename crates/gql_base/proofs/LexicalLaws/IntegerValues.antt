@@ -7,11 +7,10 @@ use Rattle.std.specs.Prelude.{nat_lt, nat_le, neg_ℤ}
 use Rattle.std.specs.Result.{OkIff}
 use Rattle.std.specs.Str.{all_ascii_digits}
 use Rattle.std.specs.Str.Parse.{ParsesSigned, digits_value}
-use Rattle.std.proofs.lemmas.Bool.{cases_Bool, eqb-true}
+use Rattle.std.proofs.lemmas.Bool.{cases_Bool, eqb-true, le-leb, lt-ltb, leb-true, ltb-true}
 use Rattle.std.proofs.lemmas.Bool.Decides.{nat_tests}
 use Rattle.std.proofs.lemmas.Str.Parse.{IsNumeralModel, numerals_by_value, tells_all_ascii_digits, parse_signed_minus, parse_signed_plain, parse_signed_plus}
 use Rattle.gql_base.specs.lexical.Literals.{is_numeral, integer_value}
-use Rattle.gql_base.proofs.LexicalLaws.Runs.{le_true, lt_true, le_is, lt_is}
 
 own : IsNumeralModel (λ ds. all_ascii_digits ds ≡ true) (digits_value 10)
 own = numerals_by_value (λ ds. all_ascii_digits ds ≡ true) tells_all_ascii_digits
@@ -54,7 +53,7 @@ digits_or_zero r ds small Small v to from ok =
 minus_value : {E : Type 0} (bs : List ℕ) (r : Result ℤ E) → (get_or bs 0 0 == 45) ≡ true → ParsesSigned w128 10 bs r → or_zero r ≡ integer_value bs
 minus_value {E = E} bs r is h =
     rw is (digits_or_zero r (drop 1 bs) (nat_le (digits_value 10 (drop 1 bs)) (2 ^ 127)) (digits_value 10 (drop 1 bs) ≤ 2 ^ 127) (neg_ℤ (pos (digits_value 10 (drop 1 bs))))
-    (le_is (digits_value 10 (drop 1 bs)) (2 ^ 127)) (le_true (digits_value 10 (drop 1 bs)) (2 ^ 127))
+    (leb-true (digits_value 10 (drop 1 bs)) (2 ^ 127)) (le-leb (digits_value 10 (drop 1 bs)) (2 ^ 127))
     (parse_signed_minus own {E = E} w128 bs r h (eqb-true (get_or bs 0 0) 45 is)))
 
 not_same : (c n : ℕ) → (c == n) ≡ false → c ≢ n
@@ -63,13 +62,13 @@ not_same c n is = λ same. grind (arith, nat_tests)
 plus_value : {E : Type 0} (bs : List ℕ) (r : Result ℤ E) → (get_or bs 0 0 == 45) ≡ false → (get_or bs 0 0 == 43) ≡ true → ParsesSigned w128 10 bs r → or_zero r ≡ integer_value bs
 plus_value {E = E} bs r no_minus is h =
     rw (no_minus, is) (digits_or_zero r (drop 1 bs) (nat_lt (digits_value 10 (drop 1 bs)) (2 ^ 127)) (digits_value 10 (drop 1 bs) < 2 ^ 127) (pos (digits_value 10 (drop 1 bs)))
-    (lt_is (digits_value 10 (drop 1 bs)) (2 ^ 127)) (lt_true (digits_value 10 (drop 1 bs)) (2 ^ 127))
+    (ltb-true (digits_value 10 (drop 1 bs)) (2 ^ 127)) (lt-ltb (digits_value 10 (drop 1 bs)) (2 ^ 127))
     (parse_signed_plus own {E = E} w128 bs r h (eqb-true (get_or bs 0 0) 43 is)))
 
 plain_value : {E : Type 0} (bs : List ℕ) (r : Result ℤ E) → (get_or bs 0 0 == 45) ≡ false → (get_or bs 0 0 == 43) ≡ false → ParsesSigned w128 10 bs r → or_zero r ≡ integer_value bs
 plain_value {E = E} bs r no_minus no_plus h =
     rw (no_minus, no_plus) (digits_or_zero r bs (nat_lt (digits_value 10 bs) (2 ^ 127)) (digits_value 10 bs < 2 ^ 127) (pos (digits_value 10 bs))
-    (lt_is (digits_value 10 bs) (2 ^ 127)) (lt_true (digits_value 10 bs) (2 ^ 127))
+    (ltb-true (digits_value 10 bs) (2 ^ 127)) (lt-ltb (digits_value 10 bs) (2 ^ 127))
     (parse_signed_plain own {E = E} w128 bs r h (not_same (get_or bs 0 0) 43 no_plus) (not_same (get_or bs 0 0) 45 no_minus)))
 
 pub value_parsed : {E : Type 0} (bs : List ℕ) (r : Result ℤ E) → ParsesSigned w128 10 bs r → or_zero r ≡ integer_value bs

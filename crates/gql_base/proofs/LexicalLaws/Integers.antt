@@ -11,9 +11,9 @@ use Rattle.std.proofs.lemmas.Bool.Decides.{nat_tests}
 use Rattle.std.proofs.lemmas.List.Elements.{All-head, All-tail}
 use Rattle.std.proofs.lemmas.Str.{IsUtf8-from_ascii}
 use Rattle.std.proofs.lemmas.Str.Parse.{IsNumeralModel, numerals_by_value, tells_all_ascii_digits, parse_signed_minus, parse_signed_plain}
+use Rattle.std.proofs.lemmas.Bool.{le-leb, lt-ltb}
 use Rattle.gql_base.specs.lexical.Numbers.{IsWhole, minus_bytes}
 use Rattle.gql_base.specs.lexical.Fronts.{integer_fits}
-use Rattle.gql_base.proofs.LexicalLaws.Runs.{le_true, lt_true}
 
 own : IsNumeralModel (λ ds. all_ascii_digits ds ≡ true) (digits_value 10)
 own = numerals_by_value (λ ds. all_ascii_digits ds ≡ true) tells_all_ascii_digits
@@ -57,11 +57,11 @@ lt_false : (m n : ℕ) → (m < n → ⊥) → nat_lt m n ≡ false
 lt_false m n above = grind (arith, nat_tests)
 
 minus_fits : {E : Type 0} (ws : List ℕ) (r : Result ℤ E) → IsWhole ws → ParsesSigned w128 10 (45 ∷ ws) r → is_ok r ≡ nat_le (digits_value 10 ws) (2 ^ 127)
-minus_fits {E = E} ws (Ok z) is h = sym (le_true (digits_value 10 ws) (2 ^ 127) (parse_signed_minus own {E = E} w128 (45 ∷ ws) (Ok z) h refl).0.2)
+minus_fits {E = E} ws (Ok z) is h = sym (le-leb (digits_value 10 ws) (2 ^ 127) (parse_signed_minus own {E = E} w128 (45 ∷ ws) (Ok z) h refl).0.2)
 minus_fits ws (Err e) is h = sym (le_false (digits_value 10 ws) (2 ^ 127) (λ le. parse_signed_minus own w128 (45 ∷ ws) (Err e) h refl ((whole_digits ws is).0, (whole_digits ws is).1, le)))
 
 plain_fits : {E : Type 0} (ws : List ℕ) (r : Result ℤ E) → IsWhole ws → get_or ws 0 0 ≢ 43 → get_or ws 0 0 ≢ 45 → ParsesSigned w128 10 ws r → is_ok r ≡ nat_lt (digits_value 10 ws) (2 ^ 127)
-plain_fits {E = E} ws (Ok z) is never_plus never h = sym (lt_true (digits_value 10 ws) (2 ^ 127) (parse_signed_plain own {E = E} w128 ws (Ok z) h never_plus never).0.2)
+plain_fits {E = E} ws (Ok z) is never_plus never h = sym (lt-ltb (digits_value 10 ws) (2 ^ 127) (parse_signed_plain own {E = E} w128 ws (Ok z) h never_plus never).0.2)
 plain_fits ws (Err e) is never_plus never h = sym (lt_false (digits_value 10 ws) (2 ^ 127) (λ lt. parse_signed_plain own w128 ws (Err e) h never_plus never ((whole_digits ws is).0, (whole_digits ws is).1, lt)))
 
 pub fits_plain : (c : ℕ) (cs : List ℕ) → is_ascii_digit c ≡ true → integer_fits (c ∷ cs) ≡ nat_lt (digits_value 10 (c ∷ cs)) (2 ^ 127)

@@ -3,7 +3,7 @@ use Rattle.std.proofs.Common.{◌≡◌, inl, inr, ℕ, suc, ◌+◌, ◌<◌, �
 use Rattle.std.specs.Prelude.{nat_lt}
 use Rattle.std.specs.List.{AllPass, prefix_len}
 use Rattle.std.specs.Char.{is_ascii_digit}
-use Rattle.std.proofs.lemmas.Bool.{cases_Bool, eqb-true, and_parts}
+use Rattle.std.proofs.lemmas.Bool.{cases_Bool, eqb-true, and_parts, lt-ltb, le-ltb, ltb-true}
 use Rattle.std.proofs.lemmas.Bool.Decides.{nat_tests}
 use Rattle.std.proofs.lemmas.List.{take-append-drop, length-append, length-drop, drop-drop, append_assoc, append-nil, drop_at, take_at}
 use Rattle.std.proofs.lemmas.List.{length-take}
@@ -16,7 +16,7 @@ use Rattle.gql_base.specs.lexical.Pieces.{BeginsWithout}
 use Rattle.gql_base.specs.lexical.Fronts.{bind, passes, is_minus, is_zero, is_dot, digits_end, minus_end, whole_end, fraction_end, sign_end, exponent_end, found_with, number_from, number_found, integer_fits, front_with, found_front}
 use Rattle.gql_base.specs.declared.lexical.token.TokenKind.TheVariants.{Int}
 use Rattle.gql_base.specs.declared.lexical.lexing.LexFault.TheVariants.{BadNumber}
-use Rattle.gql_base.proofs.LexicalLaws.Runs.{run_is_whole, run_passes, rest_after, some_is, lt_true, lt_false, lt_is}
+use Rattle.gql_base.proofs.LexicalLaws.Runs.{run_is_whole, run_passes, rest_after, some_is}
 use Rattle.gql_base.proofs.LexicalLaws.StringScans.{drop_head}
 
 -- ---- the byte at a place
@@ -24,7 +24,7 @@ use Rattle.gql_base.proofs.LexicalLaws.StringScans.{drop_head}
 passes_true : (test : ℕ → Bool) (text : List ℕ) (at : ℕ) → passes test text at ≡ true → (at < length text) × (test (get_or text at 0) ≡ true)
 passes_true test text at is =
     let both : (nat_lt at (length text) ≡ true) × (test (get_or text at 0) ≡ true) = and_parts (nat_lt at (length text)) (test (get_or text at 0)) is in
-    (lt_is at (length text) both.0, both.1)
+    (ltb-true at (length text) both.0, both.1)
 
 head_below : (text : List ℕ) (at c : ℕ) (cs : List ℕ) → drop at text ≡ c ∷ cs → at < length text
 head_below text at c cs cut = omega (arith, ap length cut, length-drop at text)
@@ -36,10 +36,10 @@ tail_is : (text : List ℕ) (at c : ℕ) (cs : List ℕ) → drop at text ≡ c 
 tail_is text at c cs cut = let same : get_or text at 0 ∷ drop (at + 1) text ≡ c ∷ cs = sym (drop_head text at (head_below text at c cs cut)) ∙ cut in cc
 
 passes_head : (test : ℕ → Bool) (text : List ℕ) (at c : ℕ) (cs : List ℕ) → drop at text ≡ c ∷ cs → passes test text at ≡ test c
-passes_head test text at c cs cut = rw (lt_true at (length text) (head_below text at c cs cut)) (ap test (head_is text at c cs cut))
+passes_head test text at c cs cut = rw (lt-ltb at (length text) (head_below text at c cs cut)) (ap test (head_is text at c cs cut))
 
 passes_end : (test : ℕ → Bool) (text : List ℕ) (at : ℕ) → drop at text ≡ [] → passes test text at ≡ false
-passes_end test text at cut = rw (lt_false at (length text) (omega (arith, ap length cut, length-drop at text))) refl
+passes_end test text at cut = rw (le-ltb at (length text) (omega (arith, ap length cut, length-drop at text))) refl
 
 passes_without : (test : ℕ → Bool) (text after : List ℕ) (at : ℕ) → drop at text ≡ after → BeginsWithout test after → passes test text at ≡ false
 passes_without test text [] at cut ends = passes_end test text at cut
@@ -146,9 +146,9 @@ minus_there text (c ∷ cs) after true cut is = rw (passes_head is_minus text 0 
 minus_there text (c ∷ cs) after false cut is = rw (passes_head is_minus text 0 c (cs ++ after) cut ∙ digit_no_minus c is.0) refl
 
 float_there : (f : Option (List ℕ)) (e : Option Exponent) (w : ℕ) → nat_lt w (w + length (fraction_bytes f) + length (exponent_bytes e)) ≡ (is_there f || is_there e)
-float_there None None w = lt_false w (w + 0 + 0) (omega arith)
-float_there None (Some e) w = lt_true w (w + 0 + length (exponent_bytes (Some e))) (omega arith)
-float_there (Some ds) e w = lt_true w (w + length (fraction_bytes (Some ds)) + length (exponent_bytes e)) (omega arith)
+float_there None None w = le-ltb w (w + 0 + 0) (omega arith)
+float_there None (Some e) w = lt-ltb w (w + 0 + length (exponent_bytes (Some e))) (omega arith)
+float_there (Some ds) e w = lt-ltb w (w + length (fraction_bytes (Some ds)) + length (exponent_bytes e)) (omega arith)
 
 abbrev pub found_at : ℕ → Bool → Option Found
 found_at end real = Some (record { end = end; is_float = real })
@@ -240,7 +240,7 @@ Fraction : List ℕ → ℕ → ℕ → Type 0
 Fraction text at e = (f : Option (List ℕ)) × IsFraction f × (drop at text ≡ fraction_bytes f ++ drop e text) × (nat_lt at e ≡ is_there f) × (e ≡ at + length (fraction_bytes f))
 
 nothing_between : (at e : ℕ) → at ≡ e → nat_lt at e ≡ false
-nothing_between at e same = lt_false at e (omega (arith, same))
+nothing_between at e same = le-ltb at e (omega (arith, same))
 
 digits_fraction : (text : List ℕ) (at e : ℕ) → passes is_dot text at ≡ true → Digits text (at + 1) e → Fraction text at e
 unfolding Fraction Digits
@@ -250,7 +250,7 @@ digits_fraction text at e dot ds =
       Some (get_or text (at + 1) 0 ∷ ds.0),
       (ds.1, ds.2),
       drop_head text at head.0 ∙ ap (λ x. x ∷ drop (at + 1) text) c ∙ ap (λ xs. 46 ∷ xs) ds.3,
-      lt_true at e (omega (arith, ds.4)),
+      lt-ltb at e (omega (arith, ds.4)),
       omega (arith, ds.4),
     )
 
@@ -291,7 +291,7 @@ digits_exponent text at s e letter sign ds =
       (head.1, sign.1, (ds.1, ds.2)),
       drop_head text at head.0
           ∙ ap (λ xs. get_or text at 0 ∷ xs) (sign.2 ∙ ap (λ xs. sign_bytes sign.0 ++ xs) ds.3 ∙ sym (append_assoc (sign_bytes sign.0) (get_or text s 0 ∷ ds.0) (drop e text))),
-      lt_true at e (omega (arith, sign.3, ds.4)),
+      lt-ltb at e (omega (arith, sign.3, ds.4)),
       omega (arith, sign.3, ds.4, length-append (sign_bytes sign.0) (get_or text s 0 ∷ ds.0)),
     )
 
@@ -314,9 +314,9 @@ minus_found text =
     ]
 
 flags : (w f e : ℕ) (a b : Bool) → w ≤ f → f ≤ e → nat_lt w f ≡ a → nat_lt f e ≡ b → (a || b) ≡ nat_lt w e
-flags w f e true b below more first second = sym (lt_true w e (omega (arith, lt_is w f first, more)))
-flags w f e false true below more first second = sym (lt_true w e (omega (arith, lt_is f e second, below)))
-flags w f e false false below more first second = sym (lt_false w e (omega (arith, not_lt w f first, not_lt f e second)))
+flags w f e true b below more first second = sym (lt-ltb w e (omega (arith, ltb-true w f first, more)))
+flags w f e false true below more first second = sym (lt-ltb w e (omega (arith, ltb-true f e second, below)))
+flags w f e false false below more first second = sym (le-ltb w e (omega (arith, not_lt w f first, not_lt f e second)))
   where
     not_lt : (m n : ℕ) → nat_lt m n ≡ false → n ≤ m
     not_lt m n is = grind (arith, nat_tests)

@@ -1,8 +1,6 @@
--- The longest run of bytes that pass a test, and what options and tests of order say.
-use Rattle.std.proofs.Common.{◌≡◌, ℕ, zero, suc, ◌+◌, ◌-◌, ◌<◌, ◌≤◌, Bool, true, false, List, [], ◌∷◌, ◌++◌, length, take, drop, get_or, refl, sym, ap, ◌∙◌, arith, Some, None}
-use Rattle.std.specs.Prelude.{nat_le, nat_lt}
+-- The longest run of bytes that pass a test, and what options say.
+use Rattle.std.proofs.Common.{◌≡◌, ℕ, zero, suc, ◌+◌, ◌-◌, ◌<◌, Bool, true, false, List, [], ◌∷◌, ◌++◌, length, take, drop, get_or, refl, sym, ap, ◌∙◌, arith, Some, None}
 use Rattle.std.specs.List.{AllPass, prefix_len}
-use Rattle.std.proofs.lemmas.Bool.Decides.{nat_tests}
 use Rattle.std.proofs.lemmas.List.{get_or-take, length-take, length-drop, take_all, drop-drop, drop_at}
 use Rattle.std.proofs.lemmas.List.Elements.{All-head, All-tail}
 use Rattle.std.proofs.lemmas.List.Sums.{prefix_len_passes, prefix_len_stops, prefix_len-le-length}
@@ -45,20 +43,3 @@ some_is x y same = cc
 
 pub not_some : {A : Type 0} (x : A) → None ≡ Some x → ⊥
 not_some x same = cc
-
--- tests of order
-
-pub le_true : (m n : ℕ) → m ≤ n → nat_le m n ≡ true
-le_true m n below = grind (arith, nat_tests)
-
-pub le_is : (m n : ℕ) → nat_le m n ≡ true → m ≤ n
-le_is m n is = grind (arith, nat_tests)
-
-pub lt_is : (m n : ℕ) → nat_lt m n ≡ true → m < n
-lt_is m n is = grind (arith, nat_tests)
-
-pub lt_true : (m n : ℕ) → m < n → nat_lt m n ≡ true
-lt_true m n below = grind (arith, nat_tests)
-
-pub lt_false : (m n : ℕ) → n ≤ m → nat_lt m n ≡ false
-lt_false m n above = grind (arith, nat_tests)

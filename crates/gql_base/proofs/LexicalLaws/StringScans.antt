@@ -2,6 +2,8 @@
 use Rattle.std.proofs.Common.{◌≡◌, ◌⊎◌, inl, inr, ℕ, zero, suc, ◌+◌, ◌-◌, ◌<◌, ◌≤◌, Bool, true, false, not, ◌==◌, ◌&&◌, List, [], ◌∷◌, length, drop, get_or, refl, sym, ap, ◌∙◌, arith, Option, Some, None}
 use Rattle.std.specs.Option.{IsSome, IfSome}
 use Rattle.std.proofs.lemmas.List.{drop_all, drop-drop}
+use Rattle.std.proofs.Math.Bool.{and-false}
+use Rattle.std.proofs.lemmas.Bool.{lt-ltb, le-ltb}
 use Rattle.gql_base.specs.declared.lexical.strings.Escape.{Escape}
 use Rattle.std.specs.List.{prefix_len}
 use Rattle.std.proofs.lemmas.Bool.Decides.{nat_tests}
@@ -9,7 +11,6 @@ use Rattle.gql_base.specs.declared.lexical.lexing.LexFault.TheVariants.{BadChar}
 use Rattle.gql_base.specs.lexical.Characters.{is_line_end, is_block_byte}
 use Rattle.gql_base.specs.lexical.Strings.{begins_with_marks}
 use Rattle.gql_base.specs.lexical.Scans.{closed_at, block_closed_at, text_step, text_fault_at, text_fault, block_fault}
-use Rattle.gql_base.proofs.LexicalLaws.Runs.{lt_true, lt_false}
 
 pub drop_head : (text : List ℕ) (at : ℕ) → at < length text → drop at text ≡ get_or text at 0 ∷ drop (at + 1) text
 drop_head [] at below = absurd (omega (arith, below))
@@ -45,10 +46,6 @@ and_true : (b : Bool) → (b && true) ≡ false → b ≡ false
 and_true true e = cc
 and_true false e = refl
 
-and_false : (b : Bool) → (b && false) ≡ false
-and_false true = refl
-and_false false = refl
-
 closed_here : (c at : ℕ) (cs : List ℕ) → (c == 34) ≡ true → closed_at false at (c ∷ cs) ≡ Some at
 unfolding closed_at
 closed_here c at cs is = rw is refl
@@ -60,7 +57,7 @@ closed_nowhere false c at cs other is = rw (and_true (c == 34) other) (rw is ref
 
 closed_later : (e : Bool) (c at : ℕ) (cs : List ℕ) → ((c == 34) && not e) ≡ false → is_line_end c ≡ false → closed_at e at (c ∷ cs) ≡ closed_at ((c == 92) && not e) (at + 1) cs
 unfolding closed_at
-closed_later true c at cs other is = rw is (rw (and_false (c == 92)) refl)
+closed_later true c at cs other is = rw is (rw (and-false (c == 92)) refl)
 closed_later false c at cs other is = rw (and_true (c == 34) other) (rw is (and_again (c == 92)))
   where
     and_again : (b : Bool) → closed_at b (at + 1) cs ≡ closed_at (b && true) (at + 1) cs
@@ -76,7 +73,7 @@ pub string_closes : (text : List ℕ) (at : ℕ) → at < length text → (get_o
 string_closes text at below is = ap (closed_at false at) (drop_head text at below) ∙ closed_here (get_or text at 0) at (drop (at + 1) text) is
 
 pub closes_unescaped : (e : Bool) (text : List ℕ) (at : ℕ) → at < length text → ((get_or text at 0 == 34) && not e) ≡ true → closed_at e at (drop at text) ≡ Some at
-closes_unescaped true text at below is = absurd (let no : ((get_or text at 0 == 34) && false) ≡ false = and_false (get_or text at 0 == 34) in cc)
+closes_unescaped true text at below is = absurd (let no : ((get_or text at 0 == 34) && false) ≡ false = and-false (get_or text at 0 == 34) in cc)
 closes_unescaped false text at below is = string_closes text at below (and_is (get_or text at 0 == 34) is)
   where
     and_is : (b : Bool) → (b && true) ≡ true → b ≡ true
@@ -187,7 +184,7 @@ pub more_test : (n : ℕ) → 0 < n → (n == 0) ≡ false
 more_test n more = grind (arith, nat_tests)
 
 pub block_faulty : (text body : List ℕ) (good : ℕ) → body ≡ drop 3 text → good ≡ prefix_len is_block_byte body → good < length body → Some (BadChar (3 + good)) ≡ block_fault 3 (drop 3 text)
-block_faulty text body good is run below = rw (sym is) (rw (sym run) (rw (lt_true good (length body) below) refl))
+block_faulty text body good is run below = rw (sym is) (rw (sym run) (rw (lt-ltb good (length body) below) refl))
 
 pub block_sound : (text body : List ℕ) (good : ℕ) → body ≡ drop 3 text → good ≡ prefix_len is_block_byte body → length body ≤ good → None ≡ block_fault 3 (drop 3 text)
-block_sound text body good is run above = rw (sym is) (rw (sym run) (rw (lt_false good (length body) above) refl))
+block_sound text body good is run above = rw (sym is) (rw (sym run) (rw (le-ltb good (length body) above) refl))

@@ -13,17 +13,13 @@ use Rattle.gql_base.proofs.WayLaws.RepeatingLaws.{one_or_more_law}
 use Rattle.gql_base.proofs.WayLaws.SymbolTests.{IsPunctuator, when_true, mark_law, heads_single, heads_mark, passes_heads, then_law}
 use Rattle.std.proofs.lemmas.Bool.{or_parts}
 
--- what one of two tests says, and what both say
+-- what one of two tests says
 
 pub left_false : (a b : Bool) → (a || b) ≡ false → a ≡ false
 left_false a b e = (or_parts a b e).0
 
 pub right_false : (a b : Bool) → (a || b) ≡ false → b ≡ false
 right_false a b e = (or_parts a b e).1
-
-pub or_both : (a b : Bool) → a ≡ false → b ≡ false → (a || b) ≡ false
-or_both true b e f = cc
-or_both false b e f = f
 
 -- words
 
