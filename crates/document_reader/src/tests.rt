@@ -1,4 +1,4 @@
-//! Documents as they are read, printed and picked. What refused texts come to stands among the worked rows.
+//! Documents as they are read, printed and picked. What refused texts come to is tested by the rows of `worked_rows`.
 use crate::{Definition, Operation, PickFault, pick, print_document, read_document};
 use std::test::Fail;
 

@@ -2,4 +2,5 @@ mod Words
 mod Refusals
 mod Replies
 mod Exclusions
+mod OneAnswer
 mod Statuses

@@ -9,6 +9,8 @@ ghost use Rattle.gateway_run.specs.Operations.{HasPrice, IsRefused, IsMeasured, 
 
 use document_reader::a_text_is_a_document_or_has_one_fault;
 use first_form::{a_document_stands_for_one_operation, a_text_is_one_schema};
+use response_meter::laws::one_reply;
+use response_model::laws::one_bound;
 
 /// An operation that is refused has no price, and no reply to it is measured or faulty.
 pub fn a_refusal_excludes_all_else()
@@ -28,6 +30,24 @@ pub fn two_files_have_one_refusal()
     a_text_is_one_schema();
     a_document_stands_for_one_operation();
     a_text_is_a_document_or_has_one_fault();
+}
+
+/// Two files have one price at most.
+pub fn two_files_have_one_price()
+    ensures { (schema document : List ℕ) (cost other : CostType) → HasPrice schema document cost → HasPrice schema document other → cost ≡ other }
+{
+    a_text_is_one_schema();
+    a_document_stands_for_one_operation();
+    one_bound();
+}
+
+/// A reply is measured in one way at most.
+pub fn a_reply_has_one_measure()
+    ensures { (schema document reply : List ℕ) (metered other : FirstMetered) → IsMeasured schema document reply metered → IsMeasured schema document reply other → metered ≡ other }
+{
+    a_text_is_one_schema();
+    a_document_stands_for_one_operation();
+    one_reply();
 }
 
 /// A reply that is measured has no fault, and a reply has one fault at most.

@@ -20,7 +20,8 @@ mod texts;
 
 pub use command::WordsFault;
 pub use laws::{
-    a_refusal_excludes_all_else, a_reply_is_measured_or_has_one_fault, two_files_have_one_refusal,
+    a_refusal_excludes_all_else, a_reply_has_one_measure, a_reply_is_measured_or_has_one_fault,
+    two_files_have_one_price, two_files_have_one_refusal,
 };
 pub use outcome::{
     DONE, FILE_FAILED, NO_MEMORY, NOT_RESPONSE, REFUSED, SIZE_BROKEN, STREAM_FAILED, USAGE,

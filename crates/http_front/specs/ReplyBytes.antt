@@ -1,6 +1,7 @@
 -- The bytes of a reply (RFC 9112, section 6; RFC 9110, section 15 for the reasons).
 use Rattle.std.specs.Prelude.{ℕ, ◌≤◌, Bool, List, [], ◌++◌, length, Option, Some, None, codes, if◌then◌else◌, nat_eq}
 use Rattle.std.specs.Fmt.{decimal}
+use Rattle.cost_num.specs.declared.TheConstants.{CAP}
 use Rattle.cost_num.specs.declared.Cost.{Cost}
 use Rattle.cost_num.specs.CostText.{cost_text}
 use Rattle.http_front.specs.declared.reply.Answer.{Answer}
@@ -52,5 +53,5 @@ reply_bytes answer = head_bytes answer.status answer.close answer.costs (length 
 
 -- both costs are within the cap
 abbrev pub AreCosts : Cost × Cost → Type 0
-AreCosts costs = (costs.0.types ≤ 1000000000000000000) × (costs.0.fields ≤ 1000000000000000000)
-    × (costs.1.types ≤ 1000000000000000000) × (costs.1.fields ≤ 1000000000000000000)
+AreCosts costs = (costs.0.types ≤ CAP) × (costs.0.fields ≤ CAP)
+    × (costs.1.types ≤ CAP) × (costs.1.fields ≤ CAP)

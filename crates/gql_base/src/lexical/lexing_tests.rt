@@ -1,4 +1,4 @@
-//! Texts and their tokens. What refused texts come to stands among the worked rows.
+//! Texts and their tokens. What refused texts come to is tested by the rows of `worked_rows`.
 use crate::{LexFault, Span, Token, TokenKind, lex};
 use std::fmt::Write;
 use std::test::Fail;
