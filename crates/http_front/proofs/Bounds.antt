@@ -3,19 +3,16 @@ use Rattle.std.proofs.Common.{◌≡◌, ℕ, zero, suc, ◌+◌, ◌-◌, ◌*�
 use Rattle.std.specs.Prelude.{nat_lt, nat_le, ◌&&◌}
 use Rattle.std.specs.List.{list_all}
 use Rattle.std.specs.Char.{is_ascii_digit}
+use Rattle.std.proofs.lemmas.Bool.{and_parts}
 use Rattle.std.proofs.lemmas.Bool.Decides.{nat_tests}
 use Rattle.http_front.specs.Digits.{tens}
 use Rattle.http_front.specs.Fields.{is_length}
 
-and_true : (a b : Bool) → (a && b) ≡ true → (a ≡ true) × (b ≡ true)
-and_true true b e = (refl, e)
-and_true false b e = absurd (cc e)
-
 pub at_most_18 : (ds : List ℕ) → is_length ds ≡ true → length ds ≤ 18
-at_most_18 ds e = let two = and_true (nat_lt 0 (length ds)) _ e in let three = and_true (nat_le (length ds) 18) _ two.1 in let four = three.0 in grind (arith, nat_tests)
+at_most_18 ds e = let two = and_parts (nat_lt 0 (length ds)) _ e in let three = and_parts (nat_le (length ds) 18) _ two.1 in let four = three.0 in grind (arith, nat_tests)
 
 pub are_digits : (ds : List ℕ) → is_length ds ≡ true → list_all is_ascii_digit ds ≡ true
-are_digits ds e = let two = and_true (nat_lt 0 (length ds)) _ e in (and_true (nat_le (length ds) 18) _ two.1).1
+are_digits ds e = let two = and_parts (nat_lt 0 (length ds)) _ e in (and_parts (nat_le (length ds) 18) _ two.1).1
 
 pub tens_more : (n : ℕ) → tens (n + 1) ≡ tens n * 10
 unfolding tens
