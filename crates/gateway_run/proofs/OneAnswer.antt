@@ -33,12 +33,14 @@ same_cost a b of_types of_fields = ap₂ (λ t f. record {
 abbrev pub OneBound : Type 0
 OneBound = (holds : ℕ → Data → Bool) (part : Part) (plan : Plan) (a b : ℕ) → IsBound holds part plan a → IsBound holds part plan b → a ≡ b
 
+bound_alike : (part : Part) (n : ℕ) (plan other : Plan) → plan ≡ other → IsBound holds part plan n → IsBound holds part other n
+bound_alike part n plan other same bound = subst (λ p. IsBound holds part p n) same bound
+
 pub one_price : OneBound → (operation other : List FirstNode) (cost cost_2 : Cost) → plan_of operation ≡ plan_of other → IsBoundOf operation cost → IsBoundOf other cost_2 → cost ≡ cost_2
 one_price one operation other cost cost_2 same a b =
-    let at_other = λ part n. subst (λ plan. IsBound holds part plan n) same in
     same_cost cost cost_2
-    (one holds types (plan_of other) cost.types cost_2.types (at_other types cost.types a.of_types) b.of_types)
-    (one holds fields (plan_of other) cost.fields cost_2.fields (at_other fields cost.fields a.of_fields) b.of_fields)
+    (one holds types (plan_of other) cost.types cost_2.types (bound_alike types cost.types (plan_of operation) (plan_of other) same a.of_types) b.of_types)
+    (one holds fields (plan_of other) cost.fields cost_2.fields (bound_alike fields cost.fields (plan_of operation) (plan_of other) same a.of_fields) b.of_fields)
 
 own_names_differ : NamesDiffer own_name
 own_names_differ T U same = cc
