@@ -1,0 +1,9 @@
+pub mod Received
+pub mod Chunks
+pub mod ReplyHeads
+pub mod Fields
+pub mod Digits
+pub mod Framing
+pub mod Bodies
+pub mod Replies
+pub mod Service
