@@ -1,4 +1,5 @@
 pub mod Receiving
+pub mod Sent
 pub mod Lines
 pub mod Fronts
 pub mod Naming

@@ -34,10 +34,10 @@ or_true false = refl
 fails_receives : (d : Dial) → fails d ≡ receives [] false true d
 fails_receives d = λ i. record { sent = d.sent; taken = sym (append-nil d.taken) i; ended = sym (or_false d.ended) i; failed = or_true d.failed i }
 
-same_last : (change other : Dial → Dial) → ((d : Dial) → change d ≡ other d) → (a b : Option (List Dial)) → LastBecomes change a b → LastBecomes other a b
+pub same_last : (change other : Dial → Dial) → ((d : Dial) → change d ≡ other d) → (a b : Option (List Dial)) → LastBecomes change a b → LastBecomes other a b
 same_last change other same a b x = subst (λ (f : Dial → Dial). LastBecomes f a b) (λ i d. same d i) x
 
-with_last_none : (change : Dial → Dial) → ((d : Dial) → d ≡ change d) → (xs : List Dial) → xs ≡ with_last change xs
+pub with_last_none : (change : Dial → Dial) → ((d : Dial) → d ≡ change d) → (xs : List Dial) → xs ≡ with_last change xs
 unfolding with_last
 with_last_none change same [] = refl
 with_last_none change same (x ∷ []) = ap (λ d. d ∷ []) (same x)

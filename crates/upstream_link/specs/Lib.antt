@@ -1,9 +1,11 @@
-pub mod Received
-pub mod Chunks
+pub mod Replies
 pub mod ReplyHeads
-pub mod Fields
-pub mod Digits
 pub mod Framing
 pub mod Bodies
-pub mod Replies
+pub mod Chunks
+pub mod Fields
+pub mod RequestBytes
+pub mod Exchanges
+pub mod Received
 pub mod Service
+pub mod Digits

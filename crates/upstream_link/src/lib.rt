@@ -1,6 +1,7 @@
 //! Requests to the upstream and its replies, as HTTP/1.1 over a wire (RFC 9110, RFC 9112).
 #![tactic(auto)]
 
+mod asking;
 mod bodies;
 mod chunks;
 mod fault;
@@ -11,7 +12,13 @@ mod kept;
 mod lengths;
 mod pieces;
 mod reply;
+mod request;
+mod sending;
+pub mod sharing;
+#[cfg(test)]
+mod tests;
 mod values;
 
+pub use asking::ask;
 pub use fault::LinkFault;
 pub use reply::UpstreamReply;
