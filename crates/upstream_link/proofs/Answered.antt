@@ -1,8 +1,6 @@
 -- A head, and the body behind it.
 use Rattle.std.proofs.Common.{◌≡◌, ℕ, List, ◌∷◌, [], ◌++◌, Bool, true, false, cond, Ok, Err, None, Some, refl, sym, ap, ◌∙◌, subst, drop, length}
-use Rattle.std.specs.Prelude.{Result, ◌&&◌, nat_lt, ⊤, Option, codes, map}
-use Rattle.std.specs.List.{list_all}
-use Rattle.std.specs.Str.Parse.{digits_value}
+use Rattle.std.specs.Prelude.{Result, nat_lt, ⊤, Option, map}
 use Rattle.httparse.specs.Grammar.{ResponseHead, status_code, print_response}
 use Rattle.httparse.specs.Spans.{name_and_value}
 use Rattle.upstream_link.specs.declared.fault.LinkFault.{LinkFault}
@@ -10,8 +8,9 @@ use Rattle.upstream_link.specs.declared.fault.LinkFault.TheVariants as fault
 use Rattle.upstream_link.specs.declared.framing.Framing.{Framing}
 use Rattle.upstream_link.specs.declared.framing.Framing.TheVariants as framing
 use Rattle.upstream_link.specs.Received.{is_failure}
-use Rattle.upstream_link.specs.Fields.{NameAndValue, values_of, is_length, is_length_of, is_coded, has_transfer_coding, has_other_coding}
-use Rattle.upstream_link.specs.Framing.{has_no_body, length_among, length_in, framed_by_length, framed_with, framing_of}
+use Rattle.http_fields.specs.declared.lengths.BadLength.{BadLength}
+use Rattle.http_fields.specs.Fields.{NameAndValue, is_coded, has_transfer_coding, length_in}
+use Rattle.upstream_link.specs.Framing.{has_no_body, has_other_coding, framed_by_length, framed_with, framing_of}
 use Rattle.upstream_link.specs.ReplyHeads.{HasHead, ReplyHeadAt, after_head}
 use Rattle.upstream_link.proofs.Fronts.{heads_grow, head_stays, head_inside, drop_grows}
 
@@ -24,18 +23,13 @@ either : {A : Type 0} (P : A → Type 0) (t : Bool) (a b : A) → P a → P b �
 either P true a b x y = x
 either P false a b x y = y
 
-of_length : (values : List (List ℕ)) → IsOfBytes (length_among values)
-of_length [] = tt
-of_length (value ∷ more) =
-    either (IsOfBytes {A = Option ℕ}) (is_length value && list_all (is_length_of (digits_value 10 value)) more) (Ok (Some (digits_value 10 value))) (Err fault.BadReplyHead) tt refl
-
 by_length : (size : Option ℕ) → IsOfBytes (framed_by_length size)
 by_length None = tt
 by_length (Some size) = either (IsOfBytes {A = Framing}) (nat_lt 4194304 size) (Err fault.TooLarge) (Ok (framing.Length size)) refl tt
 
-of_fields : (code : ℕ) (fields : List NameAndValue) (r : Result (Option ℕ) LinkFault) → IsOfBytes r → IsOfBytes (framed_with code fields r)
-of_fields code fields (Err f) x = x
-of_fields code fields (Ok size) x =
+of_fields : (code : ℕ) (fields : List NameAndValue) (r : Result (Option ℕ) BadLength) → IsOfBytes (framed_with code fields r)
+of_fields code fields (Err bad) = refl
+of_fields code fields (Ok size) =
     either (IsOfBytes {A = Framing}) (is_coded fields) (Err fault.Coded) _ refl
     (either (IsOfBytes {A = Framing}) (has_no_body code) (Ok framing.NoBody) _ tt
     (either (IsOfBytes {A = Framing}) (has_transfer_coding fields) (Ok framing.Chunked) (framed_by_length size) tt (by_length size)))
@@ -45,7 +39,7 @@ framing_fault h f e =
     let fields = map name_and_value h.fields in
     subst (IsOfBytes {A = Framing}) e
     (either (IsOfBytes {A = Framing}) (has_other_coding fields) (Err fault.BadReplyHead) _ refl
-    (of_fields (status_code h) fields (length_in fields) (of_length (values_of (codes "content-length") fields))))
+    (of_fields (status_code h) fields (length_in fields)))
 
 -- the head of the reply stays when more bytes come
 pub reply_head_stays : (bytes here more : List ℕ) (h : ResponseHead) → ReplyHeadAt bytes here h → ReplyHeadAt (bytes ++ more) (here ++ more) h

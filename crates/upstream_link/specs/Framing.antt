@@ -1,28 +1,22 @@
 -- How the body of a reply is framed, or why it can't be read (RFC 9112, section 6.3).
-use Rattle.std.specs.Prelude.{ℕ, Bool, ◌&&◌, ◌||◌, List, [], ◌∷◌, map, Option, Some, None, Result, Ok, Err, if◌then◌else◌, nat_eq, nat_lt, codes}
+use Rattle.std.specs.Prelude.{ℕ, Bool, not, ◌||◌, List, map, Option, Some, None, Result, Ok, Err, if◌then◌else◌, nat_eq, nat_lt, codes}
 use Rattle.std.specs.List.{list_all}
-use Rattle.std.specs.Str.Parse.{digits_value}
 use Rattle.httparse.specs.Grammar.{ResponseHead, status_code}
 use Rattle.httparse.specs.Spans.{name_and_value}
+use Rattle.http_fields.specs.declared.lengths.BadLength.{BadLength}
+use Rattle.http_fields.specs.Fields.{NameAndValue, same_in_any_case, values_of, is_coded, has_transfer_coding, length_in}
 use Rattle.upstream_link.specs.declared.fault.LinkFault.{LinkFault}
 use Rattle.upstream_link.specs.declared.fault.LinkFault.TheVariants.{BadReplyHead, Coded, TooLarge}
 use Rattle.upstream_link.specs.declared.framing.Framing.{Framing}
 use Rattle.upstream_link.specs.declared.framing.Framing.TheVariants as framing
-use Rattle.upstream_link.specs.Fields.{NameAndValue, values_of, is_length, is_length_of, is_coded, has_transfer_coding, has_other_coding}
 
 -- a reply of this status has no body
 abbrev pub has_no_body : ℕ → Bool
 has_no_body code = nat_eq code 204 || nat_eq code 304
 
--- the length that these values say, all of them alike, where there are some
-abbrev pub length_among : List (List ℕ) → Result (Option ℕ) LinkFault
-length_among [] = Ok None
-length_among (value ∷ more) =
-    if is_length value && list_all (is_length_of (digits_value 10 value)) more then Ok (Some (digits_value 10 value)) else Err BadReplyHead
-
--- the length that the fields say, where they say one
-abbrev pub length_in : List NameAndValue → Result (Option ℕ) LinkFault
-length_in fields = length_among (values_of (codes "content-length") fields)
+-- a transfer coding stands that is not `chunked`
+abbrev pub has_other_coding : List NameAndValue → Bool
+has_other_coding fields = not (list_all (λ value. same_in_any_case value (codes "chunked")) (values_of (codes "transfer-encoding") fields))
 
 -- a body of this length, which has a limit, or one that goes on to the end
 abbrev pub framed_by_length : Option ℕ → Result Framing LinkFault
@@ -30,8 +24,8 @@ framed_by_length None = Ok framing.UntilEnd
 framed_by_length (Some length) = if nat_lt 4194304 length then Err TooLarge else Ok (framing.Length length)
 
 -- a `content-length` is looked at beside `chunked` too, but not used there
-abbrev pub framed_with : ℕ → List NameAndValue → Result (Option ℕ) LinkFault → Result Framing LinkFault
-framed_with code fields (Err f) = Err f
+abbrev pub framed_with : ℕ → List NameAndValue → Result (Option ℕ) BadLength → Result Framing LinkFault
+framed_with code fields (Err bad) = Err BadReplyHead
 framed_with code fields (Ok length) =
     if is_coded fields then Err Coded
     else if has_no_body code then Ok framing.NoBody

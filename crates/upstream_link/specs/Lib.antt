@@ -3,9 +3,7 @@ pub mod ReplyHeads
 pub mod Framing
 pub mod Bodies
 pub mod Chunks
-pub mod Fields
 pub mod RequestBytes
 pub mod Exchanges
 pub mod Received
 pub mod Service
-pub mod Digits

@@ -11,11 +11,11 @@ ghost use Rattle.upstream_link.specs.Service.{HeadLookSays, HeadSays, ReplyHeadS
 
 use crate::chunks::{ROOM, room_of};
 use crate::fault::LinkFault;
-use crate::fields::Fields;
-use crate::framing::Framing;
+use crate::framing::{Framing, body_framing};
 use crate::kept::Kept;
 use crate::pieces::take_piece;
 use http::StatusCode;
+use http_fields::Fields;
 use httparse::Status;
 use httparse::spans::{EMPTY_HEADER_SPAN, HeaderSpan, ResponseSpans, parse_response};
 use outside::Wire;
@@ -41,7 +41,7 @@ fn framing_at(
         bytes: front,
         headers: &headers[..spans.headers],
     };
-    fields.framing(spans.code)
+    body_framing(spans.code, fields)
 }
 
 /// The head at the front, or nothing where more bytes are needed.

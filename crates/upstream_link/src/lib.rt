@@ -5,11 +5,9 @@ mod asking;
 mod bodies;
 mod chunks;
 mod fault;
-mod fields;
 mod framing;
 mod heads;
 mod kept;
-mod lengths;
 mod pieces;
 mod reply;
 mod request;
@@ -17,7 +15,6 @@ mod sending;
 pub mod sharing;
 #[cfg(test)]
 mod tests;
-mod values;
 
 pub use asking::ask;
 pub use fault::LinkFault;
