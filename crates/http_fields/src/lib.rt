@@ -5,6 +5,8 @@
 mod fields;
 mod lengths;
 mod reading;
+#[cfg(test)]
+mod tests;
 mod values;
 
 pub use fields::Fields;

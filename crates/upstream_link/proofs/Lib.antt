@@ -4,3 +4,4 @@ pub mod Lines
 pub mod Fronts
 pub mod Framed
 pub mod Answered
+pub mod Later

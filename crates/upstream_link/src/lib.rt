@@ -8,6 +8,7 @@ mod fault;
 mod framing;
 mod heads;
 mod kept;
+pub mod laws;
 mod pieces;
 mod reply;
 mod request;
