@@ -8,45 +8,45 @@ use std::test::Fail;
 #[test]
 fn fields_say_codings_and_a_length(rt: HostRuntime) -> Result<(), Fail> {
     let alloc = rt.alloc();
-    for (lines, values, coded, chunked, length) in [
+    for (lines, said, coded, chunked, length) in [
         (
             "Content-Length: 5\r\nCONTENT-LENGTH: 05\r\n",
-            2,
+            true,
             false,
             false,
             Ok(Some(5)),
         ),
         (
             "content-length: 5\r\ncontent-length: 6\r\n",
-            2,
+            true,
             false,
             false,
             Err(BadLength),
         ),
         (
             "content-length: 1234567890123456789\r\n",
-            1,
+            true,
             false,
             false,
             Err(BadLength),
         ),
         (
             "content-length: +5\r\ncontent-encoding: gzip\r\n",
-            1,
+            true,
             true,
             false,
             Err(BadLength),
         ),
         (
             "content-encoding: IDENTITY\r\ncontent-encoding: identity\r\n",
-            0,
+            false,
             false,
             false,
             Ok(None),
         ),
         (
             "content-encoding:\r\ntransfer-encoding: x\r\n",
-            0,
+            false,
             true,
             true,
             Ok(None),
@@ -61,7 +61,11 @@ fn fields_say_codings_and_a_length(rt: HostRuntime) -> Result<(), Fail> {
             bytes: head.as_bytes(),
             headers: &headers[..spans.headers],
         };
-        assert_eq!(rt; fields.named(b"content-length").count(), values, "{lines}");
+        assert_eq!(rt;
+            fields.named(b"content-length").next().is_some(),
+            said,
+            "{lines}"
+        );
         assert_eq!(rt; fields.is_coded(), coded, "{lines}");
         assert_eq!(rt; fields.has_transfer_coding(), chunked, "{lines}");
         assert_eq!(rt; fields.length(), length, "{lines}");

@@ -5,3 +5,4 @@ pub mod Fronts
 pub mod Framed
 pub mod Answered
 pub mod Later
+pub mod OneReply
