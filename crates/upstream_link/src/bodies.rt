@@ -11,15 +11,7 @@ use crate::framing::Framing;
 use crate::kept::Kept;
 use crate::pieces::{take_data, take_piece};
 use outside::Wire;
-use std::alloc::{AllocError, Global};
-
-/// A copy of the first bytes.
-fn copy_of_front(alloc: Global, bytes: &[u8], count: usize) -> Result<Vec<u8>, AllocError>
-    requires { count ≤ length bytes.now }
-    ensures { IfOk result (λ copy. copy.items ≡ take count bytes.now) }
-{
-    bytes[..count].to_vec(alloc)
-}
+use std::alloc::Global;
 
 /// Receives a body of so many bytes.
 fn take_sized<W: Wire>(
@@ -37,12 +29,8 @@ fn take_sized<W: Wire>(
     ensures dials { W.dial_faults wire.new ≡ W.dial_faults wire.old }
 {
     match take_data(kept, wire, size) {
-        Ok(()) => {}
-        Err(fault) => return Err(fault),
-    }
-    match copy_of_front(alloc, kept.bytes(), size) {
-        Ok(body) => Ok(body),
-        Err(_) => Err(LinkFault::Memory),
+        Ok(()) => Ok(kept.hand_over(alloc, size)),
+        Err(fault) => Err(fault),
     }
 }
 
@@ -77,12 +65,11 @@ fn take_rest<W: Wire>(alloc: Global, kept: &mut Kept, wire: &mut W) -> Result<Ve
     ensures dials { W.dial_faults wire.new ≡ W.dial_faults wire.old }
 {
     match take_all(kept, wire) {
-        Ok(()) => {}
-        Err(fault) => return Err(fault),
-    }
-    match kept.bytes().to_vec(alloc) {
-        Ok(body) => Ok(body),
-        Err(_) => Err(LinkFault::Memory),
+        Ok(()) => {
+            let count = kept.len();
+            Ok(kept.hand_over(alloc, count))
+        }
+        Err(fault) => Err(fault),
     }
 }
 

@@ -1,9 +1,10 @@
 //! Bytes that were received and not yet used.
 
-ghost use Rattle.std.specs.Prelude.{◌≡◌, ◌≤◌, ◌++◌, [], IfOk, OnOk, OnErr, length, drop};
+ghost use Rattle.std.specs.Prelude.{◌≡◌, ◌≤◌, ◌++◌, [], IfOk, OnOk, length, take, drop};
 
 use std::alloc::{AllocError, Global};
 use std::marker::Model;
+use std::mem;
 
 /// Bytes that were received and not yet used. Contracts see it as their list.
 ///
@@ -59,6 +60,18 @@ impl Kept {
         ensures { self.new ≡ drop count self.old }
     {
         self.passed += count;
+    }
+
+    /// Hands over the first of them in the buffer that they were received in, and keeps none.
+    pub(crate) fn hand_over(&mut self, alloc: Global, count: usize) -> Vec<u8>
+        ensures { result.items ≡ take count self.old }
+    {
+        let passed = self.passed;
+        self.passed = 0;
+        let mut bytes = mem::replace(&mut self.buffer, Vec::new(alloc));
+        bytes.drain(..passed);
+        bytes.truncate(count);
+        bytes
     }
 
     /// Adds a piece behind them.

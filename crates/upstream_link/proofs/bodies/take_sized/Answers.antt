@@ -10,10 +10,7 @@ returns-in-Err-clause-exact g c =
     received_says c.args.kept.now (g.W.Wire.coming c.args.wire.now, g.W.Wire.log c.args.wire.now) (g.W.Wire.coming c.take_data.new.wire, g.W.Wire.log c.take_data.new.wire) (is_failure c.in-Err.fault) (is_failure c.in-Err.fault) first refl
     (λ k. sized_fault c.args.size c.take_data.new.kept (c.args.kept.now ++ first.bytes) first.ended c.in-Err.fault k)
 
-pub returns-in-Ok-copy_of_front-clause-exact : goal.returns-in-Ok-copy_of_front-clause-exact
-returns-in-Ok-copy_of_front-clause-exact g c =
+pub returns-in-Ok-clause-exact : goal.returns-in-Ok-clause-exact
+returns-in-Ok-clause-exact g c =
     received_says c.args.kept.now (g.W.Wire.coming c.args.wire.now, g.W.Wire.log c.args.wire.now) (g.W.Wire.coming c.take_data.new.wire, g.W.Wire.log c.take_data.new.wire) false false c.in-Ok.ensures.exact refl
-    (λ k. (k.0, c.in-Ok-copy_of_front.ensures ∙ ap (take c.args.size) (c.bytes.ensures ∙ k.1)))
-
-pub returns-in-Err-copy_of_front-clause-exact : goal.returns-in-Err-copy_of_front-clause-exact
-returns-in-Err-copy_of_front-clause-exact g c = received_says c.args.kept.now (g.W.Wire.coming c.args.wire.now, g.W.Wire.log c.args.wire.now) (g.W.Wire.coming c.take_data.new.wire, g.W.Wire.log c.take_data.new.wire) false false c.in-Ok.ensures.exact refl (λ k. tt)
+    (λ k. (k.0, c.hand_over.ensures ∙ ap (take c.args.size) k.1))
