@@ -1,5 +1,5 @@
 -- A head, and the body behind it.
-use Rattle.std.proofs.Common.{◌≡◌, ℕ, List, ◌∷◌, [], ◌++◌, Bool, true, false, cond, Ok, Err, None, Some, refl, sym, ap, ◌∙◌, subst, drop, length}
+use Rattle.std.proofs.Common.{◌≡◌, ℕ, List, ◌++◌, Bool, true, false, cond, Ok, Err, None, Some, refl, sym, ap, ◌∙◌, subst, drop, length}
 use Rattle.std.specs.Prelude.{Result, nat_lt, ⊤, Option, map}
 use Rattle.httparse.specs.Grammar.{ResponseHead, status_code, print_response}
 use Rattle.httparse.specs.Spans.{name_and_value}

@@ -1,8 +1,8 @@
 -- Bytes that were sent one after the other, and fronts of them.
-use Rattle.std.proofs.Common.{◌≡◌, ◌+◌, ◌<◌, ◌≤◌, ◌++◌, ℕ, List, [], length, take, drop, refl, sym, ap, ◌∙◌, subst, append_assoc, arith, Bool, true, false}
+use Rattle.std.proofs.Common.{◌≡◌, ◌<◌, ◌++◌, ℕ, List, [], length, take, drop, refl, sym, ap, ◌∙◌, append_assoc, arith}
 use Rattle.std.specs.Prelude.{Option, Some, None}
 use Rattle.std.proofs.lemmas.List.{append-nil, length-drop, take-append-drop}
-use Rattle.outside.specs.Dials.{Dial, LastBecomes, with_last, sends, fails}
+use Rattle.outside.specs.Dials.{Dial, LastBecomes, sends, fails}
 use Rattle.outside.proofs.Dialling.{last_then, sends_then}
 use Rattle.std.specs.Prelude.{Err}
 use Rattle.upstream_link.specs.declared.fault.LinkFault.{LinkFault}

@@ -1,5 +1,5 @@
 -- What a request to the upstream came to, by the dials that were answered.
-use Rattle.std.specs.Prelude.{◌≡◌, ℕ, ◌<◌, ◌⊎◌, Bool, true, false, List, [], ◌∷◌, ◌++◌, length, Option, Result, Ok, Err}
+use Rattle.std.specs.Prelude.{◌≡◌, ℕ, ◌<◌, ◌⊎◌, true, false, List, [], ◌∷◌, ◌++◌, length, Option, Result, Ok, Err}
 use Rattle.outside.specs.Dials.{Dial, LastBecomes, sends, fails}
 use Rattle.upstream_link.specs.declared.fault.LinkFault.{LinkFault}
 use Rattle.upstream_link.specs.declared.fault.LinkFault.TheVariants as fault
@@ -17,6 +17,7 @@ pub record WasCutOff (request : List ℕ) (r : Result UpstreamReply LinkFault) (
   pub failed : r ≡ Err fault.Failed
   pub sent : IsFrontOf dial.sent request
   pub taken : dial.taken ≡ []
+  pub goes_on : dial.ended ≡ false
   pub marked : dial.failed ≡ true
 
 -- the request was sent, and the bytes that were taken begin with this reply, or have this fault

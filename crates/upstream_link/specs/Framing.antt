@@ -7,6 +7,7 @@ use Rattle.http_fields.specs.declared.lengths.BadLength.{BadLength}
 use Rattle.http_fields.specs.Fields.{NameAndValue, same_in_any_case, values_of, is_coded, has_transfer_coding, length_in}
 use Rattle.upstream_link.specs.declared.fault.LinkFault.{LinkFault}
 use Rattle.upstream_link.specs.declared.fault.LinkFault.TheVariants.{BadReplyHead, Coded, TooLarge}
+use Rattle.upstream_link.specs.Chunks.{body_limit}
 use Rattle.upstream_link.specs.declared.framing.Framing.{Framing}
 use Rattle.upstream_link.specs.declared.framing.Framing.TheVariants as framing
 
@@ -21,7 +22,7 @@ has_other_coding fields = not (list_all (λ value. same_in_any_case value (codes
 -- a body of this length, which has a limit, or one that goes on to the end
 abbrev pub framed_by_length : Option ℕ → Result Framing LinkFault
 framed_by_length None = Ok framing.UntilEnd
-framed_by_length (Some length) = if nat_lt 4194304 length then Err TooLarge else Ok (framing.Length length)
+framed_by_length (Some length) = if nat_lt body_limit length then Err TooLarge else Ok (framing.Length length)
 
 -- a `content-length` is looked at beside `chunked` too, but not used there
 abbrev pub framed_with : ℕ → List NameAndValue → Result (Option ℕ) BadLength → Result Framing LinkFault

@@ -5,12 +5,43 @@ use std::alloc::Global;
 use std::fmt::InlineText;
 use std::test::Fail;
 
-const BODY: &str = "{\"data\":{\"user\":{\"id\":\"1\"}}}";
-
-const FEED: &str = "{\"data\":{\"feed\":{\"total\":9,\"items\":[{\"__typename\":\"Post\"}]}}}";
-
 const REPLY: &str =
     "HTTP/1.1 200 OK\r\ncontent-length: 28\r\n\r\n{\"data\":{\"user\":{\"id\":\"1\"}}}";
+
+// A line each: a reply, in which `~` stands for CR LF and `#` for LF, and what it comes to.
+const REPLIES: &str = r#"HTTP/1.1 200 OK~content-length: 5~~[1,2]6 -> 200:[1,2]
+HTTP/1.1 200 OK~content-length: 05~Content-Length: 5~~[1,2]~~ -> 200:[1,2]
+HTTP/1.1 200 OK~~{"data":null} -> 200:{"data":null}
+HTTP/1.0 500 No#content-encoding: Identity##{} -> 500:{}
+HTTP/1.1 204 No~content-length: 4194305~~{} -> 204:
+HTTP/1.1 304 Same~transfer-encoding: chunked~~5~ -> 304:
+HTTP/1.1 099 Odd~content-length: 0~~ -> 99:
+HTTP/1.1 100 Continue~x: y~~HTTP/1.1 103 Hint~~HTTP/1.1 200 OK~content-length: 2~~{} -> 200:{}
+HTTP/2.0 200 OK~~ -> BadReplyHead
+HTTP/1.1 200 OK~a: b~ folded~~ -> BadReplyHead
+HTTP/1.1 200 OK~a : b~~ -> BadReplyHead
+HTTP/1.1 200 OK~content-length: +5~~[1,2] -> BadReplyHead
+HTTP/1.1 200 OK~content-length: 5, 5~~[1,2] -> BadReplyHead
+HTTP/1.1 200 OK~content-length: 5~content-length: 6~~[1,2] -> BadReplyHead
+HTTP/1.1 200 OK~content-length: ~~{} -> BadReplyHead
+HTTP/1.1 200 OK~transfer-encoding: identity~~{} -> BadReplyHead
+HTTP/1.1 200 OK~transfer-encoding: gzip, chunked~~{} -> BadReplyHead
+HTTP/1.1 200 OK~content-length: x~transfer-encoding: chunked~~0~~ -> BadReplyHead
+HTTP/1.1 200 OK~content-length: 9~transfer-encoding: chunked~~0~~ -> 200:
+HTTP/1.1 200 OK~content-encoding: gzip~~{} -> Coded
+HTTP/1.1 200 OK~content-length: 9999999~content-encoding:~~{} -> Coded
+HTTP/1.1 200 OK~content-length: 4194305~~{} -> TooLarge
+HTTP/1.1 200 OK~transfer-encoding: chunked~~2~{}~3ffffF~ -> TooLarge
+HTTP/1.1 200 OK~content-length: 4194304~~{} -> Truncated
+HTTP/1.1 200 OK~content-le -> Truncated
+ -> Truncated
+HTTP/1.1 200 OK~transfer-encoding: CHUNKED~~23~{"data":{"feed":{"total":9,"items":~1a~[{"__typename":"Post"}]}}}~0~~more -> 200:{"data":{"feed":{"total":9,"items":[{"__typename":"Post"}]}}}
+HTTP/1.1 200 OK~transfer-encoding: chunked~~00A;of=ten~0123456789~0;last~x: y#~ -> 200:0123456789
+HTTP/1.1 200 OK~transfer-encoding: chunked~~2~{}~0~x: y~ -> Truncated
+HTTP/1.1 200 OK~transfer-encoding: chunked~~2~{}~0~~ -> 200:{}
+HTTP/1.1 200 OK~transfer-encoding: chunked~~2~{} -> Truncated
+HTTP/1.1 200 OK~transfer-encoding: chunked~~2~{}{} -> BadChunk
+HTTP/1.1 200 OK~transfer-encoding: chunked~~two~ -> BadChunk"#;
 
 // A wire with this reply, which fails at these transfers.
 fn wire_with(alloc: Global, reply: &str, failing: Vec<u64>) -> Result<MemWire, Fail> {
@@ -21,6 +52,34 @@ fn wire_with(alloc: Global, reply: &str, failing: Vec<u64>) -> Result<MemWire, F
 
 fn ask_over(alloc: Global, wire: &mut MemWire, body: &str) -> Result<UpstreamReply, LinkFault> {
     ask(alloc, wire, "api:4000", "/graphql", body.as_bytes())
+}
+
+// What a reply comes to that is cut there.
+fn outcome_of(alloc: Global, reply: &str, ahead: usize) -> Result<Vec<u8>, Fail> {
+    let mut wire = wire_with(alloc, reply, Vec::new(alloc))?;
+    wire.read_cut = Cut { ahead };
+    match ask_over(alloc, &mut wire, "{}") {
+        Ok(reply) => {
+            let status = reply.status;
+            let mut text = format!(in alloc; "{status}:")?.into_bytes();
+            text.extend_from_slice(reply.body.as_slice())?;
+            Ok(text)
+        }
+        Err(fault) => Ok(format!(in alloc; "{fault:?}")?.into_bytes()),
+    }
+}
+
+// A reply as its line has it.
+fn reply_in(alloc: Global, line: &str) -> Result<String, Fail> {
+    let mut text = String::new(alloc);
+    for c in line.chars() {
+        match c {
+            '~' => text.push_str("\r\n")?,
+            '#' => text.push_str("\n")?,
+            c => text.push(c)?,
+        }
+    }
+    Ok(text)
 }
 
 // A text with many pieces between its ends.
@@ -42,174 +101,42 @@ fn repeated(
 #[test]
 fn replies_come_to_their_bodies_or_first_faults(rt: HostRuntime) -> Result<(), Fail> {
     let alloc = rt.alloc();
-    let sized = "HTTP/1.1 200 OK\r\ncontent-length: ";
-    let chunked = "HTTP/1.1 200 OK\r\ntransfer-encoding: CHUNKED\r\n\r\n";
-    let interim = "HTTP/1.1 100 Continue\r\nx: y\r\n\r\n";
+    for line in REPLIES.lines() {
+        let Some((text, outcome)) = line.split_once(" -> ") else {
+            return Err(Fail::new("a line has no outcome"));
+        };
+        let reply = reply_in(alloc, text)?;
+        for ahead in 0..reply.len() + 1 {
+            let found = outcome_of(alloc, reply.as_str(), ahead)?;
+            assert_eq!(rt; found.as_slice(), outcome.as_bytes(), "{line} {ahead}");
+        }
+    }
     let plain = "HTTP/1.1 200 OK\r\n";
-    let no_chunk = "HTTP/1.1 200 OK\r\ntransfer-encoding: chunked\r\n\r\n0\r\n";
-    let bad_head = Err(LinkFault::BadReplyHead);
-    let bad_chunk = Err(LinkFault::BadChunk);
-    let truncated = Err(LinkFault::Truncated);
-    for (start, piece, count, end, result) in [
-        (REPLY, "and more", 1, "", Ok((200, BODY))),
-        (
-            sized,
-            "05\r\ncontent-length: 5\r\n",
-            1,
-            "\r\n[1,2]6",
-            Ok((200, "[1,2]")),
-        ),
-        (plain, "", 0, "\n{}", Ok((200, "{}"))),
-        (
-            "HTTP/1.0 500 No\ncontent-encoding: Identity\n",
-            "",
-            0,
-            "\n{}",
-            Ok((500, "{}")),
-        ),
-        (
-            "HTTP/1.1 204 No\r\ncontent-length: 4194305\r\n",
-            "",
-            0,
-            "\r\n{}",
-            Ok((204, "")),
-        ),
-        (
-            "HTTP/1.1 304 Same\r\ntransfer-encoding: chunked\r\n",
-            "",
-            0,
-            "\r\n5\r\n",
-            Ok((304, "")),
-        ),
-        (
-            "HTTP/1.1 099 Odd\r\ncontent-length: 0\r\n",
-            "",
-            0,
-            "\r\n",
-            Ok((99, "")),
-        ),
+    let interim = "HTTP/1.1 100 Continue\r\n\r\n";
+    let chunked = "HTTP/1.1 200 OK\r\ntransfer-encoding: chunked\r\n\r\n0";
+    for (start, piece, count, end, outcome) in [
+        (plain, "a: b\r\n", 64, "\r\n", "200:"),
+        (plain, "a: b\r\n", 65, "\r\n", "BadReplyHead"),
+        ("HTTP/1.1 200 ", "x", 16_367, "\r\n\r\n", "200:"),
+        ("HTTP/1.1 200 ", "x", 16_368, "\r\n\r\n", "BadReplyHead"),
+        (interim, interim, 7, "HTTP/1.1 204 No\r\n\r\n", "204:"),
         (
             interim,
-            "HTTP/1.1 103 Hint\r\n\r\n",
-            7,
-            REPLY,
-            Ok((200, BODY)),
+            interim,
+            8,
+            "HTTP/1.1 204 No\r\n\r\n",
+            "BadReplyHead",
         ),
-        (interim, interim, 8, REPLY, bad_head),
-        (plain, "a: b\r\n", 64, "\r\n", Ok((200, ""))),
-        (plain, "a: b\r\n", 65, "\r\n", bad_head),
-        ("HTTP/1.1 200 ", "x", 16367, "\r\n\r\n", Ok((200, ""))),
-        ("HTTP/1.1 200 ", "x", 16368, "\r\n\r\n", bad_head),
-        ("HTTP/2.0 200 OK\r\n", "", 0, "\r\n", bad_head),
-        (plain, "a: b\r\n folded\r\n", 1, "\r\n", bad_head),
-        (plain, "a : b\r\n", 1, "\r\n", bad_head),
-        (sized, "+5\r\n", 1, "\r\n[1,2]", bad_head),
-        (sized, "5, 5\r\n", 1, "\r\n[1,2]", bad_head),
-        (
-            sized,
-            "5\r\ncontent-length: 6\r\n",
-            1,
-            "\r\n[1,2]",
-            bad_head,
-        ),
-        (sized, "\r\n", 1, "\r\n{}", bad_head),
-        (
-            plain,
-            "transfer-encoding: identity\r\n",
-            1,
-            "\r\n{}",
-            bad_head,
-        ),
-        (
-            plain,
-            "transfer-encoding: gzip, chunked\r\n",
-            1,
-            "\r\n{}",
-            bad_head,
-        ),
-        (
-            sized,
-            "x\r\ntransfer-encoding: chunked\r\n",
-            1,
-            "\r\n0\r\n\r\n",
-            bad_head,
-        ),
-        (
-            sized,
-            "9\r\ntransfer-encoding: chunked\r\n",
-            1,
-            "\r\n0\r\n\r\n",
-            Ok((200, "")),
-        ),
-        (
-            plain,
-            "content-encoding: gzip\r\n",
-            1,
-            "\r\n{}",
-            Err(LinkFault::Coded),
-        ),
-        (
-            sized,
-            "9999999\r\ncontent-encoding:\r\n",
-            1,
-            "\r\n{}",
-            Err(LinkFault::Coded),
-        ),
-        (sized, "4194305\r\n", 1, "\r\n{}", Err(LinkFault::TooLarge)),
-        (
-            chunked,
-            "2\r\n{}\r\n3ffffF\r\n",
-            1,
-            "",
-            Err(LinkFault::TooLarge),
-        ),
-        (sized, "4194304\r\n", 1, "\r\n{}", truncated),
-        (plain, "content-le", 1, "", truncated),
-        ("", "", 0, "", truncated),
-        (
-            chunked,
-            "2\r\n{}\r\n",
-            3,
-            "0\r\n\r\nmore",
-            Ok((200, "{}{}{}")),
-        ),
-        (
-            chunked,
-            "00A;of=ten\r\n0123456789\r\n",
-            1,
-            "0;last\r\nx: y\n\r\n",
-            Ok((200, "0123456789")),
-        ),
-        (chunked, "2\r\n{}\r\n", 1, "0\r\nx: y\r\n", truncated),
-        (chunked, "2\r\n{}\r", 1, "", truncated),
-        (chunked, "2\r\n{}{}", 1, "", bad_chunk),
-        (chunked, "two\r\n", 1, "", bad_chunk),
-        (chunked, "0", 16385, "\r\n", bad_chunk),
-        (no_chunk, "x", 16383, "", truncated),
-        (no_chunk, "x", 16384, "", bad_chunk),
-        (
-            chunked,
-            "23\r\n{\"data\":{\"feed\":{\"total\":9,\"items\":\r\n",
-            1,
-            "1a\r\n[{\"__typename\":\"Post\"}]}}}\r\n0\r\n\r\n",
-            Ok((200, FEED)),
-        ),
+        (chunked, "0", 16_384, "\r\n", "BadChunk"),
+        (chunked, "\r\nx", 16_383, "", "BadChunk"),
     ] {
-        let text = repeated(alloc, start, piece, count, end)?;
-        let cuts = if text.len() < 500 { text.len() } else { 1 };
-        for ahead in 0..cuts.max(1) {
-            let mut wire = wire_with(alloc, text.as_str(), Vec::new(alloc))?;
-            wire.read_cut = Cut { ahead };
-            let found = ask_over(alloc, &mut wire, "{}");
-            let same = match (&found, result) {
-                (Ok(reply), Ok((status, body))) => {
-                    reply.status == status && reply.body.as_slice() == body.as_bytes()
-                }
-                (Err(fault), Err(other)) => *fault == other,
-                _ => false,
-            };
-            assert!(rt; same, "{start}{piece} {count} {end} {ahead}");
-        }
+        let reply = repeated(alloc, start, piece, count, end)?;
+        let found = outcome_of(alloc, reply.as_str(), 0)?;
+        assert_eq!(rt;
+            found.as_slice(),
+            outcome.as_bytes(),
+            "{start}{piece} {count}"
+        );
     }
     Ok(())
 }

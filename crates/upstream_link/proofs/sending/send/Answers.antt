@@ -1,4 +1,4 @@
-use Rattle.std.proofs.Common.{◌-◌, ◌+◌, ◌∙◌, length, take, drop, refl, subst, arith}
+use Rattle.std.proofs.Common.{◌-◌, ◌∙◌, length, take, drop, refl, subst, arith}
 use Rattle.outside.specs.Dials.{LastBecomes, sends}
 use Rattle.outside.proofs.Growing.{take_further, within_rest}
 use Rattle.upstream_link.proofs.Sent.{sent_none, sent_more, sent_and_failed, front_at}
