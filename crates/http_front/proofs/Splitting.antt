@@ -1,5 +1,5 @@
 -- The pieces of a value.
-use Rattle.std.proofs.Common.{◌≡◌, ℕ, ◌<◌, ◌+◌, zero, suc, cond, List, [], ◌∷◌, length, take, drop, get_or, map, refl, ap, ◌∙◌, arith, ◌≤◌, add-one, true, false}
+use Rattle.std.proofs.Common.{◌≡◌, ℕ, ◌<◌, zero, suc, cond, List, [], ◌∷◌, length, take, drop, get_or, map, refl, ap, ◌∙◌, arith}
 use Rattle.std.specs.Prelude.{◌≢◌}
 use Rattle.std.proofs.lemmas.Bool.{eq-eqb, ne_eqb}
 use Rattle.httparse.specs.Grammar.{trim_ows}
