@@ -1,38 +1,19 @@
 -- What the fields of a head say, from their names and values (RFC 9110, section 5).
-use Rattle.std.specs.Prelude.{ℕ, Bool, true, false, not, ◌&&◌, ◌||◌, List, [], ◌∷◌, map, length, drop, Option, Some, None, Result, Ok, Err, if◌then◌else◌, nat_eq, nat_lt, nat_le, ◌==◌, codes, bytes_eq}
+use Rattle.std.specs.Prelude.{ℕ, Bool, false, ◌&&◌, ◌||◌, List, [], ◌∷◌, map, length, Option, Some, None, Result, Ok, Err, if◌then◌else◌, nat_lt, nat_le, ◌==◌, codes}
 use Rattle.std.specs.List.{list_all, list_any}
-use Rattle.std.specs.Char.{is_ascii_digit, is_ascii_alphanumeric, to_ascii_lowercase}
-use Rattle.std.specs.Str.Parse.{digits_value}
+use Rattle.std.specs.Char.{is_ascii_alphanumeric}
 use Rattle.std.specs.Borrow.{Bor}
 use Rattle.httparse.specs.Grammar.{trim_ows}
-use Rattle.httparse.specs.Spans.{header_bytes}
+use Rattle.http_fields.specs.declared.lengths.BadLength.{BadLength}
+use Rattle.http_fields.specs.Fields.{NameAndValue, same_in_any_case, values_of, length_in}
 use Rattle.http_front.specs.declared.fault.FrontFault.{FrontFault}
-use Rattle.http_front.specs.declared.fault.FrontFault.TheVariants.{NoLength, BadLength}
-use Rattle.http_front.specs.declared.fields.Fields.{Fields}
-use Rattle.http_front.specs.declared.values.Values.{Values}
+use Rattle.http_front.specs.declared.fault.FrontFault.TheVariants as fault
 use Rattle.http_front.specs.declared.values.Elements.{Elements}
-
--- the name of a field, and its value without white space at its ends
-abbrev pub NameAndValue : Type 0
-NameAndValue = List ℕ × List ℕ
-
--- the same text, whatever the case of its letters
-unfoldable pub same_in_any_case : List ℕ → List ℕ → Bool
-same_in_any_case a b = bytes_eq (map to_ascii_lowercase a) (map to_ascii_lowercase b)
-
--- the values of the fields with this name, in their order
-unfoldable pub values_of : List ℕ → List NameAndValue → List (List ℕ)
-values_of name [] = []
-values_of name (field ∷ fields) = if same_in_any_case field.0 name then field.1 ∷ values_of name fields else values_of name fields
 
 -- the item of a list that has just one
 abbrev pub single : List (List ℕ) → Option (List ℕ)
 single (value ∷ []) = Some value
 single _ = None
-
-abbrev pub is_none : List (List ℕ) → Bool
-is_none [] = true
-is_none (value ∷ values) = false
 
 -- a character of a client's key: a letter, a digit, `_` or `-`
 abbrev pub is_key_byte : ℕ → Bool
@@ -49,14 +30,6 @@ if_key (Some value) = if is_key value then Some value else None
 -- the client's key, where there is one
 abbrev pub key_in : List NameAndValue → Option (List ℕ)
 key_in fields = if_key (single (values_of (codes "x-client-key") fields))
-
--- a coding of the body stands that is not `identity`
-abbrev pub is_coded : List NameAndValue → Bool
-is_coded fields = not (list_all (λ value. same_in_any_case value (codes "identity")) (values_of (codes "content-encoding") fields))
-
--- a transfer coding stands
-abbrev pub has_transfer_coding : List NameAndValue → Bool
-has_transfer_coding fields = not (is_none (values_of (codes "transfer-encoding") fields))
 
 abbrev pub before_first : ℕ → List (List ℕ) → List (List ℕ)
 before_first byte [] = (byte ∷ []) ∷ []
@@ -95,31 +68,16 @@ has_element wanted value = list_any (λ element. same_in_any_case element wanted
 abbrev pub says_close : List NameAndValue → Bool
 says_close fields = list_any (has_element (codes "close")) (values_of (codes "connection") fields)
 
--- a length: 1 to 18 digits
-abbrev pub is_length : List ℕ → Bool
-is_length value = nat_lt 0 (length value) && (nat_le (length value) 18 && list_all is_ascii_digit value)
+-- the length of the body, which must be said
+abbrev pub needed : Result (Option ℕ) BadLength → Result ℕ FrontFault
+needed (Ok None) = Err fault.NoLength
+needed (Ok (Some length)) = Ok length
+needed (Err bad) = Err fault.BadLength
 
--- a length that is this number
-abbrev pub is_length_of : ℕ → List ℕ → Bool
-is_length_of number value = is_length value && nat_eq (digits_value 10 value) number
-
--- the length that these values say, all of them alike
-abbrev pub length_among : List (List ℕ) → Result ℕ FrontFault
-length_among [] = Err NoLength
-length_among (value ∷ more) =
-    if is_length value && list_all (is_length_of (digits_value 10 value)) more then Ok (digits_value 10 value) else Err BadLength
-
--- the length of the body
-abbrev pub length_in : List NameAndValue → Result ℕ FrontFault
-length_in fields = length_among (values_of (codes "content-length") fields)
+abbrev pub body_length : List NameAndValue → Result ℕ FrontFault
+body_length fields = needed (length_in fields)
 
 -- ---- in the service of the code
-
-abbrev pub pairs_of : Fields → List NameAndValue
-pairs_of fields = map (header_bytes fields.bytes.now) fields.headers.now
-
-abbrev pub values_left : Values → List (List ℕ)
-values_left values = values_of values.name.now (drop values.at (pairs_of values.fields))
 
 abbrev pub elements_of_rest : ℕ → Option (Bor (List ℕ)) → List (List ℕ)
 elements_of_rest mark None = []

@@ -5,7 +5,8 @@ use Rattle.httparse.specs.Spans.{name_and_value}
 use Rattle.http_front.specs.declared.fault.FrontFault.{FrontFault}
 use Rattle.http_front.specs.declared.fault.FrontFault.TheVariants as fault
 use Rattle.http_front.specs.declared.head.Wanted.{Wanted}
-use Rattle.http_front.specs.Fields.{NameAndValue, key_in, is_coded, is_json, has_transfer_coding, length_in, says_close}
+use Rattle.http_fields.specs.Fields.{NameAndValue, is_coded, has_transfer_coding}
+use Rattle.http_front.specs.Fields.{key_in, is_json, body_length, says_close}
 
 -- the client's key, the length of the body, and whether the connection closes afterwards
 pub record Wants : Type 0 where
@@ -26,7 +27,7 @@ abbrev pub with_key : Bool → List NameAndValue → Option (List ℕ) → Resul
 with_key close fields None = Err fault.NoKey
 with_key close fields (Some key) =
     if is_coded fields then Err fault.Coded
-    else if is_json fields then if has_transfer_coding fields then Err fault.Chunked else with_body key close (length_in fields)
+    else if is_json fields then if has_transfer_coding fields then Err fault.Chunked else with_body key close (body_length fields)
     else Err fault.BadMedia
 
 -- the tests of a head, from its method, target, minor version and fields, in their order

@@ -1,5 +1,4 @@
 pub mod Fields
-pub mod Digits
 pub mod Heads
 pub mod Asks
 pub mod Service

@@ -3,14 +3,15 @@
 ghost use Rattle.std.specs.Prelude.{◌≡◌, ◌⊎◌, ◌≤◌, Some, None, Ok, Err, IfOk, IfErr, IfSome, length};
 ghost use Rattle.httparse.specs.Grammar.{RequestHead, print_request};
 ghost use Rattle.httparse.specs.Spans.{IsRequestAt, IsRequestWithin};
-ghost use Rattle.http_front.specs.Fields.{pairs_of};
+ghost use Rattle.http_fields.specs.Fields.{pairs_of};
 ghost use Rattle.http_front.specs.Heads.{WantedIs, wanted, wanted_by, wants};
 ghost use Rattle.http_front.specs.Asks.{in_room};
 ghost use Rattle.http_front.specs.Service.{IsOfHead, LookIs};
 
 use crate::fault::FrontFault;
-use crate::fields::Fields;
+use crate::reading::{body_length, is_json, key, says_close};
 use gql_base::Text;
+use http_fields::Fields;
 use httparse::spans::{EMPTY_HEADER_SPAN, HeaderSpan, RequestSpans, parse_request};
 use httparse::{Error, Status};
 use std::alloc::Global;
@@ -55,20 +56,20 @@ fn test_head<'a>(
     if method != b"POST".as_slice() {
         return Err(FrontFault::BadMethod);
     }
-    let Some(key) = fields.key() else {
+    let Some(key) = key(fields) else {
         return Err(FrontFault::NoKey);
     };
     if fields.is_coded() {
         return Err(FrontFault::Coded);
     }
-    if !fields.is_json() {
+    if !is_json(fields) {
         return Err(FrontFault::BadMedia);
     }
     if fields.has_transfer_coding() {
         return Err(FrontFault::Chunked);
     }
-    let close = minor == 0 || fields.says_close();
-    match fields.length() {
+    let close = minor == 0 || says_close(fields);
+    match body_length(fields) {
         Ok(length) if BODY_BYTES < length => Err(FrontFault::BodyTooLarge { length }),
         Ok(length) => Ok(Wanted { key, length, close }),
         Err(fault) => Err(fault),

@@ -3,11 +3,9 @@
 #![tactic(auto)]
 
 mod fault;
-mod fields;
 mod front;
 mod head;
 pub mod laws;
-mod lengths;
 mod reading;
 mod reply;
 pub mod sharing;

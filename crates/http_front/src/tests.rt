@@ -126,6 +126,18 @@ fn requests_have_their_first_fault(rt: HostRuntime) -> Result<(), Fail> {
         let found = first_of(alloc, text.as_bytes())?;
         assert!(rt; matches!(&found, Err(found) if *found == fault), "{text}");
     }
+    for end in 0..REQUEST.len() {
+        let found = first_of(alloc, &REQUEST.as_bytes()[..end])?;
+        let missing = (REQUEST.len() - end) as u64;
+        let fault = if end == 0 {
+            FrontFault::End
+        } else if missing > 2 {
+            FrontFault::BadHead
+        } else {
+            FrontFault::Truncated { missing }
+        };
+        assert!(rt; matches!(&found, Err(found) if *found == fault), "{end}");
+    }
     let mut long = Vec::from_slice(alloc, start.as_bytes())?;
     for _ in 0..4096 {
         long.extend_from_slice(b"a: b\r\n")?;

@@ -1,46 +1,12 @@
-//! The values of fields, and the elements of a value.
+//! The elements of a value.
 
 ghost use Rattle.std.specs.Prelude.{◌≡◌, reverse};
 ghost use Rattle.std.specs.Iterator.{YieldsFirstRef, item_count};
 ghost use Rattle.httparse.specs.Grammar.{trim_ows, skip_ows};
-ghost use Rattle.http_front.specs.Fields.{same_in_any_case, values_left, elements, elements_left, has_element};
+ghost use Rattle.http_front.specs.Fields.{elements, elements_left, has_element};
 
-use crate::fields::Fields;
+use http_fields::is_same;
 use httparse::is_space_or_tab;
-
-/// Whether two texts are the same but for the case of their ASCII letters.
-pub(crate) fn is_same(a: &[u8], b: &[u8]) -> bool
-    ensures { result ≡ same_in_any_case a.now b.now }
-{
-    a.eq_ignore_ascii_case(b)
-}
-
-/// The values of the fields with one name that are still to come.
-#[derive(Drop)]
-pub(crate) struct Values<'a> {
-    pub(crate) fields: Fields<'a>,
-    pub(crate) at: usize,
-    pub(crate) name: &'a [u8],
-}
-
-impl<'a> Iterator for Values<'a> {
-    type Item = &'a [u8];
-
-    ghost next_gives = { YieldsFirstRef values_left };
-
-    ghost remaining = { item_count values_left };
-
-    fn next(&mut self) -> Option<&'a [u8]> {
-        while self.at < self.fields.headers.len() {
-            let header = self.fields.headers[self.at];
-            self.at += 1;
-            if is_same(header.name.of(self.fields.bytes), self.name) {
-                return Some(header.value.of(self.fields.bytes));
-            }
-        }
-        None
-    }
-}
 
 fn without_start(mut text: &[u8]) -> &[u8]
     ensures { result.now ≡ skip_ows text.now }

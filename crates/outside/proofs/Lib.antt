@@ -1,4 +1,4 @@
-mod Growing
+pub mod Growing
 pub mod Taking
 pub mod Fronts
 pub mod Dialling

@@ -2,7 +2,7 @@
 use Rattle.std.proofs.Common.{rules, tests}
 use Rattle.std.proofs.lemmas.Iterator.Consumers.{YieldsList-from_first}
 use Rattle.std.proofs.lemmas.Iterator.Search.{any_from_yields_List}
-use Rattle.http_front.specs.Fields.{same_in_any_case}
+use Rattle.http_fields.specs.Fields.{same_in_any_case}
 use Rattle.http_front.specs.Fields.{elements_left}
 use Rattle.http_front.proofs.values.has_element.Goals as goal
 

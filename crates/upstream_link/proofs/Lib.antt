@@ -1,0 +1,8 @@
+pub mod Receiving
+pub mod Sent
+pub mod Lines
+pub mod Fronts
+pub mod Framed
+pub mod Answered
+pub mod Later
+pub mod OneReply

@@ -1,0 +1,6 @@
+use Rattle.std.proofs.Common.{◌∙◌, ap, take}
+use Rattle.upstream_link.proofs.Lines.{take_min}
+use Rattle.upstream_link.proofs.chunks.room_of.Goals as goal
+
+pub returns : goal.returns
+returns c = ap (λ n. take n c.args.bytes.now) c.min.ensures ∙ take_min 16384 c.args.bytes.now

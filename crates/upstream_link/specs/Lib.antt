@@ -1,0 +1,9 @@
+pub mod Replies
+pub mod ReplyHeads
+pub mod Framing
+pub mod Bodies
+pub mod Chunks
+pub mod RequestBytes
+pub mod Exchanges
+pub mod Received
+pub mod Service

@@ -1,0 +1,24 @@
+-- A reply of the upstream at the front of bytes, or its first fault.
+use Rattle.std.specs.Prelude.{◌≡◌, ℕ, ◌⊎◌, Bool, List, Result, Ok, Err}
+use Rattle.httparse.specs.Grammar.{ResponseHead, status_code}
+use Rattle.upstream_link.specs.declared.fault.LinkFault.{LinkFault}
+use Rattle.upstream_link.specs.declared.framing.Framing.{Framing}
+use Rattle.upstream_link.specs.declared.reply.UpstreamReply.{UpstreamReply}
+use Rattle.upstream_link.specs.Framing.{framing_of}
+use Rattle.upstream_link.specs.Bodies.{BodyIs}
+use Rattle.upstream_link.specs.ReplyHeads.{ReplyHeadAt, ReplyHeadFails, after_head}
+
+-- the body behind the head, by its framing
+abbrev pub HasBody : ResponseHead → Result (List ℕ) LinkFault → List ℕ → Bool → Type 0
+HasBody h r after ended = (f : Framing) × (framing_of h ≡ Ok f) × BodyIs f r after ended
+
+-- the head says that the body can't be read, or the body has a fault
+abbrev pub BodyFails : ResponseHead → LinkFault → List ℕ → Bool → Type 0
+BodyFails h f after ended = (framing_of h ≡ Err f) ⊎ HasBody h (Err f) after ended
+
+-- the reply at the front of the bytes, or its first fault
+abbrev pub ReplyOf : Result UpstreamReply LinkFault → List ℕ → Bool → Type 0
+ReplyOf (Ok reply) bytes ended =
+    (here : List ℕ) × (h : ResponseHead) × ReplyHeadAt bytes here h × (reply.status ≡ status_code h) × HasBody h (Ok reply.body.items) (after_head h here) ended
+ReplyOf (Err f) bytes ended =
+    ReplyHeadFails f bytes ended ⊎ ((here : List ℕ) × (h : ResponseHead) × ReplyHeadAt bytes here h × BodyFails h f (after_head h here) ended)
