@@ -1,0 +1,3 @@
+pub mod OpenedTrees
+pub mod Namings
+pub mod FirstFaults
