@@ -60,6 +60,6 @@ one_measure one plan bytes a b m n =
     let same = one own_name [] plan bytes m.tree n.tree m.errors n.errors own_names_differ m.reads n.reads in
     same_measure a b
     (same_cost a.cost b.cost
-      (m.types_cost ∙ (ap (reply_cost types plan) same.0 ∙ sym n.types_cost))
-      (m.fields_cost ∙ (ap (reply_cost fields plan) same.0 ∙ sym n.fields_cost)))
+    (m.types_cost ∙ (ap (reply_cost types plan) same.0 ∙ sym n.types_cost))
+    (m.fields_cost ∙ (ap (reply_cost fields plan) same.0 ∙ sym n.fields_cost)))
     (m.text ∙ (ap₂ response_text same.0 same.1 ∙ sym n.text))
