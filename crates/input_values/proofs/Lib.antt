@@ -1,0 +1,4 @@
+pub mod CoercedTrees
+pub mod ShapeTrees
+pub mod Copied
+pub mod Counted

@@ -1,0 +1,4 @@
+//! Types of inputs, and definitions of arguments and input fields.
+
+pub mod definition;
+pub mod shape;

@@ -1,0 +1,15 @@
+//! Values of input types (GraphQL October 2021, 3.4 to 3.12): what types ask for, coerced values, and how what is given
+//! for a type is coerced.
+#![tactic(auto)]
+
+mod inputs;
+mod sharing;
+mod values;
+
+pub use inputs::definition::InputDef;
+pub use inputs::shape::{Shape, ShapeLevel, TypeId, copy_shape, shape_level};
+pub use sharing::inputs_are_shared;
+pub use values::coerced::{Coerced, CoercedField};
+pub use values::copies::{copy_field, copy_value};
+pub use values::counting::{count_nodes, is_null};
+pub use values::made;
