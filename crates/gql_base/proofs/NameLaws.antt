@@ -1,2 +1,3 @@
 pub mod IndexLaws
 pub mod DistinctLaws
+pub mod RepeatedLaws

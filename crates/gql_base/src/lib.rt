@@ -19,8 +19,10 @@ pub use lexical::literals::{integer_at, string_at, string_value};
 pub use lexical::text::Text;
 pub use lexical::token::{Span, Token, TokenKind};
 pub use names::index::{NameIndex, index_of};
-pub use names::laws::distinct_names_stand_once;
+pub use names::laws::{distinct_names_stand_once, the_first_repeated_name_ends_distinct_ones};
 pub use names::named::Named;
+pub use names::owned_index::{Indexed, index_owned};
+pub use names::repeated::first_repeated;
 pub use parts::arguments::{directives, maybe_arguments, maybe_default, operation_kind};
 pub use parts::fault_laws::{a_value_has_one_fault, a_value_or_a_fault_is_read};
 pub use parts::readers::{LEVEL_LIMIT, ValueFault, read_type_ref, read_value};
@@ -40,5 +42,5 @@ pub use printing::printed_texts::{
 pub use printing::printer::Printer;
 pub use printing::printing_laws::what_is_printed_is_written_as_the_same_tree;
 pub use printing::reading_back::what_is_printed_reads_back;
-pub use sharing::{an_index_is_shared, texts_and_trees_are_shared};
+pub use sharing::{an_index_is_shared, an_owned_index_is_shared, texts_and_trees_are_shared};
 pub use ways::source::{Halt, Source};

@@ -5,6 +5,7 @@ use crate::lexical::text::Text;
 use crate::lexical::token::Token;
 use crate::names::index::NameIndex;
 use crate::names::named::Named;
+use crate::names::owned_index::Indexed;
 use crate::parts::readers::ValueFault;
 use crate::parts::trees::{Argument, Directive, Name, OperationKind, TypeRef, Value};
 
@@ -27,4 +28,9 @@ pub fn texts_and_trees_are_shared() {
 /// Threads may share an index of things that they may share.
 pub fn an_index_is_shared<T: Named + Send + Sync + 'static>() {
     is_shared::<NameIndex<'static, T>>();
+}
+
+/// Threads may share a list of things that they may share, with its index.
+pub fn an_owned_index_is_shared<T: Named + Drop + Send + Sync>() {
+    is_shared::<Indexed<T>>();
 }

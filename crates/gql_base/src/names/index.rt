@@ -1,8 +1,8 @@
 //! Finding things by their names, and whether no name stands twice.
 
-ghost use Rattle.std.specs.Prelude.{◌≡◌, map, option_copied, IfOk};
-ghost use Rattle.gql_base.specs.names.Names.{are_distinct, first_of_name, has_name};
-ghost use Rattle.gql_base.specs.names.Indexes.{FindsFirst};
+ghost use Rattle.std.specs.Prelude.{◌≡◌, ◌<◌, length, map, option_copied, IfOk, IfSome};
+ghost use Rattle.gql_base.specs.names.Names.{are_distinct, first_of_name, has_name, place_of_name};
+ghost use Rattle.gql_base.specs.names.Indexes.{at_name, FindsFrom};
 
 use crate::names::named::Named;
 use std::alloc::{AllocError, Global};
@@ -12,11 +12,11 @@ use std::collections::BTreeMap;
 #[derive(Drop)]
 pub struct NameIndex<'a, T: Named> {
     items: &'a [T],
-    /// The first of each name.
-    firsts: BTreeMap<&'a str, &'a T>,
+    /// The place of the first of each name.
+    firsts: BTreeMap<&'a str, usize>,
     /// Whether no name stands twice.
     distinct: bool,
-    ghost finds: { FindsFirst T.name_of firsts items.now },
+    ghost finds: { FindsFrom 0 (at_name firsts) T.name_of items.now },
     ghost tells: { distinct ≡ are_distinct (map T.name_of items.now) },
 }
 
@@ -28,18 +28,29 @@ impl<'a, T: Named> NameIndex<'a, T> {
         self.items
     }
 
-    /// The first of this name, in the time of a search in a tree.
+    /// The place of the first of this name, in the time of a search in a tree.
+    pub fn position(&self, name: &str) -> Option<usize>
+        ensures place { result ≡ place_of_name T.name_of self.now.items.now name.now }
+        ensures within { IfSome result (λ at. at < length self.now.items.now) }
+    {
+        self.firsts.get(name).copied()
+    }
+
+    /// The first of this name.
     pub fn first_named(&self, name: &str) -> Option<&'a T>
         ensures { option_copied result ≡ first_of_name T.name_of self.now.items.now name.now }
     {
-        self.firsts.get(name).copied()
+        match self.position(name) {
+            Some(at) => self.items.get(at),
+            None => None,
+        }
     }
 
     /// Whether something has this name.
     pub fn has(&self, name: &str) -> bool
         ensures { result ≡ has_name T.name_of self.now.items.now name.now }
     {
-        self.first_named(name).is_some()
+        self.position(name).is_some()
     }
 
     /// Whether no name stands twice.
@@ -58,8 +69,7 @@ pub fn index_of<'a, T: Named>(alloc: Global, items: &'a [T]) -> Result<NameIndex
     let mut firsts = BTreeMap::new(alloc);
     let mut distinct = true;
     for at in (0..items.len()).rev() {
-        let item = &items[at];
-        let later = firsts.insert(item.name(), item)?;
+        let later = firsts.insert(items[at].name(), at)?;
         distinct &= later.is_none();
     }
     Ok(NameIndex {

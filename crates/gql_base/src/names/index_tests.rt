@@ -2,7 +2,9 @@
 
 use crate::names::index::index_of;
 use crate::names::named::Named;
-use crate::sharing::{an_index_is_shared, texts_and_trees_are_shared};
+use crate::names::owned_index::index_owned;
+use crate::names::repeated::first_repeated;
+use crate::sharing::{an_index_is_shared, an_owned_index_is_shared, texts_and_trees_are_shared};
 use std::test::Fail;
 
 #[derive(Drop)]
@@ -20,18 +22,26 @@ impl Named for Thing {
 
 #[test]
 fn the_first_of_a_name_is_found(rt: HostRuntime) -> Result<(), Fail> {
-    let things = [
-        Thing { name: "a" },
-        Thing { name: "b" },
-        Thing { name: "a" },
-    ];
-    let index = index_of(rt.alloc(), &things)?;
+    let mut things = Vec::new(rt.alloc());
+    for name in ["a", "b", "a"] {
+        things.push(Thing { name })?;
+    }
+    assert_eq!(rt; first_repeated(rt.alloc(), &things)?, Some(2));
+    let owned = index_owned(rt.alloc(), things)?;
+    assert_eq!(rt; owned.items().len(), 3);
+    assert_eq!(rt; owned.position("b"), Some(1));
+    assert!(rt; owned.has("a"));
+    assert!(rt; owned.first_named("c").is_none());
+    let index = index_of(rt.alloc(), owned.items())?;
     assert_eq!(rt; index.items().len(), 3);
-    assert!(rt; index.has("b"));
+    assert_eq!(rt; index.position("a"), Some(0));
     assert!(rt; !index.has("c"));
     assert!(rt; matches!(index.first_named("b"), Some(thing) if thing.name == "b"));
     assert!(rt; !index.are_distinct());
+    drop(index);
+    assert_eq!(rt; owned.into_items().len(), 3);
     an_index_is_shared::<Thing>();
+    an_owned_index_is_shared::<Thing>();
     texts_and_trees_are_shared();
     Ok(())
 }

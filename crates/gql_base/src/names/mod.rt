@@ -5,3 +5,5 @@ pub mod index;
 mod index_tests;
 pub mod laws;
 pub mod named;
+pub mod owned_index;
+pub mod repeated;

@@ -1,6 +1,11 @@
-use Rattle.std.proofs.Common.{◌∙◌, ap}
-use Rattle.std.specs.Prelude.{option_copied}
+use Rattle.std.proofs.Common.{sym, ap, ◌∙◌}
+use Rattle.std.specs.Str.{bytes_eq}
+use Rattle.gql_base.proofs.NameLaws.IndexLaws.{found, standing, got}
 use Rattle.gql_base.proofs.names.index.NameIndex.first_named.Goals as goal
 
-pub returns : goal.returns
-returns g c = ap option_copied (c.copied.ensures ∙ c.get.ensures.value) ∙ c.args.self.now.finds c.args.name.now
+pub returns-in-Some : goal.returns-in-Some
+returns-in-Some g c = got _ c.get.result c.args.self.now.items.now c.in-Some.at c.get.ensures.lookup.3 c.get.ensures.lookup.1
+    ∙ sym (found (λ item. bytes_eq (g.T.Named.name_of item) c.args.name.now) c.args.self.now.items.now ∙ ap (standing c.args.self.now.items.now) (sym c.position.ensures.place ∙ c.in-Some.is))
+
+pub returns-in-None : goal.returns-in-None
+returns-in-None g c = sym (found (λ item. bytes_eq (g.T.Named.name_of item) c.args.name.now) c.args.self.now.items.now ∙ ap (standing c.args.self.now.items.now) (sym c.position.ensures.place ∙ c.in-None.is))

@@ -1,0 +1,73 @@
+//! A list that is kept with the index of its names.
+
+ghost use Rattle.std.specs.Prelude.{◌≡◌, ◌<◌, length, option_copied, IfOk, IfSome};
+ghost use Rattle.std.specs.BTreeMap.{get_by_text};
+ghost use Rattle.gql_base.specs.names.Names.{first_of_name, has_name, place_of_name};
+ghost use Rattle.gql_base.specs.names.Indexes.{FindsFrom};
+
+use crate::names::named::Named;
+use std::alloc::{AllocError, Global};
+use std::collections::BTreeMap;
+
+/// A list of things of its own, found by their names. Where the list lives elsewhere, `NameIndex` refers to it.
+#[derive(Drop)]
+pub struct Indexed<T: Named + Drop> {
+    items: Vec<T>,
+    /// The place of the first of each name.
+    firsts: BTreeMap<String, usize>,
+    ghost finds: { FindsFrom 0 (get_by_text firsts) T.name_of items.items },
+}
+
+impl<T: Named + Drop> Indexed<T> {
+    /// The things of the list, in their order.
+    pub fn items(&self) -> &[T]
+        ensures { result.now ≡ self.now.items.items }
+    {
+        &self.items
+    }
+
+    /// The things of the list without their index.
+    pub fn into_items(self) -> Vec<T>
+        ensures { result.items ≡ self.items.items }
+    {
+        self.items
+    }
+
+    /// The place of the first of this name, in the time of a search in a tree.
+    pub fn position(&self, name: &str) -> Option<usize>
+        ensures place { result ≡ place_of_name T.name_of self.now.items.items name.now }
+        ensures within { IfSome result (λ at. at < length self.now.items.items) }
+    {
+        self.firsts.get(name).copied()
+    }
+
+    /// The first of this name.
+    pub fn first_named(&self, name: &str) -> Option<&T>
+        ensures { option_copied result ≡ first_of_name T.name_of self.now.items.items name.now }
+    {
+        match self.position(name) {
+            Some(at) => self.items.get(at),
+            None => None,
+        }
+    }
+
+    /// Whether something has this name.
+    pub fn has(&self, name: &str) -> bool
+        ensures { result ≡ has_name T.name_of self.now.items.items name.now }
+    {
+        self.position(name).is_some()
+    }
+}
+
+/// The list with the index of its names. It fails for want of memory alone. The list is gone through from its end, so
+/// that the first of a name is what stays.
+pub fn index_owned<T: Named + Drop>(alloc: Global, items: Vec<T>) -> Result<Indexed<T>, AllocError>
+    ensures { IfOk result (λ index. index.items.items ≡ items.items) }
+{
+    let mut firsts = BTreeMap::new(alloc);
+    for at in (0..items.len()).rev() {
+        let name = items[at].name().to_string(alloc)?;
+        firsts.insert(name, at)?;
+    }
+    Ok(Indexed { items, firsts })
+}
