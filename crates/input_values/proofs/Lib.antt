@@ -2,3 +2,4 @@ pub mod CoercedTrees
 pub mod ShapeTrees
 pub mod Copied
 pub mod Counted
+pub mod CoercionLaws

@@ -1,2 +1,3 @@
 pub mod values
 pub mod inputs
+pub mod coercion

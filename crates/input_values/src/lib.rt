@@ -2,10 +2,12 @@
 //! for a type is coerced.
 #![tactic(auto)]
 
+mod coercion;
 mod inputs;
 mod sharing;
 mod values;
 
+pub use coercion::laws::{what_is_coerced, what_is_refused};
 pub use inputs::definition::InputDef;
 pub use inputs::shape::{Shape, ShapeLevel, TypeId, copy_shape, shape_level};
 pub use sharing::inputs_are_shared;
