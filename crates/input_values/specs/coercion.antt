@@ -8,3 +8,5 @@ pub mod Objects
 pub mod Coercion
 pub mod Relation
 pub mod Refusals
+pub mod Literals
+pub mod Kinds

@@ -1,3 +1,4 @@
 //! Coercion of what is given for an input type (GraphQL October 2021, 3.5 to 3.12).
 
 pub mod laws;
+pub mod variables;

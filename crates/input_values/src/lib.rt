@@ -9,6 +9,8 @@ mod values;
 
 pub use coercion::laws::{what_is_coerced, what_is_refused};
 pub use inputs::definition::InputDef;
+pub use coercion::variables::VariableValue;
+pub use inputs::types::{Absence, InputField, InputKind, InputTypes, scalar_kind};
 pub use inputs::shape::{Shape, ShapeLevel, TypeId, copy_shape, shape_level};
 pub use sharing::inputs_are_shared;
 pub use values::coerced::{Coerced, CoercedField};

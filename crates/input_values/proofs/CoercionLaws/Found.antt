@@ -7,11 +7,11 @@ use Rattle.input_values.specs.values.Coerced.{CoercedTree, coerced_null, coerced
 use Rattle.input_values.specs.inputs.Shapes.{ShapeTree, named_shape, list_shape, is_nullable}
 use Rattle.input_values.specs.coercion.Answers.{Path, Answer, refused, at_step, mapped, both, key_step, item_step}
 use Rattle.input_values.specs.coercion.Given.{Given, given_null, given_integer, given_fraction, given_string, given_text, given_name, given_boolean, given_list, given_object, given_variable, given_nothing, GivenItems, no_given, given_then, GivenFields, no_given_field, given_field_then, given_names, is_nothing}
-use Rattle.input_values.specs.coercion.Forms.{Absence, takes_default, stays_absent, is_required, FieldForm, InputForm, integer_form, string_form, boolean_form, id_form, custom_form, enum_form, object_form, no_form}
+use Rattle.input_values.specs.coercion.Forms.{Absence, takes_default, stays_absent, is_required, FieldForm, is_field, InputForm, integer_form, string_form, boolean_form, id_form, custom_form, enum_form, object_form, no_form}
 use Rattle.input_values.specs.coercion.Leaves.{integer_at, string_at, text_at, name_at, boolean_at, custom_at}
 use Rattle.input_values.specs.coercion.Customs.{any_value}
 use Rattle.input_values.specs.coercion.Places.{null_at, list_of_one, single_at, list_at}
-use Rattle.input_values.specs.coercion.Objects.{is_field, is_wrong, wrong_name, Finder, absent_at, field_at, with_field, fields_at, object_of, object_by, object_at}
+use Rattle.input_values.specs.coercion.Objects.{is_wrong, wrong_name, Finder, absent_at, field_at, with_field, fields_at, object_of, object_by, object_at}
 use Rattle.input_values.specs.coercion.Coercion.{coerced, items_coerced, find_coerced}
 use Rattle.input_values.specs.coercion.Relation.{IsSingle, IsList, IsAbsent, IsThere, Either, AreFields, NamesAreRight, IsObject, IsCoerced, AreCoerced, IsField}
 

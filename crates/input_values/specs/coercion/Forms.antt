@@ -1,5 +1,7 @@
 -- What a named type asks of a value that is given for it (GraphQL October 2021, 3.5, 3.9 and 3.10).
 use Rattle.std.specs.Prelude.{ℕ, Bool, List, [], ◌∷◌, Option, Some, None, if◌then◌else◌}
+use Rattle.std.specs.List.{list_any}
+use Rattle.std.specs.Str.{bytes_eq}
 use Rattle.input_values.specs.values.Coerced.{CoercedTree}
 use Rattle.input_values.specs.inputs.Shapes.{ShapeTree, is_nullable}
 use Rattle.input_values.specs.inputs.Definitions.{InputData}
@@ -27,6 +29,13 @@ pub data InputForm : Type 0 where
   object_form : (fields : List FieldForm) → InputForm
   -- a type that has no value as an input: Float, or one that is no input type
   no_form : InputForm
+
+-- whether an enum has a value of this name, and an input object a field
+abbrev pub is_value : List (List ℕ) → List ℕ → Bool
+is_value names name = list_any (λ value. bytes_eq value name) names
+
+abbrev pub is_field : List FieldForm → List ℕ → Bool
+is_field fields name = list_any (λ f. bytes_eq f.name name) fields
 
 -- without a default
 abbrev pub absence_of : ShapeTree → Absence

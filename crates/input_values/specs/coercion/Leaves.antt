@@ -1,11 +1,9 @@
 -- What leaves coerce to at a named type (GraphQL October 2021, 3.5 and 3.9).
 use Rattle.std.specs.Prelude.{ℕ, ℤ, pos, negsuc, leb, List, Bool, Ok, if◌then◌else◌}
-use Rattle.std.specs.List.{list_any}
-use Rattle.std.specs.Str.{bytes_eq}
 use Rattle.std.specs.Fmt.{signed_decimal}
 use Rattle.input_values.specs.values.Coerced.{CoercedTree, coerced_integer, coerced_string, coerced_boolean, coerced_enum}
 use Rattle.input_values.specs.coercion.Answers.{Answer, refused}
-use Rattle.input_values.specs.coercion.Forms.{InputForm, integer_form, string_form, boolean_form, id_form, custom_form, enum_form, object_form, no_form}
+use Rattle.input_values.specs.coercion.Forms.{is_value, InputForm, integer_form, string_form, boolean_form, id_form, custom_form, enum_form, object_form, no_form}
 
 -- a whole number of 32 bits
 abbrev pub is_int : ℤ → Bool
@@ -27,7 +25,7 @@ string_at custom_form s = Ok (coerced_string s)
 string_at form s = refused
 
 abbrev pub one_of_names : List (List ℕ) → List ℕ → Answer CoercedTree
-one_of_names names name = if list_any (bytes_eq name) names then Ok (coerced_enum name) else refused
+one_of_names names name = if is_value names name then Ok (coerced_enum name) else refused
 
 -- a name in a literal
 abbrev pub name_at : InputForm → List ℕ → Answer CoercedTree

@@ -6,11 +6,8 @@ use Rattle.input_values.specs.values.Coerced.{CoercedTree, coerced_object, Coerc
 use Rattle.input_values.specs.inputs.Shapes.{ShapeTree}
 use Rattle.input_values.specs.coercion.Answers.{Path, Answer, refused, mapped, both, at_step, key_step}
 use Rattle.input_values.specs.coercion.Given.{given_object, GivenFields, given_names}
-use Rattle.input_values.specs.coercion.Forms.{Absence, takes_default, stays_absent, is_required, FieldForm, InputForm, custom_form, object_form}
+use Rattle.input_values.specs.coercion.Forms.{Absence, takes_default, stays_absent, is_required, FieldForm, is_field, InputForm, custom_form, object_form}
 use Rattle.input_values.specs.coercion.Customs.{any_value}
-
-abbrev pub is_field : List FieldForm → List ℕ → Bool
-is_field fields name = list_any (λ f. bytes_eq f.name name) fields
 
 -- A name is wrong that is no field's, or that stands again where the names aren't known to be distinct; `seen` are those
 -- before it.

@@ -7,11 +7,11 @@ use Rattle.input_values.specs.values.Coerced.{CoercedTree, coerced_null, coerced
 use Rattle.input_values.specs.inputs.Shapes.{ShapeTree, named_shape, list_shape, is_nullable}
 use Rattle.input_values.specs.coercion.Answers.{Answer}
 use Rattle.input_values.specs.coercion.Given.{Given, given_null, given_integer, given_fraction, given_string, given_text, given_name, given_boolean, given_list, given_object, given_variable, given_nothing, GivenItems, no_given, given_then, GivenFields, no_given_field, given_field_then, given_names, is_nothing}
-use Rattle.input_values.specs.coercion.Forms.{Absence, takes_default, stays_absent, is_required, FieldForm, InputForm, custom_form, object_form}
+use Rattle.input_values.specs.coercion.Forms.{Absence, takes_default, stays_absent, is_required, FieldForm, is_field, InputForm, custom_form, object_form}
 use Rattle.input_values.specs.coercion.Leaves.{integer_at, string_at, text_at, name_at, boolean_at, custom_at}
 use Rattle.input_values.specs.coercion.Customs.{any_value}
 use Rattle.input_values.specs.coercion.Places.{list_of_one}
-use Rattle.input_values.specs.coercion.Objects.{is_field, with_field}
+use Rattle.input_values.specs.coercion.Objects.{with_field}
 
 -- a value that is no list, at a list in a list of one
 abbrev pub IsSingle : (ℕ → CoercedTree → Type 0) → ShapeTree → CoercedTree → Type 0
