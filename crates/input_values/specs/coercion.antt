@@ -10,3 +10,4 @@ pub mod Relation
 pub mod Refusals
 pub mod Literals
 pub mod Kinds
+pub mod Calls

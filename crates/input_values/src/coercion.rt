@@ -1,4 +1,7 @@
 //! Coercion of what is given for an input type (GraphQL October 2021, 3.5 to 3.12).
 
+pub mod faults;
+pub mod kinds;
 pub mod laws;
+pub mod leaves;
 pub mod variables;

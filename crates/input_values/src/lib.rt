@@ -7,6 +7,9 @@ mod inputs;
 mod sharing;
 mod values;
 
+pub use coercion::faults::{CoercionFault, bad_value};
+pub use coercion::kinds;
+pub use coercion::leaves;
 pub use coercion::laws::{what_is_coerced, what_is_refused};
 pub use inputs::definition::InputDef;
 pub use coercion::variables::VariableValue;
