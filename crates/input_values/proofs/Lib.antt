@@ -3,3 +3,4 @@ pub mod ShapeTrees
 pub mod Copied
 pub mod Counted
 pub mod CoercionLaws
+pub mod CoercionSteps

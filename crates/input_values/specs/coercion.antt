@@ -11,3 +11,4 @@ pub mod Refusals
 pub mod Literals
 pub mod Kinds
 pub mod Calls
+pub mod Left
