@@ -12,3 +12,4 @@ pub mod Literals
 pub mod Kinds
 pub mod Calls
 pub mod Left
+pub mod Sizes

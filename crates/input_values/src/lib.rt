@@ -12,6 +12,8 @@ pub use coercion::kinds;
 pub use coercion::leaves;
 pub use coercion::laws::{what_is_coerced, what_is_refused};
 pub use inputs::definition::InputDef;
+pub use coercion::literals::{absent_field, coerce_literal, is_nothing};
+pub use coercion::scope::{Scope, value_of};
 pub use coercion::variables::VariableValue;
 pub use inputs::types::{Absence, InputField, InputKind, InputTypes, scalar_kind};
 pub use inputs::shape::{Shape, ShapeLevel, TypeId, copy_shape, shape_level};

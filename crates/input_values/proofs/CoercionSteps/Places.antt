@@ -6,9 +6,9 @@ use Rattle.input_values.specs.inputs.Shapes.{ShapeTree, named_shape, list_shape}
 use Rattle.input_values.specs.declared.values.coerced.Coerced.{Coerced}
 use Rattle.input_values.specs.declared.coercion.faults.CoercionFault.{CoercionFault}
 use Rattle.input_values.specs.declared.coercion.faults.CoercionFault.TheVariants.{BadValue, Memory}
-use Rattle.input_values.specs.coercion.Answers.{Answer, mapped}
+use Rattle.input_values.specs.coercion.Answers.{Answer, refused, mapped}
 use Rattle.input_values.specs.coercion.Places.{single_at, list_of_one, innermost}
-use Rattle.input_values.specs.coercion.Calls.{Tells, Coerces, tree_in}
+use Rattle.input_values.specs.coercion.Calls.{Tells, TellsHere, Coerces, tree_in}
 
 -- at a list of an item, the innermost type is that of the item
 pub item_below : (limit before now : ℕ) (named : ℕ → Answer CoercedTree) (inner : Result (Option Coerced) CoercionFault) (s i : ShapeTree) (n : Bool) → s ≡ list_shape i n → Coerces limit before now inner (named (innermost s)) → Coerces limit before now inner (named (innermost i))
@@ -36,3 +36,8 @@ one_list_more limit before now mid item r a c e h =
 pub mapped_tells : {A B : Type 0} (g : A → B) (f : CoercionFault) (a : Answer A) → Tells f a → Tells f (mapped g a)
 mapped_tells g (BadValue path) a h = ap (mapped g) h
 mapped_tells g Memory a h = tt
+
+-- a fault of the place itself
+pub tells_here : (A : Type 0) (f : CoercionFault) → TellsHere f → Tells f (refused {A = A})
+tells_here A (BadValue path) h = ap Err (sym h)
+tells_here A Memory h = tt
