@@ -3,6 +3,7 @@
 #![tactic(auto)]
 
 mod coercion;
+mod defaults;
 mod inputs;
 mod sharing;
 mod values;
@@ -11,6 +12,7 @@ pub use coercion::faults::{CoercionFault, bad_value};
 pub use coercion::kinds;
 pub use coercion::leaves;
 pub use coercion::laws::{what_is_coerced, what_is_refused};
+pub use defaults::drafts::{DraftField, DraftType};
 pub use inputs::definition::InputDef;
 pub use coercion::literals::{absent_field, coerce_literal, is_nothing};
 pub use coercion::scope::{Scope, value_of};

@@ -1,0 +1,3 @@
+//! Defaults as the text of a schema has them, and what they come to.
+
+pub mod drafts;
