@@ -4,3 +4,4 @@ pub mod Copied
 pub mod Counted
 pub mod CoercionLaws
 pub mod CoercionSteps
+pub mod FillingSteps

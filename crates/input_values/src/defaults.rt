@@ -1,3 +1,4 @@
 //! Defaults as the text of a schema has them, and what they come to.
 
 pub mod drafts;
+pub mod filled;

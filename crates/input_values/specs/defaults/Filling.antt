@@ -1,10 +1,14 @@
 -- Drafts in the program, and the values of defaults that were found so far.
 use Rattle.std.specs.Prelude.{ℕ, suc, ◌≡◌, List, [], ◌∷◌, map, Option, Some, None, option_map, slice_get}
 use Rattle.std.specs.Borrow.{Bor}
+use Rattle.std.specs.BTreeMap.{BTreeMap, get}
+use Rattle.std.specs.Ordering.{nat_cmp, ordering_then}
 use Rattle.gql_base.specs.declared.parts.trees.Value.{Value}
 use Rattle.gql_base.specs.parts.Trees.{value_tree}
 use Rattle.gql_base.specs.parts.Values.{ValueTree}
-use Rattle.input_values.specs.values.Coerced.{CoercedTree}
+use Rattle.input_values.specs.values.Coerced.{CoercedTree, coerced_tree}
+use Rattle.input_values.specs.declared.values.coerced.Coerced.{Coerced}
+use Rattle.input_values.specs.declared.defaults.filled.FilledTypes.{FilledTypes}
 use Rattle.input_values.specs.inputs.Shapes.{ShapeTree, shape_tree}
 use Rattle.input_values.specs.coercion.Forms.{Absence, takes_default, is_required, absence_of, FieldForm, InputForm, enum_form, object_form, no_form}
 use Rattle.input_values.specs.coercion.Kinds.{scalar_form_of}
@@ -56,3 +60,15 @@ table_form values (drafted fields) = object_form (table_fields values 0 fields)
 
 abbrev pub table_forms : (ℕ → Draft) → Table → ℕ → InputForm
 table_forms draft table of = table_form (table of) (draft of)
+
+-- the values that a map of places holds
+abbrev pub table_of : BTreeMap (ℕ × ℕ) Coerced → Table
+table_of values of at = option_map coerced_tree (get (λ (x y : ℕ × ℕ). ordering_then (nat_cmp x.0 y.0) (nat_cmp x.1 y.1)) values (of, at))
+
+abbrev pub filled_forms : FilledTypes → ℕ → InputForm
+filled_forms t = table_forms (drafts t.types.items) (table_of t.values)
+
+-- a list that may be left out
+abbrev pub listed : {A : Type 0} → Option (List A) → List A
+listed None = []
+listed (Some xs) = xs
