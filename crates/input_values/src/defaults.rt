@@ -3,3 +3,4 @@
 pub mod drafts;
 pub mod filled;
 pub mod filling;
+pub mod rounds;

@@ -50,14 +50,14 @@ no_ok path t e = absurd (differ path t e)
 
 -- a leaf is refused at an input object
 leaf_grows : (leaf : InputForm → Answer CoercedTree) (less more : InputForm) (t : CoercedTree) → ((fs : List FieldForm) → leaf (object_form fs) ≡ Err []) → FormGrows less more → leaf less ≡ Ok t → leaf more ≡ Ok t
-leaf_grows leaf integer_form more t no grows is = ap leaf grows ∙ is
-leaf_grows leaf string_form more t no grows is = ap leaf grows ∙ is
-leaf_grows leaf boolean_form more t no grows is = ap leaf grows ∙ is
-leaf_grows leaf id_form more t no grows is = ap leaf grows ∙ is
-leaf_grows leaf custom_form more t no grows is = ap leaf grows ∙ is
-leaf_grows leaf (enum_form names) more t no grows is = ap leaf grows ∙ is
-leaf_grows leaf no_form more t no grows is = ap leaf grows ∙ is
-leaf_grows leaf (object_form fs) more t no grows is = no_ok [] t (sym (no fs) ∙ is)
+leaf_grows leaf integer_form more t never grows is = ap leaf grows ∙ is
+leaf_grows leaf string_form more t never grows is = ap leaf grows ∙ is
+leaf_grows leaf boolean_form more t never grows is = ap leaf grows ∙ is
+leaf_grows leaf id_form more t never grows is = ap leaf grows ∙ is
+leaf_grows leaf custom_form more t never grows is = ap leaf grows ∙ is
+leaf_grows leaf (enum_form names) more t never grows is = ap leaf grows ∙ is
+leaf_grows leaf no_form more t never grows is = ap leaf grows ∙ is
+leaf_grows leaf (object_form fs) more t never grows is = no_ok [] t (sym (never fs) ∙ is)
 
 single_grows : (P Q : ℕ → CoercedTree → Type 0) → ((of : ℕ) (t : CoercedTree) → P of t → Q of t) → (s : ShapeTree) (t : CoercedTree) → IsSingle P s t → IsSingle Q s t
 single_grows P Q each (named_shape of nullable) t is = each of t is

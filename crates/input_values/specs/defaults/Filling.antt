@@ -2,6 +2,7 @@
 use Rattle.std.specs.Prelude.{ℕ, suc, ◌≡◌, List, [], ◌∷◌, map, Option, Some, None, option_map, slice_get}
 use Rattle.std.specs.Borrow.{Bor}
 use Rattle.std.specs.BTreeMap.{BTreeMap, get}
+use Rattle.std.specs.declared.cmp.Ordering.{Ordering}
 use Rattle.std.specs.Ordering.{nat_cmp, ordering_then}
 use Rattle.gql_base.specs.declared.parts.trees.Value.{Value}
 use Rattle.gql_base.specs.parts.Trees.{value_tree}
@@ -61,9 +62,13 @@ table_form values (drafted fields) = object_form (table_fields values 0 fields)
 abbrev pub table_forms : (ℕ → Draft) → Table → ℕ → InputForm
 table_forms draft table of = table_form (table of) (draft of)
 
+-- the order of places
+abbrev pub pair_cmp : ℕ × ℕ → ℕ × ℕ → Ordering
+pair_cmp = λ x y. ordering_then (nat_cmp x.0 y.0) (nat_cmp x.1 y.1)
+
 -- the values that a map of places holds
 abbrev pub table_of : BTreeMap (ℕ × ℕ) Coerced → Table
-table_of values of at = option_map coerced_tree (get (λ (x y : ℕ × ℕ). ordering_then (nat_cmp x.0 y.0) (nat_cmp x.1 y.1)) values (of, at))
+table_of values of at = option_map coerced_tree (get pair_cmp values (of, at))
 
 abbrev pub filled_forms : FilledTypes → ℕ → InputForm
 filled_forms t = table_forms (drafts t.types.items) (table_of t.values)

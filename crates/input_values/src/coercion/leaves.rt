@@ -26,11 +26,7 @@ pub fn null(limit: u32, count: &mut u64) -> Result<Option<Coerced>, CoercionFaul
 }
 
 /// A whole number.
-pub fn integer(
-    number: i128,
-    limit: u32,
-    count: &mut u64,
-) -> Result<Option<Coerced>, CoercionFault>
+pub fn integer(number: i128, limit: u32, count: &mut u64) -> Result<Option<Coerced>, CoercionFault>
     ensures { Coerces limit count.old count.new result (Ok (coerced_integer number)) }
 {
     count_node(limit, count);
@@ -41,11 +37,7 @@ pub fn integer(
 }
 
 /// A truth value.
-pub fn boolean(
-    truth: bool,
-    limit: u32,
-    count: &mut u64,
-) -> Result<Option<Coerced>, CoercionFault>
+pub fn boolean(truth: bool, limit: u32, count: &mut u64) -> Result<Option<Coerced>, CoercionFault>
     ensures { Coerces limit count.old count.new result (Ok (coerced_boolean truth)) }
 {
     count_node(limit, count);

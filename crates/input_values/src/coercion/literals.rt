@@ -82,7 +82,14 @@ fn coerce_integer<T: InputTypes>(
 ) -> Result<Option<Coerced>, CoercionFault>
     ensures { Coerces scope.now.limit count.old count.new result (coerced (T.forms scope.now.types.now) (given_integer number) (shape_tree shape.now)) }
 {
-    let inner = integer_at(alloc, scope.types, innermost(shape), number, scope.limit, count);
+    let inner = integer_at(
+        alloc,
+        scope.types,
+        innermost(shape),
+        number,
+        scope.limit,
+        count,
+    );
     wrapped(alloc, shape, inner, scope.limit, count)
 }
 
@@ -96,7 +103,14 @@ fn coerce_string<T: InputTypes>(
 ) -> Result<Option<Coerced>, CoercionFault>
     ensures { Coerces scope.now.limit count.old count.new result (coerced (T.forms scope.now.types.now) (given_string text.now) (shape_tree shape.now)) }
 {
-    let inner = string_at(alloc, scope.types, innermost(shape), text, scope.limit, count);
+    let inner = string_at(
+        alloc,
+        scope.types,
+        innermost(shape),
+        text,
+        scope.limit,
+        count,
+    );
     wrapped(alloc, shape, inner, scope.limit, count)
 }
 
@@ -110,7 +124,14 @@ fn coerce_boolean<T: InputTypes>(
 ) -> Result<Option<Coerced>, CoercionFault>
     ensures { Coerces scope.now.limit count.old count.new result (coerced (T.forms scope.now.types.now) (given_boolean truth) (shape_tree shape.now)) }
 {
-    let inner = boolean_at(alloc, scope.types, innermost(shape), truth, scope.limit, count);
+    let inner = boolean_at(
+        alloc,
+        scope.types,
+        innermost(shape),
+        truth,
+        scope.limit,
+        count,
+    );
     wrapped(alloc, shape, inner, scope.limit, count)
 }
 
@@ -124,7 +145,14 @@ fn coerce_name<T: InputTypes>(
 ) -> Result<Option<Coerced>, CoercionFault>
     ensures { Coerces scope.now.limit count.old count.new result (coerced (T.forms scope.now.types.now) (given_name name.now) (shape_tree shape.now)) }
 {
-    let inner = name_at(alloc, scope.types, innermost(shape), name, scope.limit, count);
+    let inner = name_at(
+        alloc,
+        scope.types,
+        innermost(shape),
+        name,
+        scope.limit,
+        count,
+    );
     wrapped(alloc, shape, inner, scope.limit, count)
 }
 

@@ -7,8 +7,8 @@ ghost use Rattle.input_values.specs.coercion.Forms.{is_value, is_field, names_of
 ghost use Rattle.input_values.specs.coercion.Kinds.{IsOfKind, field_seen, absence_seen, scalar_form_of};
 ghost use Rattle.input_values.specs.defaults.Filling.{field_draft, listed, literal_seen, filled_forms, table_of, table_absence, table_field, table_fields};
 
-use crate::defaults::drafts::{DraftField, DraftType};
 use crate::coercion::places::is_nullable;
+use crate::defaults::drafts::{DraftField, DraftType};
 use crate::inputs::shape::{Shape, TypeId};
 use crate::inputs::types::{Absence, InputField, InputKind, InputTypes};
 use crate::values::coerced::Coerced;
@@ -18,9 +18,9 @@ use std::collections::BTreeMap;
 /// Types with the values of their defaults.
 #[derive(Drop)]
 pub struct FilledTypes<'a> {
-    types: Vec<DraftType<'a>>,
+    pub(crate) types: Vec<DraftType<'a>>,
     /// The values that were found, by the number of the type and the place of the field.
-    values: BTreeMap<(usize, usize), Coerced>,
+    pub(crate) values: BTreeMap<(usize, usize), Coerced>,
 }
 
 impl<'a> InputTypes for FilledTypes<'a> {
@@ -134,11 +134,7 @@ fn field_at<'b>(
 }
 
 /// What a field is without a value, beside the value of its default.
-fn absence<'b>(
-    literal: Option<&Value>,
-    shape: &Shape,
-    value: Option<&'b Coerced>,
-) -> Absence<'b>
+fn absence<'b>(literal: Option<&Value>, shape: &Shape, value: Option<&'b Coerced>) -> Absence<'b>
     ensures { absence_seen result ≡ table_absence (literal_seen literal.entry) (option_map (λ v. coerced_tree v.now) value.entry) (shape_tree shape.now) }
 {
     match literal {

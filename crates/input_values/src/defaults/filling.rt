@@ -1,5 +1,4 @@
-//! What defaults come to. In rounds, each default without a value is coerced beside those that were found before, until a
-//! round finds none.
+//! What the literals of defaults come to.
 
 ghost use Rattle.std.specs.Prelude.{Ok};
 ghost use Rattle.gql_base.specs.parts.Trees.{value_tree};
