@@ -31,41 +31,41 @@ fn field(alloc: Global, name: &str, value: Value) -> Result<Argument, Fail> {
     })
 }
 
+fn draft<'a>(name: &'a str, shape: Shape, default: Option<&'a Value>) -> DraftField<'a> {
+    DraftField {
+        name,
+        shape,
+        default,
+    }
+}
+
 /// `input A { n: Int = 7, b: B = {} } input B { s: Int! = 2, c: B }`, as numbers 1 and 2 after Int.
-#[test]
-fn defaults_fill_one_another(rt: HostRuntime) -> Result<(), Fail> {
-    let alloc = rt.alloc();
-    let (seven, two) = (Value::Int(7), Value::Int(2));
-    let empty = Value::Object(Vec::new(alloc));
+fn drafts<'a>(
+    alloc: Global,
+    names: &'a [Text; 2],
+    literals: &'a [Value; 3],
+) -> Result<Vec<DraftType<'a>>, Fail> {
     let mut fields = Vec::new(alloc);
-    fields.push(DraftField {
-        name: "n",
-        shape: named(0, true),
-        default: Some(&seven),
-    })?;
-    fields.push(DraftField {
-        name: "b",
-        shape: named(2, true),
-        default: Some(&empty),
-    })?;
+    fields.push(draft(names[0].as_str(), named(0, true), Some(&literals[0])))?;
+    fields.push(draft(names[1].as_str(), named(2, true), Some(&literals[2])))?;
     let mut others = Vec::new(alloc);
-    others.push(DraftField {
-        name: "s",
-        shape: named(0, false),
-        default: Some(&two),
-    })?;
-    others.push(DraftField {
-        name: "c",
-        shape: named(2, true),
-        default: None,
-    })?;
+    others.push(draft(names[0].as_str(), named(0, false), Some(&literals[1])))?;
+    others.push(draft(names[1].as_str(), named(2, true), None))?;
     let mut types = Vec::new(alloc);
     types.push(DraftType::Simple(InputKind::Int))?;
     types.push(DraftType::Object(index_owned(alloc, fields)?))?;
     types.push(DraftType::Object(index_owned(alloc, others)?))?;
-    let filled = fill(alloc, types)?;
+    Ok(types)
+}
+
+#[test]
+fn defaults_fill_one_another(rt: HostRuntime) -> Result<(), Fail> {
+    let alloc = rt.alloc();
+    let names = [Text::copy_of(alloc, "n")?, Text::copy_of(alloc, "b")?];
+    let literals = [Value::Int(7), Value::Int(2), Value::Object(Vec::new(alloc))];
+    let filled = fill(alloc, drafts(alloc, &names, &literals)?)?;
     assert!(rt; filled.has_field(TypeId { number: 1 }, "b"));
-    let value = match coerce_default(alloc, &filled, &named(1, true), &empty) {
+    let value = match coerce_default(alloc, &filled, &named(1, true), &literals[2]) {
         Ok(value) => value,
         Err(DefaultFault::Bad) => Coerced::Null,
         Err(DefaultFault::Memory) => Coerced::Null,
