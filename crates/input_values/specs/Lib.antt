@@ -1,0 +1,4 @@
+pub mod values
+pub mod inputs
+pub mod coercion
+pub mod defaults

@@ -1,0 +1,15 @@
+pub mod Given
+pub mod Forms
+pub mod Answers
+pub mod Leaves
+pub mod Customs
+pub mod Places
+pub mod Objects
+pub mod Coercion
+pub mod Relation
+pub mod Refusals
+pub mod Literals
+pub mod Kinds
+pub mod Calls
+pub mod Left
+pub mod Sizes

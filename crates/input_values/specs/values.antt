@@ -1,0 +1,2 @@
+pub mod Coerced
+pub mod Counting

@@ -1,0 +1,108 @@
+//! Values of custom scalars, as literals (GraphQL October 2021, 3.5.5): any value without a variable, in which no name
+//! stands twice in one object.
+
+ghost use Rattle.std.specs.Prelude.{◌≡◌, IfOk, false};
+ghost use Rattle.gql_base.specs.names.Names.{are_distinct};
+ghost use Rattle.gql_base.specs.parts.Trees.{value_tree};
+ghost use Rattle.input_values.specs.values.Coerced.{coerced_object};
+ghost use Rattle.input_values.specs.coercion.Answers.{mapped};
+ghost use Rattle.input_values.specs.coercion.Given.{given_list, given_object};
+ghost use Rattle.input_values.specs.coercion.Customs.{any_value, any_fields};
+ghost use Rattle.input_values.specs.coercion.Literals.{no_variables, literal_given, literal_items, literal_fields};
+ghost use Rattle.input_values.specs.coercion.Sizes.{items_written, fields_written, names_written};
+ghost use Rattle.input_values.specs.coercion.Calls.{Coerces};
+
+use crate::coercion::building::{list_within, object_within, push_field, push_item};
+use crate::coercion::faults::{CoercionFault, bad_value};
+use crate::coercion::leaves::{boolean, enum_value, integer, null, string};
+use crate::values::coerced::Coerced;
+use crate::values::counting::count_node;
+use gql_base::{Argument, Value, index_of};
+use std::alloc::{AllocError, Global};
+
+/// Any value without a variable.
+#[cycle(any)]
+#[tactic(auto, using(crate::proofs::CoercionSteps::Literals::literal_trees))]
+fn any_literal(
+    alloc: Global,
+    value: &Value,
+    limit: u32,
+    count: &mut u64,
+) -> Result<Option<Coerced>, CoercionFault>
+    ensures { Coerces limit count.old count.new result (any_value (literal_given no_variables (value_tree value.now))) }
+{
+    match value {
+        Value::Var(_) => Err(bad_value(alloc)),
+        Value::Int(number) => integer(*number, limit, count),
+        Value::Str(text) => string(alloc, text.as_str(), limit, count),
+        Value::Bool(truth) => boolean(*truth, limit, count),
+        Value::Null => null(limit, count),
+        Value::EnumName(name) => enum_value(alloc, name.text.as_str(), limit, count),
+        Value::List(items) => any_list(alloc, items.as_slice(), limit, count),
+        Value::Object(fields) => any_object(alloc, fields.as_slice(), limit, count),
+    }
+}
+
+/// A list of any values.
+#[cycle(any)]
+pub(crate) fn any_list(
+    alloc: Global,
+    items: &[Value],
+    limit: u32,
+    count: &mut u64,
+) -> Result<Option<Coerced>, CoercionFault>
+    ensures { Coerces limit count.old count.new result (any_value (given_list (literal_items no_variables (items_written items.now)))) }
+{
+    count_node(limit, count);
+    let mut built = Vec::new(alloc);
+    'items: for item in items {
+        let value = any_literal(alloc, item, limit, count)?;
+        push_item(&mut built, value)?;
+    }
+    Ok(list_within(built, limit, *count))
+}
+
+/// An object of any values, in which no name stands twice.
+#[cycle(any)]
+pub(crate) fn any_object(
+    alloc: Global,
+    fields: &[Argument],
+    limit: u32,
+    count: &mut u64,
+) -> Result<Option<Coerced>, CoercionFault>
+    ensures { Coerces limit count.old count.new result (any_value (given_object false (literal_fields no_variables (fields_written fields.now)))) }
+{
+    if are_distinct(alloc, fields)? {
+        any_fields(alloc, fields, limit, count)
+    } else {
+        Err(bad_value(alloc))
+    }
+}
+
+/// The fields of an object of any values.
+#[cycle(any)]
+fn any_fields(
+    alloc: Global,
+    fields: &[Argument],
+    limit: u32,
+    count: &mut u64,
+) -> Result<Option<Coerced>, CoercionFault>
+    ensures { Coerces limit count.old count.new result (mapped coerced_object (any_fields (literal_fields no_variables (fields_written fields.now)))) }
+{
+    count_node(limit, count);
+    let mut built = Vec::new(alloc);
+    'fields: for field in fields {
+        match any_literal(alloc, &field.value, limit, count) {
+            Ok(value) => push_field(alloc, &mut built, field.name.text.as_str(), value)?,
+            Err(fault) => return Err(fault),
+        }
+    }
+    Ok(object_within(built, limit, *count))
+}
+
+/// Whether no name is written twice.
+fn are_distinct(alloc: Global, fields: &[Argument]) -> Result<bool, AllocError>
+    ensures { IfOk result (λ distinct. distinct ≡ are_distinct (names_written fields.now)) }
+{
+    Ok(index_of(alloc, fields)?.are_distinct())
+}

@@ -1,0 +1,5 @@
+//! Types of inputs, and definitions of arguments and input fields.
+
+pub mod definition;
+pub mod shape;
+pub mod types;

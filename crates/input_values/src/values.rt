@@ -1,0 +1,6 @@
+//! Coerced values.
+
+pub mod coerced;
+pub mod copies;
+pub mod counting;
+pub mod made;

@@ -1,0 +1,27 @@
+//! Coerced values (GraphQL October 2021, 3.4 to 3.12).
+
+use gql_base::Text;
+
+/// A value that was coerced to an input type.
+#[derive(Drop)]
+#[cycle(coerced)]
+pub enum Coerced {
+    Null,
+    Int(i128),
+    Str(Text),
+    Bool(bool),
+    /// A value of an enum, by its name.
+    EnumName(Text),
+    List(Vec<Coerced>),
+    /// An input object, by its fields in the order of their definitions; or an object in the value of a custom scalar,
+    /// by its fields in the order in which they were given.
+    Object(Vec<CoercedField>),
+}
+
+/// A field of an object.
+#[derive(Drop)]
+#[cycle(coerced)]
+pub struct CoercedField {
+    pub name: Text,
+    pub value: Coerced,
+}

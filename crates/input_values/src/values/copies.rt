@@ -1,0 +1,56 @@
+//! Copies of coerced values.
+
+ghost use Rattle.std.specs.Prelude.{◌≡◌, IfOk, map};
+ghost use Rattle.input_values.specs.values.Coerced.{coerced_tree, named_tree};
+
+use crate::values::coerced::{Coerced, CoercedField};
+use gql_base::Text;
+use std::alloc::{AllocError, Global};
+
+/// A copy of a coerced value. It fails for want of memory alone.
+#[cycle(copies)]
+pub fn copy_value(alloc: Global, value: &Coerced) -> Result<Coerced, AllocError>
+    ensures { IfOk result (λ copy. coerced_tree copy ≡ coerced_tree value.now) }
+{
+    match value {
+        Coerced::Null => Ok(Coerced::Null),
+        Coerced::Int(number) => Ok(Coerced::Int(*number)),
+        Coerced::Str(text) => Ok(Coerced::Str(Text::copy_of(alloc, text.as_str())?)),
+        Coerced::Bool(truth) => Ok(Coerced::Bool(*truth)),
+        Coerced::EnumName(name) => Ok(Coerced::EnumName(Text::copy_of(alloc, name.as_str())?)),
+        Coerced::List(items) => Ok(Coerced::List(copy_items(alloc, items.as_slice())?)),
+        Coerced::Object(fields) => Ok(Coerced::Object(copy_fields(alloc, fields.as_slice())?)),
+    }
+}
+
+#[cycle(copies)]
+fn copy_items(alloc: Global, items: &[Coerced]) -> Result<Vec<Coerced>, AllocError>
+    ensures { IfOk result (λ copies. map coerced_tree copies.items ≡ map coerced_tree items.now) }
+{
+    let mut copies = Vec::new(alloc);
+    'items: for item in items {
+        copies.push(copy_value(alloc, item)?)?;
+    }
+    Ok(copies)
+}
+
+#[cycle(copies)]
+fn copy_fields(alloc: Global, fields: &[CoercedField]) -> Result<Vec<CoercedField>, AllocError>
+    ensures { IfOk result (λ copies. map named_tree copies.items ≡ map named_tree fields.now) }
+{
+    let mut copies = Vec::new(alloc);
+    'fields: for field in fields {
+        copies.push(copy_field(alloc, field)?)?;
+    }
+    Ok(copies)
+}
+
+/// A copy of a field. It fails for want of memory alone.
+#[cycle(copies)]
+pub fn copy_field(alloc: Global, field: &CoercedField) -> Result<CoercedField, AllocError>
+    ensures { IfOk result (λ copy. named_tree copy ≡ named_tree field.now) }
+{
+    let name = Text::copy_of(alloc, field.name.as_str())?;
+    let value = copy_value(alloc, &field.value)?;
+    Ok(CoercedField { name, value })
+}

@@ -1,0 +1,71 @@
+//! Coerced values that are made, and the trees that they stand for.
+
+ghost use Rattle.std.specs.Prelude.{◌≡◌, map};
+ghost use Rattle.input_values.specs.values.Coerced.{coerced_tree, named_tree, coerced_null, coerced_integer, coerced_string, coerced_boolean, coerced_enum, coerced_list, coerced_object, trees_from, named_trees_from};
+
+use crate::values::coerced::{Coerced, CoercedField};
+use gql_base::Text;
+
+/// Null.
+#[tactic(auto, unfolding(crate::specs::values::Coerced::coerced_tree))]
+pub fn null() -> Coerced
+    ensures { coerced_tree result ≡ coerced_null }
+{
+    Coerced::Null
+}
+
+/// A whole number.
+#[tactic(auto, unfolding(crate::specs::values::Coerced::coerced_tree))]
+pub fn integer(number: i128) -> Coerced
+    ensures { coerced_tree result ≡ coerced_integer number }
+{
+    Coerced::Int(number)
+}
+
+/// A string.
+#[tactic(auto, unfolding(crate::specs::values::Coerced::coerced_tree))]
+pub fn string(text: Text) -> Coerced
+    ensures { coerced_tree result ≡ coerced_string text }
+{
+    Coerced::Str(text)
+}
+
+/// A truth value.
+#[tactic(auto, unfolding(crate::specs::values::Coerced::coerced_tree))]
+pub fn boolean(truth: bool) -> Coerced
+    ensures { coerced_tree result ≡ coerced_boolean truth }
+{
+    Coerced::Bool(truth)
+}
+
+/// The value of an enum that has this name.
+#[tactic(auto, unfolding(crate::specs::values::Coerced::coerced_tree))]
+pub fn enum_value(name: Text) -> Coerced
+    ensures { coerced_tree result ≡ coerced_enum name }
+{
+    Coerced::EnumName(name)
+}
+
+/// A list of these items.
+#[tactic(auto, using(crate::proofs::CoercedTrees::list_made))]
+pub fn list(items: Vec<Coerced>) -> Coerced
+    ensures { coerced_tree result ≡ coerced_list (trees_from (map coerced_tree items.items)) }
+{
+    Coerced::List(items)
+}
+
+/// An object of these fields.
+#[tactic(auto, using(crate::proofs::CoercedTrees::object_made))]
+pub fn object(fields: Vec<CoercedField>) -> Coerced
+    ensures { coerced_tree result ≡ coerced_object (named_trees_from (map named_tree fields.items)) }
+{
+    Coerced::Object(fields)
+}
+
+/// A field of an object.
+#[tactic(auto, using(crate::proofs::CoercedTrees::field_made))]
+pub fn field(name: Text, value: Coerced) -> CoercedField
+    ensures { named_tree result ≡ (name, coerced_tree value) }
+{
+    CoercedField { name, value }
+}
