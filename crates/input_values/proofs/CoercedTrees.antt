@@ -2,7 +2,7 @@
 use Rattle.std.proofs.Common.{◌≡◌, ℕ, ℤ, Bool, List, map, Vec, Global}
 use Rattle.input_values.specs.declared.values.coerced.Coerced.{Coerced}
 use Rattle.input_values.specs.declared.values.coerced.CoercedField.{CoercedField}
-use Rattle.input_values.specs.declared.values.coerced.Coerced.TheOpen.{Coerced-F, CoercedField-F}
+use Rattle.input_values.specs.declared.values.coerced.Coerced.TheOpen.{Coerced-F}
 use Rattle.input_values.specs.declared.values.coerced.Coerced.TheFolds.{fold-roll-Coerced, fold_out-CoercedField, fold-roll-CoercedField}
 use Rattle.input_values.specs.declared.values.coerced.Coerced.TheViews.{List as ListValue, Object as ObjectValue, roll-CoercedField}
 use Rattle.input_values.specs.declared.values.coerced.Coerced.TheBlock.{Int as IntValue, Str as StrValue, Bool as BoolValue, Null as NullValue, EnumName as EnumValue}

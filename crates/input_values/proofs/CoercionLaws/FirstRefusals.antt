@@ -1,5 +1,5 @@
 -- The place that is told is the first of all that are refused.
-use Rattle.std.proofs.Common.{◌≡◌, ℕ, suc, List, [], ◌∷◌, ◌++◌, map, Bool, true, false, not, ◌||◌, cond, bytes_eq, Option, Some, None, option_map, Result, Ok, Err, refl, sym, ap, ◌∙◌, subst}
+use Rattle.std.proofs.Common.{◌≡◌, ℕ, suc, List, [], ◌∷◌, ◌++◌, map, Bool, true, false, cond, bytes_eq, Option, Some, None, option_map, Ok, Err, refl, sym, ap, ◌∙◌, subst}
 use Rattle.std.specs.Option.{option_or}
 use Rattle.input_values.specs.values.Coerced.{CoercedTree, coerced_null, coerced_list, coerced_object, CoercedTrees, coerced_then, CoercedFields}
 use Rattle.input_values.specs.inputs.Shapes.{ShapeTree, named_shape, list_shape, is_nullable}
@@ -9,7 +9,7 @@ use Rattle.input_values.specs.coercion.Forms.{FieldForm, InputForm, integer_form
 use Rattle.input_values.specs.coercion.Leaves.{integer_at, string_at, text_at, name_at, boolean_at, custom_at}
 use Rattle.input_values.specs.coercion.Customs.{any_value}
 use Rattle.input_values.specs.coercion.Places.{null_at, variable_at, list_of_one, single_at, list_at}
-use Rattle.input_values.specs.coercion.Objects.{is_wrong, wrong_name, Finder, absent_at, field_at, with_field, fields_at, object_of, object_by, object_at}
+use Rattle.input_values.specs.coercion.Objects.{is_wrong, wrong_name, Finder, absent_at, field_at, with_field, fields_at, object_of, object_by}
 use Rattle.input_values.specs.coercion.Coercion.{coerced, items_coerced, find_coerced}
 use Rattle.input_values.specs.coercion.Refusals.{Paths, refusals, below, null_refusals, single_refusals, list_refusals, field_refusals, fields_refusals, wrong_names, object_refusals, all_refusals, items_refusals, find_refusals, first_path}
 

@@ -1,5 +1,5 @@
 -- What a given value comes to is what the relation says, and nothing else.
-use Rattle.std.proofs.Common.{◌≡◌, ◌+◌, ℕ, suc, List, [], ◌∷◌, ◌++◌, map, Bool, true, false, true≢false, not, ◌&&◌, ◌||◌, cond, bytes_eq, Option, Some, None, Result, Ok, Err, refl, sym, ap, ◌∙◌}
+use Rattle.std.proofs.Common.{◌≡◌, ◌+◌, ℕ, suc, List, [], ◌∷◌, ◌++◌, Bool, true, false, true≢false, not, ◌&&◌, ◌||◌, cond, bytes_eq, Option, Some, None, Ok, Err, refl, sym, ap, ◌∙◌}
 use Rattle.std.specs.List.{list_any, list_all}
 use Rattle.gql_base.specs.names.Names.{are_distinct, repeated_from, first_repeated}
 use Rattle.gql_base.proofs.NameLaws.RepeatedLaws.{distinct_none, none_distinct}
@@ -11,7 +11,7 @@ use Rattle.input_values.specs.coercion.Forms.{Absence, takes_default, stays_abse
 use Rattle.input_values.specs.coercion.Leaves.{integer_at, string_at, text_at, name_at, boolean_at, custom_at}
 use Rattle.input_values.specs.coercion.Customs.{any_value}
 use Rattle.input_values.specs.coercion.Places.{null_at, list_of_one, single_at, list_at}
-use Rattle.input_values.specs.coercion.Objects.{is_wrong, wrong_name, Finder, absent_at, field_at, with_field, fields_at, object_of, object_by, object_at}
+use Rattle.input_values.specs.coercion.Objects.{wrong_name, Finder, absent_at, field_at, with_field, fields_at, object_of, object_by, object_at}
 use Rattle.input_values.specs.coercion.Coercion.{coerced, items_coerced, find_coerced}
 use Rattle.input_values.specs.coercion.Relation.{IsSingle, IsList, IsAbsent, IsThere, Either, AreFields, NamesAreRight, IsObject, IsCoerced, AreCoerced, IsField}
 

@@ -1,8 +1,8 @@
 -- What has a value keeps it where fields that had to be given take defaults.
-use Rattle.std.proofs.Common.{◌≡◌, ℕ, suc, List, [], ◌∷◌, Bool, true, false, not, ◌&&◌, ◌||◌, bytes_eq, Option, Some, None, Result, Ok, Err, refl, sym, ap, ap₂, ◌∙◌, subst}
+use Rattle.std.proofs.Common.{◌≡◌, ℕ, List, [], ◌∷◌, Bool, true, false, ◌&&◌, ◌||◌, bytes_eq, Option, Some, None, Ok, Err, refl, sym, ap, ap₂, ◌∙◌, subst}
 use Rattle.std.specs.List.{list_all}
-use Rattle.input_values.specs.values.Coerced.{CoercedTree, CoercedTrees, coerced_object, CoercedFields, is_coerced_null}
-use Rattle.input_values.specs.inputs.Shapes.{ShapeTree, named_shape, list_shape, is_nullable}
+use Rattle.input_values.specs.values.Coerced.{CoercedTree, CoercedTrees, coerced_object, CoercedFields}
+use Rattle.input_values.specs.inputs.Shapes.{ShapeTree, named_shape, list_shape}
 use Rattle.input_values.specs.coercion.Answers.{Path, Answer}
 use Rattle.input_values.specs.coercion.Given.{Given, given_null, given_integer, given_fraction, given_string, given_text, given_name, given_boolean, given_list, given_object, given_variable, given_nothing, GivenItems, no_given, given_then, GivenFields, no_given_field, given_field_then, given_names, is_nothing}
 use Rattle.input_values.specs.coercion.Forms.{Absence, takes_default, stays_absent, is_required, FieldForm, is_field, InputForm, integer_form, string_form, boolean_form, id_form, custom_form, enum_form, object_form, no_form}

@@ -1,5 +1,5 @@
 -- Fields of input objects, as they are written.
-use Rattle.std.proofs.Common.{◌≡◌, ◌+◌, ◌<◌, ◌≤◌, ℕ, suc, Bool, true, false, cond, bytes_eq, List, [], ◌∷◌, ◌++◌, length, map, drop, get_or, inl, inr, Option, Some, None, option_map, Result, Ok, Err, refl, sym, ap, ap₂, ◌∙◌, subst, arith}
+use Rattle.std.proofs.Common.{◌≡◌, ◌+◌, ◌<◌, ℕ, suc, Bool, true, false, cond, bytes_eq, List, [], ◌∷◌, ◌++◌, length, drop, inl, inr, Option, Some, None, Result, Ok, refl, sym, ap, ◌∙◌, subst, arith}
 use Rattle.std.specs.Prelude.{slice_get}
 use Rattle.std.proofs.lemmas.Bool.{cases_lt}
 use Rattle.std.proofs.lemmas.List.{drop_all}
@@ -7,22 +7,19 @@ use Rattle.std.proofs.lemmas.Option.{slice_get_within, get_or_from_slice_get, sl
 use Rattle.gql_base.specs.names.Names.{first_of_name}
 use Rattle.gql_base.specs.declared.parts.trees.Argument.{Argument}
 use Rattle.gql_base.specs.parts.Trees.{value_tree}
-use Rattle.gql_base.specs.parts.Values.{FieldTrees}
-use Rattle.input_values.specs.values.Coerced.{CoercedTree, CoercedFields, coerced_object, NamedTree}
+use Rattle.input_values.specs.values.Coerced.{CoercedTree, CoercedFields, NamedTree}
 use Rattle.input_values.specs.inputs.Shapes.{ShapeTree}
 use Rattle.input_values.specs.declared.values.coerced.Coerced.{Coerced}
-use Rattle.input_values.specs.declared.inputs.types.InputField.{InputField}
 use Rattle.input_values.specs.declared.coercion.faults.CoercionFault.{CoercionFault}
-use Rattle.input_values.specs.coercion.Answers.{Path, Answer, key_step, at_step, mapped, both}
+use Rattle.input_values.specs.coercion.Answers.{Answer, key_step, at_step, both}
 use Rattle.input_values.specs.coercion.Given.{Given, is_nothing, present}
-use Rattle.input_values.specs.coercion.Forms.{InputForm, FieldForm, fields_of}
-use Rattle.input_values.specs.coercion.Kinds.{field_seen}
+use Rattle.input_values.specs.coercion.Forms.{InputForm, FieldForm}
 use Rattle.input_values.specs.coercion.Objects.{Finder, field_at, with_field, fields_at, absent_at}
 use Rattle.input_values.specs.coercion.Coercion.{coerced, find_coerced}
 use Rattle.input_values.specs.coercion.Literals.{Environment, literal_given, literal_fields}
 use Rattle.input_values.specs.coercion.Sizes.{fields_written, tree_size, fields_size}
-use Rattle.input_values.specs.coercion.Calls.{Tells, TellsAfter, Coerces, CoercesField, tree_in}
-use Rattle.input_values.specs.coercion.Left.{FieldsLeft, FieldsGoOn, fields_from, one_field}
+use Rattle.input_values.specs.coercion.Calls.{Tells, TellsAfter, CoercesField, tree_in}
+use Rattle.input_values.specs.coercion.Left.{FieldsLeft, one_field}
 use Rattle.input_values.proofs.Copied.{at_front}
 use Rattle.input_values.proofs.CoercionSteps.Pieces.{field_left, field_put, field_refused, stepped_coerces_field, stepped_tells}
 use Rattle.input_values.proofs.CoercionSteps.Literals.{argument_opened}

@@ -1,5 +1,5 @@
 -- Lists and objects of a literal at their places.
-use Rattle.std.proofs.Common.{◌≡◌, ◌+◌, ◌<◌, ◌≤◌, ℕ, suc, Bool, false, List, [], ◌∷◌, ◌++◌, length, map, drop, get_or, Vec, Global, Option, Some, None, Result, Ok, Err, refl, sym, ap, ◌∙◌, subst, arith}
+use Rattle.std.proofs.Common.{◌≡◌, ◌+◌, ◌<◌, ◌≤◌, ℕ, suc, Bool, false, List, [], ◌++◌, length, drop, get_or, Vec, Global, Option, Result, Ok, sym, ap, ◌∙◌, subst, arith}
 use Rattle.std.proofs.lemmas.List.{drop_all}
 use Rattle.gql_base.specs.declared.parts.trees.Value.{Value}
 use Rattle.gql_base.specs.declared.parts.trees.Argument.{Argument}
@@ -7,23 +7,22 @@ use Rattle.gql_base.specs.declared.parts.trees.Value.TheViews.{List as ListValue
 use Rattle.gql_base.specs.parts.Trees.{value_tree}
 use Rattle.gql_base.specs.parts.Values.{list_value, object_value}
 use Rattle.gql_base.proofs.PartLaws.ValueSteps.{list_tree, object_tree}
-use Rattle.input_values.specs.values.Coerced.{CoercedTree, CoercedTrees, coerced_list, coerced_then, coerced_object, CoercedFields, no_coerced, no_coerced_field, NamedTree}
-use Rattle.input_values.specs.values.Counting.{counted}
+use Rattle.input_values.specs.values.Coerced.{CoercedTree, CoercedTrees, coerced_list, CoercedFields, no_coerced, no_coerced_field, NamedTree}
 use Rattle.input_values.specs.inputs.Shapes.{ShapeTree, named_shape, list_shape}
 use Rattle.input_values.specs.declared.values.coerced.Coerced.{Coerced}
 use Rattle.input_values.specs.declared.coercion.faults.CoercionFault.{CoercionFault}
-use Rattle.input_values.specs.coercion.Answers.{Answer, item_step, at_step, mapped, both}
+use Rattle.input_values.specs.coercion.Answers.{Answer, item_step, at_step, mapped}
 use Rattle.input_values.specs.coercion.Given.{given_list, given_object, given_names}
 use Rattle.input_values.specs.coercion.Forms.{InputForm, custom_form, object_form, FieldForm, fields_of}
 use Rattle.input_values.specs.coercion.Leaves.{custom_at}
 use Rattle.input_values.specs.coercion.Customs.{any_value}
 use Rattle.input_values.specs.coercion.Objects.{Finder, wrong_name, fields_at, object_of, object_by, object_at}
-use Rattle.input_values.specs.coercion.Coercion.{coerced, items_coerced, find_coerced}
+use Rattle.input_values.specs.coercion.Coercion.{coerced, items_coerced}
 use Rattle.input_values.specs.coercion.Literals.{Environment, no_variables, literal_given, literal_items, literal_fields}
 use Rattle.input_values.specs.coercion.Sizes.{items_written, fields_written, names_written}
 use Rattle.input_values.specs.coercion.Calls.{Coerces, tree_in}
-use Rattle.input_values.specs.coercion.Left.{ItemsLeft, FieldsLeft, fields_from, one_item}
-use Rattle.input_values.proofs.CoercionSteps.Pieces.{item_left, items_start, stepped_coerces}
+use Rattle.input_values.specs.coercion.Left.{ItemsLeft, FieldsLeft, one_item}
+use Rattle.input_values.proofs.CoercionSteps.Pieces.{item_left, stepped_coerces}
 use Rattle.input_values.proofs.CoercionSteps.Literals.{items_front, names_given, any_alike}
 
 pub same_answer : (limit before after : ℕ) (r : Result (Option Coerced) CoercionFault) (a b : Answer CoercedTree) → a ≡ b → Coerces limit before after r a → Coerces limit before after r b

@@ -1,5 +1,5 @@
 -- Literals that are looked at, item by item and field by field.
-use Rattle.std.proofs.Common.{◌≡◌, ◌+◌, ◌<◌, ◌≤◌, ℕ, zero, suc, Bool, false, Ok, List, [], ◌∷◌, ◌++◌, length, map, drop, get_or, Option, Some, None, refl, sym, ap, ap₂, ◌∙◌, subst, arith}
+use Rattle.std.proofs.Common.{◌≡◌, ◌+◌, ◌<◌, ℕ, zero, suc, Bool, false, Ok, List, [], ◌∷◌, ◌++◌, length, drop, get_or, Option, Some, None, refl, sym, ap, ap₂, ◌∙◌, subst, arith}
 use Rattle.gql_base.specs.names.Names.{are_distinct}
 use Rattle.gql_base.specs.declared.parts.trees.Value.{Value}
 use Rattle.gql_base.specs.declared.parts.trees.Argument.{Argument}
@@ -7,7 +7,7 @@ use Rattle.gql_base.specs.declared.parts.trees.Value.TheFolds.{fold_out-Argument
 use Rattle.gql_base.specs.parts.Trees.{value_tree, named_value, value_step, argument_step}
 use Rattle.gql_base.specs.parts.Values.{ValueTree, NamedValue, variable_value, integer_value, string_value, boolean_value, null_value, enum_value, list_value, object_value, ValueTrees, no_value, value_then, FieldTrees, no_field, field_then}
 use Rattle.gql_base.proofs.PartLaws.ValueSteps.{variable_tree, integer_tree, string_tree, boolean_tree, null_tree, enum_tree, list_tree, object_tree}
-use Rattle.input_values.specs.values.Coerced.{CoercedTree, coerced_list, coerced_object, CoercedTrees, CoercedFields, coerced_field_then, NamedTree}
+use Rattle.input_values.specs.values.Coerced.{CoercedTree, coerced_list, CoercedTrees, CoercedFields, coerced_field_then, NamedTree}
 use Rattle.input_values.specs.declared.values.coerced.Coerced.{Coerced}
 use Rattle.input_values.specs.declared.coercion.faults.CoercionFault.{CoercionFault}
 use Rattle.input_values.specs.coercion.Calls.{Tells, Coerces, tree_in}

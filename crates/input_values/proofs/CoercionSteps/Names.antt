@@ -1,7 +1,5 @@
 -- The first wrong name of an object, while names are gone through.
-use Rattle.std.proofs.Common.{ℕ, ◌≡◌, Bool, true, false, not, ◌||◌, List, [], ◌∷◌, Option, None, Some, refl, sym, ap, ◌∙◌, cond}
-use Rattle.std.specs.List.{list_any}
-use Rattle.std.specs.Str.{bytes_eq}
+use Rattle.std.proofs.Common.{ℕ, ◌≡◌, true, false, List, ◌∷◌, Option, Some, sym, ap, ◌∙◌, cond}
 use Rattle.gql_base.proofs.NameLaws.RepeatedLaws.{Knows}
 use Rattle.input_values.specs.coercion.Forms.{FieldForm}
 use Rattle.input_values.specs.coercion.Objects.{is_wrong, wrong_name}

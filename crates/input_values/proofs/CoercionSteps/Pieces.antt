@@ -1,5 +1,5 @@
 -- Items and fields, one after another: what was done and what is left come to the whole.
-use Rattle.std.proofs.Common.{◌≡◌, ◌+◌, ◌≤◌, ◌<◌, ℕ, suc, List, [], ◌∷◌, ◌++◌, Option, Some, None, Result, Ok, Err, refl, sym, ap, ◌∙◌, subst, arith}
+use Rattle.std.proofs.Common.{◌≡◌, ◌+◌, ◌≤◌, ◌<◌, ℕ, suc, List, [], ◌∷◌, ◌++◌, Option, Some, None, Ok, Err, refl, sym, ap, ◌∙◌, subst, arith}
 use Rattle.input_values.specs.values.Coerced.{CoercedTree, CoercedTrees, no_coerced, coerced_then, coerced_list, CoercedFields, no_coerced_field, coerced_field_then, coerced_object, NamedTree, trees_from, named_trees_from, nodes, item_nodes, field_nodes}
 use Rattle.input_values.specs.values.Counting.{counted}
 use Rattle.input_values.specs.declared.values.coerced.Coerced.{Coerced}
@@ -7,7 +7,7 @@ use Rattle.input_values.specs.declared.coercion.faults.CoercionFault.{CoercionFa
 use Rattle.input_values.specs.declared.coercion.faults.CoercionFault.TheVariants.{BadValue, Memory}
 use Rattle.input_values.specs.coercion.Answers.{Path, Answer, mapped, both, at_step}
 use Rattle.input_values.specs.coercion.Objects.{with_field}
-use Rattle.input_values.specs.coercion.Calls.{Tells, TellsAfter, TellsPath, Coerces, CoercesField, tree_in, nodes_in}
+use Rattle.input_values.specs.coercion.Calls.{Tells, TellsAfter, Coerces, CoercesField, tree_in, nodes_in}
 use Rattle.input_values.specs.coercion.Left.{in_front, put_field, one_item, one_field, ItemsLeft, FieldsLeft}
 
 front_append : {T X : Type 0} (put : T → X → X) (ds es : List T) (x : X) → in_front put (ds ++ es) x ≡ in_front put ds (in_front put es x)

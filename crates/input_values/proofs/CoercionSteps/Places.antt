@@ -1,5 +1,5 @@
 -- What was coerced at the innermost type, in lists of one.
-use Rattle.std.proofs.Common.{◌≡◌, ◌+◌, ◌≤◌, ℕ, suc, Option, Some, None, Result, Ok, Err, Bool, sym, ap, ◌∙◌, subst, option_map, arith}
+use Rattle.std.proofs.Common.{◌≡◌, ◌+◌, ◌≤◌, ℕ, suc, Option, Result, Ok, Err, Bool, sym, ap, ◌∙◌, subst, option_map, arith}
 use Rattle.input_values.specs.values.Coerced.{CoercedTree, nodes}
 use Rattle.input_values.specs.values.Counting.{counted}
 use Rattle.input_values.specs.inputs.Shapes.{ShapeTree, named_shape, list_shape}

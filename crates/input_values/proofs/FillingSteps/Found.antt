@@ -1,12 +1,12 @@
 -- Values of defaults that are found, one after another.
-use Rattle.std.proofs.Common.{◌≡◌, ◌+◌, ◌<◌, ◌≤◌, ◌⊎◌, inl, inr, ℕ, zero, suc, Bool, true, false, cond, leb, List, [], ◌∷◌, ◌++◌, length, map, drop, get_or, Option, Some, None, option_map, Result, Ok, Err, refl, sym, ap, ap₂, ◌∙◌, subst, arith}
-use Rattle.std.specs.Prelude.{slice_get, slice_index_or, is_some, IfOk, OnOk, IsTrue}
+use Rattle.std.proofs.Common.{◌≡◌, ◌+◌, ◌<◌, ◌≤◌, ◌⊎◌, inl, inr, ℕ, zero, suc, Bool, true, false, cond, leb, List, [], ◌∷◌, ◌++◌, length, map, drop, Option, Some, None, option_map, Result, Ok, Err, refl, sym, ap, ap₂, ◌∙◌, subst, arith}
+use Rattle.std.specs.Prelude.{slice_get, slice_index_or, is_some, IfOk, OnOk}
 use Rattle.std.proofs.lemmas.Option.{slice_get_past}
 use Rattle.input_values.specs.declared.defaults.drafts.DraftType.{DraftType}
 use Rattle.std.specs.BTreeMap.{BTreeMap, get, Updates}
 use Rattle.std.specs.List.{Contains}
-use Rattle.std.specs.Ordering.{nat_cmp, ordering_then, eq_by_cmp}
-use Rattle.std.proofs.lemmas.Bool.{cases_Bool, cases_lt}
+use Rattle.std.specs.Ordering.{nat_cmp, eq_by_cmp}
+use Rattle.std.proofs.lemmas.Bool.{cases_Bool}
 use Rattle.std.proofs.lemmas.List.{drop_all}
 use Rattle.std.proofs.lemmas.List.Elements.{Contains-append_left, Contains-append_right, Contains-append_cases}
 use Rattle.std.proofs.lemmas.Map.Lookups.{exact_pairs, exact_unsigned}
@@ -20,9 +20,9 @@ use Rattle.input_values.specs.coercion.Forms.{Absence, takes_default, stays_abse
 use Rattle.input_values.specs.coercion.Coercion.{coerced}
 use Rattle.input_values.specs.coercion.Literals.{no_variables, literal_given}
 use Rattle.input_values.specs.defaults.Drafts.{FieldDraft, Draft, settled, drafted, most_nodes, small_enough, default_value, default_absence, draft_absence, filled_field, filled_form, AreFilled}
-use Rattle.input_values.specs.defaults.Filling.{Table, table_absence, table_field, table_fields, table_form, table_forms, pair_cmp, table_of, drafts, draft_or}
-use Rattle.input_values.specs.defaults.Rounds.{draft_fields, literal_value, field_value, place_value, IsFound, AreFound, Keeps, HasNone, PlaceIs, Fills, Covers, RoundLeft}
-use Rattle.input_values.proofs.CoercionLaws.Grown.{AbsenceGrows, FieldGrows, FieldsGrow, FormGrows, grown}
+use Rattle.input_values.specs.defaults.Filling.{Table, table_absence, table_fields, table_form, table_forms, pair_cmp, table_of, drafts, draft_or}
+use Rattle.input_values.specs.defaults.Rounds.{draft_fields, literal_value, field_value, place_value, IsFound, AreFound, Keeps, HasNone, Fills, Covers, RoundLeft}
+use Rattle.input_values.proofs.CoercionLaws.Grown.{AbsenceGrows, FieldsGrow, FormGrows, grown}
 
 -- ## Forms grow with the table
 

@@ -1,12 +1,11 @@
 -- Fields beside a table of the values of defaults.
-use Rattle.std.proofs.Common.{◌≡◌, ◌+◌, ℕ, zero, suc, Bool, ◌||◌, bytes_eq, List, [], ◌∷◌, length, map, Option, Some, None, option_map, Bor, refl, sym, ap, ◌∙◌, arith}
+use Rattle.std.proofs.Common.{◌≡◌, ◌+◌, ℕ, zero, suc, ◌||◌, bytes_eq, List, [], ◌∷◌, length, map, Option, Some, None, option_map, Bor, refl, ap, ◌∙◌, arith}
 use Rattle.std.specs.Prelude.{slice_get}
-use Rattle.std.specs.List.{list_any}
 use Rattle.std.proofs.lemmas.Option.{slice_get-map}
 use Rattle.gql_base.specs.names.Names.{has_name}
 use Rattle.gql_base.specs.declared.parts.trees.Name.{Name}
 use Rattle.input_values.specs.values.Coerced.{CoercedTree}
-use Rattle.input_values.specs.coercion.Forms.{FieldForm, InputForm, is_value, is_field, names_of, fields_of}
+use Rattle.input_values.specs.coercion.Forms.{is_value, is_field, names_of, fields_of}
 use Rattle.input_values.specs.coercion.Kinds.{scalar_form_of}
 use Rattle.input_values.specs.declared.inputs.types.InputKind.{InputKind}
 use Rattle.input_values.specs.declared.inputs.types.InputKind.TheVariants.{Int, String, Boolean, Id, Custom, Enum as EnumKind, Object as ObjectKind, None as NoKind}

@@ -1,5 +1,5 @@
 -- What the parts of coercion answer: a fault, or the count of nodes and the value that was built.
-use Rattle.std.specs.Prelude.{ℕ, ◌+◌, ◌≤◌, ◌≡◌, List, [], ◌++◌, Option, Some, None, option_map, Result, Ok, Err}
+use Rattle.std.specs.Prelude.{ℕ, ◌+◌, ◌≤◌, ◌≡◌, [], ◌++◌, Option, Some, None, option_map, Result, Ok, Err}
 use Rattle.input_values.specs.declared.values.coerced.Coerced.{Coerced}
 use Rattle.input_values.specs.declared.coercion.faults.CoercionFault.{CoercionFault}
 use Rattle.input_values.specs.declared.coercion.faults.CoercionFault.TheVariants.{BadValue, Memory}

@@ -1,6 +1,6 @@
 -- Coercion of input values (GraphQL October 2021, 3.5 to 3.12): what a given value comes to, or the first place that is
 -- refused. It recurses on what is given alone.
-use Rattle.std.specs.Prelude.{ℕ, suc, List, Option, Some, None, Ok, if◌then◌else◌}
+use Rattle.std.specs.Prelude.{ℕ, suc, List, Option, None, Ok, if◌then◌else◌}
 use Rattle.std.specs.Str.{bytes_eq}
 use Rattle.input_values.specs.values.Coerced.{CoercedTree, coerced_null, CoercedTrees, no_coerced, coerced_then}
 use Rattle.input_values.specs.inputs.Shapes.{ShapeTree, is_nullable}

@@ -1,6 +1,6 @@
 -- Values of custom scalars: any value without a variable, whose numbers are whole and in which no name stands twice in
 -- one object. What is refused inside is refused at the place of the scalar.
-use Rattle.std.specs.Prelude.{ℕ, Bool, ◌||◌, Ok, if◌then◌else◌}
+use Rattle.std.specs.Prelude.{Bool, ◌||◌, Ok, if◌then◌else◌}
 use Rattle.gql_base.specs.names.Names.{are_distinct}
 use Rattle.input_values.specs.values.Coerced.{CoercedTree, coerced_null, coerced_integer, coerced_string, coerced_boolean, coerced_enum, coerced_list, coerced_object, CoercedTrees, no_coerced, coerced_then, CoercedFields, no_coerced_field, coerced_field_then}
 use Rattle.input_values.specs.coercion.Answers.{Answer, refused, mapped, both}

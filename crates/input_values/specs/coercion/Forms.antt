@@ -1,5 +1,5 @@
 -- What a named type asks of a value that is given for it (GraphQL October 2021, 3.5, 3.9 and 3.10).
-use Rattle.std.specs.Prelude.{ℕ, Bool, List, [], ◌∷◌, Option, Some, None, if◌then◌else◌}
+use Rattle.std.specs.Prelude.{ℕ, Bool, List, [], Option, Some, None, if◌then◌else◌}
 use Rattle.std.specs.List.{list_any}
 use Rattle.std.specs.Str.{bytes_eq}
 use Rattle.input_values.specs.values.Coerced.{CoercedTree}

@@ -3,7 +3,7 @@ use Rattle.std.specs.Prelude.{ℕ, ℤ, pos, negsuc, leb, List, Bool, Ok, if◌t
 use Rattle.std.specs.Fmt.{signed_decimal}
 use Rattle.input_values.specs.values.Coerced.{CoercedTree, coerced_integer, coerced_string, coerced_boolean, coerced_enum}
 use Rattle.input_values.specs.coercion.Answers.{Answer, refused}
-use Rattle.input_values.specs.coercion.Forms.{is_value, InputForm, integer_form, string_form, boolean_form, id_form, custom_form, enum_form, object_form, no_form}
+use Rattle.input_values.specs.coercion.Forms.{is_value, InputForm, integer_form, string_form, boolean_form, id_form, custom_form, enum_form}
 
 -- a whole number of 32 bits
 abbrev pub is_int : ℤ → Bool

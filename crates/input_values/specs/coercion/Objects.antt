@@ -4,7 +4,7 @@ use Rattle.std.specs.List.{list_any}
 use Rattle.std.specs.Str.{bytes_eq}
 use Rattle.input_values.specs.values.Coerced.{CoercedTree, coerced_object, CoercedFields, no_coerced_field, coerced_field_then}
 use Rattle.input_values.specs.inputs.Shapes.{ShapeTree}
-use Rattle.input_values.specs.coercion.Answers.{Path, Answer, refused, mapped, both, at_step, key_step}
+use Rattle.input_values.specs.coercion.Answers.{Answer, refused, mapped, both, at_step, key_step}
 use Rattle.input_values.specs.coercion.Given.{given_object, GivenFields, given_names}
 use Rattle.input_values.specs.coercion.Forms.{Absence, takes_default, stays_absent, is_required, FieldForm, is_field, InputForm, custom_form, object_form}
 use Rattle.input_values.specs.coercion.Customs.{any_value}

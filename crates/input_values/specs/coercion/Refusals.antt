@@ -1,6 +1,6 @@
 -- All places that are refused, in the order in which coercion tells them: the names of an object before its fields, and
 -- fields in the order of their definitions.
-use Rattle.std.specs.Prelude.{◌≡◌, ℕ, suc, List, [], ◌∷◌, ◌++◌, map, Bool, not, ◌||◌, Option, Some, None, Ok, Err, if◌then◌else◌}
+use Rattle.std.specs.Prelude.{ℕ, suc, List, [], ◌∷◌, ◌++◌, map, Bool, Option, Some, None, Ok, Err, if◌then◌else◌}
 use Rattle.std.specs.Str.{bytes_eq}
 use Rattle.input_values.specs.inputs.Shapes.{ShapeTree, named_shape, list_shape, is_nullable}
 use Rattle.input_values.specs.coercion.Answers.{Path, Answer, key_step, item_step}

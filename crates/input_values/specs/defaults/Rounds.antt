@@ -1,5 +1,5 @@
 -- How the values of defaults are found, round by round.
-use Rattle.std.specs.Prelude.{ℕ, ◌≡◌, ◌≤◌, ◌⊎◌, Bool, true, false, List, [], ◌∷◌, length, drop, Option, None, Some, Result, Ok, Err, slice_get}
+use Rattle.std.specs.Prelude.{ℕ, ◌≡◌, ◌≤◌, ◌⊎◌, Bool, true, false, List, [], length, drop, Option, None, Some, Result, Ok, Err, slice_get}
 use Rattle.std.specs.List.{Contains}
 use Rattle.gql_base.specs.parts.Values.{ValueTree}
 use Rattle.input_values.specs.values.Coerced.{CoercedTree, coerced_tree}

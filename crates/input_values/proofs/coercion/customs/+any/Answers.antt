@@ -1,12 +1,12 @@
 use Rattle.std.proofs.Common.{◌+◌, ◌*◌, ◌<◌, true, false, sym, ◌∙◌, map, subst, arith, rules}
 use Rattle.gql_base.specs.parts.Trees.{value_tree}
 use Rattle.input_values.specs.values.Coerced.{CoercedTree, coerced_tree, named_tree, coerced_object}
-use Rattle.input_values.specs.coercion.Customs.{any_items, any_fields}
-use Rattle.input_values.specs.coercion.Literals.{no_variables, literal_items, literal_fields}
+use Rattle.input_values.specs.coercion.Customs.{any_fields}
+use Rattle.input_values.specs.coercion.Literals.{no_variables, literal_fields}
 use Rattle.input_values.specs.coercion.Sizes.{items_written, fields_written, tree_size, items_size, fields_size}
 use Rattle.input_values.specs.coercion.Calls.{Tells, Coerces}
 use Rattle.input_values.proofs.CoercionSteps.Places.{mapped_tells, tells_here}
-use Rattle.input_values.proofs.CoercionSteps.Literals.{any_item_left, any_field_left, any_item_refused, any_field_refused, object_if_distinct, item_smaller, field_smaller}
+use Rattle.input_values.proofs.CoercionSteps.Literals.{any_item_left, any_field_left, any_field_refused, object_if_distinct, item_smaller, field_smaller}
 use Rattle.input_values.proofs.coercion.customs.+any.Goals as goal
 
 pub any_list-items-preserved : goal.any_list-items-preserved

@@ -6,7 +6,7 @@ use Rattle.input_values.specs.coercion.Forms.{fields_of}
 use Rattle.input_values.specs.coercion.Kinds.{field_seen}
 use Rattle.input_values.specs.coercion.Objects.{fields_at}
 use Rattle.input_values.specs.coercion.Coercion.{coerced, items_coerced, find_coerced}
-use Rattle.input_values.specs.coercion.Literals.{values_of, literal_given, literal_items, literal_fields}
+use Rattle.input_values.specs.coercion.Literals.{values_of, literal_items, literal_fields}
 use Rattle.input_values.specs.coercion.Sizes.{items_written, fields_written, tree_size, items_size, fields_size}
 use Rattle.input_values.specs.coercion.Left.{ItemsLeft}
 use Rattle.input_values.proofs.ShapeTrees.{named_made, list_made}
