@@ -112,11 +112,11 @@ trailer_open here len size x zero_size none short =
 
 pub trailer_fault : (content here : List ℕ) (ended : Bool) (len size : ℕ) (f : LinkFault) → LineIs here len size → size ≡ 0 → length content ≤ body_limit → TrailerSays len (Err f) here ended → HasChunkFault content here ended f
 trailer_fault content here ended len size fault.Down x z fits k = absurd k
-trailer_fault content here ended len size fault.Failed x z fits k = inr (x.0, x.1, inr (trailer_open here len size x z k.0 k.1))
+trailer_fault content here ended len size fault.Failed x z fits k = inr (x.0, x.1, omega (arith, x.3, z, fits), inr (trailer_open here len size x z k.0 k.1))
 trailer_fault content here ended len size fault.BadReplyHead x z fits k = absurd k
 trailer_fault content here ended len size fault.Coded x z fits k = absurd k
 trailer_fault content here ended len size fault.TooLarge x z fits k = absurd k
-trailer_fault content here ended len size fault.Truncated x z fits k = (inr (x.0, x.1, inr (trailer_open here len size x z k.0 k.1)), k.2)
+trailer_fault content here ended len size fault.Truncated x z fits k = (inr (x.0, x.1, omega (arith, x.3, z, fits), inr (trailer_open here len size x z k.0 k.1)), k.2)
 trailer_fault content here ended len size fault.BadChunk x z fits k =
     inr (x.0, x.1, omega (arith, x.3, z, fits), inr (sym x.3 ∙ z, subst (λ n. trailer_length (room (drop n here)) ≡ None) x.2 k.0, subst (λ n. 16384 ≤ length (drop n here)) x.2 k.1))
 trailer_fault content here ended len size fault.Memory x z fits k = tt
@@ -129,15 +129,15 @@ lacks here len size x some short =
     let inside = line_inside here x.0 x.1 in
     (omega (arith, x.3, some), omega (arith, x.2, x.3, length-drop (length (print_chunk_line x.0)) here, inside.0, short))
 
-pub data_fault : (content here new : List ℕ) (ended : Bool) (len size : ℕ) (f : LinkFault) → LineIs here len size → ¬ (size ≡ 0) → DataSays (len + size + 2) new (Err f) here ended → HasChunkFault content here ended f
-data_fault content here new ended len size fault.Down x some k = absurd k
-data_fault content here new ended len size fault.Failed x some k = inr (x.0, x.1, inl (lacks here len size x some k))
-data_fault content here new ended len size fault.BadReplyHead x some k = absurd k
-data_fault content here new ended len size fault.Coded x some k = absurd k
-data_fault content here new ended len size fault.TooLarge x some k = absurd k
-data_fault content here new ended len size fault.Truncated x some k = (inr (x.0, x.1, inl (lacks here len size x some k.0)), k.1)
-data_fault content here new ended len size fault.BadChunk x some k = absurd k
-data_fault content here new ended len size fault.Memory x some k = tt
+pub data_fault : (content here new : List ℕ) (ended : Bool) (len size : ℕ) (f : LinkFault) → LineIs here len size → ¬ (size ≡ 0) → length content + size ≤ body_limit → DataSays (len + size + 2) new (Err f) here ended → HasChunkFault content here ended f
+data_fault content here new ended len size fault.Down x some fits k = absurd k
+data_fault content here new ended len size fault.Failed x some fits k = inr (x.0, x.1, omega (arith, x.3, fits), inl (lacks here len size x some k))
+data_fault content here new ended len size fault.BadReplyHead x some fits k = absurd k
+data_fault content here new ended len size fault.Coded x some fits k = absurd k
+data_fault content here new ended len size fault.TooLarge x some fits k = absurd k
+data_fault content here new ended len size fault.Truncated x some fits k = (inr (x.0, x.1, omega (arith, x.3, fits), inl (lacks here len size x some k.0)), k.1)
+data_fault content here new ended len size fault.BadChunk x some fits k = absurd k
+data_fault content here new ended len size fault.Memory x some fits k = tt
 
 pub no_end : (content here : List ℕ) (ended : Bool) (len size : ℕ) → LineIs here len size → ¬ (size ≡ 0) → length content + size ≤ body_limit → len + size + 2 ≤ length here
     → ¬ (take 2 (drop (len + size) here) ≡ line_end) → HasChunkFault content here ended fault.BadChunk

@@ -96,9 +96,10 @@ HasOpenTrailer here l = (chunk_size l ≡ 0) × (trailer_length (room (after_lin
 abbrev pub HasLongTrailer : List ℕ → ChunkLine → Type 0
 HasLongTrailer here l = (chunk_size l ≡ 0) × (trailer_length (room (after_line l here)) ≡ None) × (16384 ≤ length (after_line l here))
 
--- more bytes are needed here
-abbrev pub IsCut : List ℕ → Type 0
-IsCut here = HasOpenLine here ⊎ ((l : ChunkLine) × HasLine here l × (LacksData here l ⊎ HasOpenTrailer here l))
+-- more bytes are needed here, and the sizes so far are within the limit
+abbrev pub IsCut : List ℕ → List ℕ → Type 0
+IsCut content here =
+    HasOpenLine here ⊎ ((l : ChunkLine) × HasLine here l × (length content + chunk_size l ≤ body_limit) × (LacksData here l ⊎ HasOpenTrailer here l))
 
 -- the last chunk and its trailer stand here
 abbrev pub Ends : List ℕ → Type 0
@@ -106,9 +107,9 @@ Ends here = (l : ChunkLine) × HasLine here l × (chunk_size l ≡ 0) × ((n : �
 
 -- what goes wrong behind whole chunks with this content
 abbrev pub HasChunkFault : List ℕ → List ℕ → Bool → LinkFault → Type 0
-HasChunkFault content here ended fault.Failed = IsCut here
+HasChunkFault content here ended fault.Failed = IsCut content here
 HasChunkFault content here ended fault.TooLarge = (l : ChunkLine) × HasLine here l × (body_limit < length content + chunk_size l)
-HasChunkFault content here ended fault.Truncated = IsCut here × IsTrue ended
+HasChunkFault content here ended fault.Truncated = IsCut content here × IsTrue ended
 HasChunkFault content here ended fault.BadChunk =
     HasBadLine here ⊎ ((l : ChunkLine) × HasLine here l × (length content + chunk_size l ≤ body_limit) × (LacksEnd here l ⊎ HasLongTrailer here l))
 HasChunkFault content here ended fault.Memory = ⊤

@@ -33,7 +33,8 @@ returns-in-Err-take_data-clause-exact g c =
     let now = c.take_line.new.kept in
     let is = subst (λ l. LineIs l c.in-Ok.line.0 c.in-Ok.line.1) (sym first.says.1) first.says.0 in
     received_then c.args.kept.now now (g.W.Wire.coming c.args.wire.now, g.W.Wire.log c.args.wire.now) (g.W.Wire.coming c.take_line.new.wire, g.W.Wire.log c.take_line.new.wire) (g.W.Wire.coming c.take_data.new.wire, g.W.Wire.log c.take_data.new.wire) (is_failure c.in-Err-take_data.fault) (is_failure c.in-Err-take_data.fault) first first.says.2 first.says.1 c.in-Err-take_data.ensures.exact refl
-    (λ more ended k. data_fault c.args.content.now.items (now ++ more) c.take_data.new.kept ended c.in-Ok.line.0 c.in-Ok.line.1 c.in-Err-take_data.fault (line_is_stays now more _ _ is) c.if-size-eq0.false k)
+    (λ more ended k. data_fault c.args.content.now.items (now ++ more) c.take_data.new.kept ended c.in-Ok.line.0 c.in-Ok.line.1 c.in-Err-take_data.fault (line_is_stays now more _ _ is) c.if-size-eq0.false
+    (omega (arith, c.if-size-len.false, c.len.ensures, c.requires.fits)) k)
 
 pub returns-else-ends_at-clause-exact : goal.returns-else-ends_at-clause-exact
 returns-else-ends_at-clause-exact g c =
