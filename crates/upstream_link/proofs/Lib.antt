@@ -6,3 +6,4 @@ pub mod Framed
 pub mod Answered
 pub mod Later
 pub mod OneReply
+pub mod NoFault

@@ -19,14 +19,14 @@ use Rattle.upstream_link.specs.ReplyHeads.{HasHead, IsInterim, HeadsTo, after_he
 
 -- ---- heads
 
-head_one : (here : List ℕ) (h k : ResponseHead) → HasHead here h → HasHead here k → h ≡ k
+pub head_one : (here : List ℕ) (h k : ResponseHead) → HasHead here h → HasHead here k → h ≡ k
 head_one here h k x y = (response_unique (room here) h k x.0 y.0 x.1 y.1).0
 
 -- the head of a reply and where it stands
 abbrev pub Heads : List ℕ → List ResponseHead → List ℕ → ResponseHead → Type 0
 Heads bytes hs here h = HeadsTo bytes hs here × HasHead here h × (IsInterim h → ⊥)
 
-heads_one : (bytes : List ℕ) (hs ks : List ResponseHead) (here there : List ℕ) (h k : ResponseHead) → Heads bytes hs here h → Heads bytes ks there k → (here ≡ there) × (h ≡ k)
+pub heads_one : (bytes : List ℕ) (hs ks : List ResponseHead) (here there : List ℕ) (h k : ResponseHead) → Heads bytes hs here h → Heads bytes ks there k → (here ≡ there) × (h ≡ k)
 unfolding HeadsTo
 heads_one bytes [] [] here there h k x y =
     let same : here ≡ there = sym x.0 ∙ y.0 in (same, head_one there h k (subst (λ l. HasHead l h) same x.1) y.1)
@@ -51,24 +51,24 @@ same_front xs ys us vs long e = (
   sym (drop_at xs us (length ys) long) ∙ ap (drop (length ys)) e ∙ drop-append_seam ys vs,
 )
 
-print_chunk_then : (c : Chunk) (rest : List ℕ) → print_chunk c ++ rest ≡ print_chunk_line c.line ++ (c.bytes ++ (line_end ++ rest))
+pub print_chunk_then : (c : Chunk) (rest : List ℕ) → print_chunk c ++ rest ≡ print_chunk_line c.line ++ (c.bytes ++ (line_end ++ rest))
 print_chunk_then c rest = append_assoc (print_chunk_line c.line) (c.bytes ++ line_end) rest ∙ ap (λ l. print_chunk_line c.line ++ l) (append_assoc c.bytes line_end rest)
 
 -- the size line of a chunk stands before it
-line_of : (c : Chunk) (rest : List ℕ) → IsChunk c → HasLine (print_chunk c ++ rest) c.line
+pub line_of : (c : Chunk) (rest : List ℕ) → IsChunk c → HasLine (print_chunk c ++ rest) c.line
 line_of c rest is =
     let t = take_front 16384 (print_chunk_line c.line) (c.bytes ++ (line_end ++ rest)) is.short in (t.0, (is.line, ap (take 16384) (print_chunk_then c rest) ∙ t.1))
 
-line_one : (here : List ℕ) (l k : ChunkLine) → HasLine here l → HasLine here k → l ≡ k
+pub line_one : (here : List ℕ) (l k : ChunkLine) → HasLine here l → HasLine here k → l ≡ k
 line_one here l k x y = (chunk_line_unique (room here) l k x.0 y.0 x.1 y.1).0
 
 -- no chunk stands where the chunks end
-no_chunk : (here : List ℕ) (d : Chunk) (rest : List ℕ) → Ends here → IsChunk d → here ≡ print_chunk d ++ rest → ⊥
+pub no_chunk : (here : List ℕ) (d : Chunk) (rest : List ℕ) → Ends here → IsChunk d → here ≡ print_chunk d ++ rest → ⊥
 no_chunk here d rest ends is e =
     let same = line_one here ends.0 d.line ends.1 (subst (λ l. HasLine l d.line) (sym e) (line_of d rest is)) in
     omega (arith, is.some, ap chunk_size same, ends.2)
 
-chunk_one : (c d : Chunk) (first second : List ℕ) → IsChunk c → IsChunk d → print_chunk c ++ first ≡ print_chunk d ++ second → (c.bytes ≡ d.bytes) × (first ≡ second)
+pub chunk_one : (c d : Chunk) (first second : List ℕ) → IsChunk c → IsChunk d → print_chunk c ++ first ≡ print_chunk d ++ second → (c.bytes ≡ d.bytes) × (first ≡ second)
 chunk_one c d first second is_c is_d e =
     let same = line_one (print_chunk d ++ second) c.line d.line (subst (λ l. HasLine l c.line) e (line_of c first is_c)) (line_of d second is_d) in
     let whole = sym (print_chunk_then c first) ∙ e ∙ print_chunk_then d second in
@@ -99,7 +99,7 @@ body_one framing.Chunked a b bytes ended x y =
 body_one (framing.Length size) a b bytes ended x y = x.1 ∙ sym y.1
 body_one framing.UntilEnd a b bytes ended x y = x.0 ∙ sym y.0
 
-ok_or : Framing → Result Framing LinkFault → Framing
+unfoldable pub ok_or : Framing → Result Framing LinkFault → Framing
 ok_or d (Ok f) = f
 ok_or d (Err e) = d
 
