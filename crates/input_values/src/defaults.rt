@@ -3,4 +3,5 @@
 pub mod drafts;
 pub mod filled;
 pub mod filling;
+pub mod laws;
 pub mod rounds;

@@ -17,8 +17,9 @@ pub use coercion::scope::{Scope, value_of};
 pub use coercion::variables::VariableValue;
 pub use coercion::{building, kinds, leaves, places};
 pub use defaults::drafts::{DraftField, DraftType};
-pub use defaults::filled::FilledTypes;
+pub use defaults::filled::{FilledTypes, no_default};
 pub use defaults::filling::{DEFAULT_LIMIT, DefaultFault, coerce_default};
+pub use defaults::laws::defaults_have_one_filling;
 pub use defaults::rounds::fill;
 pub use inputs::definition::InputDef;
 pub use inputs::shape::{Shape, ShapeLevel, TypeId, copy_shape, shape_level};
@@ -26,5 +27,5 @@ pub use inputs::types::{Absence, InputField, InputKind, InputTypes, scalar_kind}
 pub use sharing::inputs_are_shared;
 pub use values::coerced::{Coerced, CoercedField};
 pub use values::copies::{copy_field, copy_value};
-pub use values::counting::{count_nodes, is_null};
+pub use values::counting::{count_node, count_nodes, is_null};
 pub use values::made;

@@ -8,6 +8,8 @@ use Rattle.std.specs.List.{Contains}
 use Rattle.std.specs.Ordering.{nat_cmp, eq_by_cmp}
 use Rattle.std.proofs.lemmas.Bool.{cases_Bool}
 use Rattle.std.proofs.lemmas.List.{drop_all}
+use Rattle.std.specs.List.Sorted.{IsPermutation}
+use Rattle.std.proofs.lemmas.List.Sorted.{Contains-permutation}
 use Rattle.std.proofs.lemmas.List.Elements.{Contains-append_left, Contains-append_right, Contains-append_cases}
 use Rattle.std.proofs.lemmas.Map.Lookups.{exact_pairs, exact_unsigned}
 use Rattle.std.proofs.lemmas.Map.Views.{tells_apart}
@@ -26,37 +28,37 @@ use Rattle.input_values.proofs.CoercionLaws.Grown.{AbsenceGrows, FieldsGrow, For
 
 -- ## Forms grow with the table
 
-absence_self : (a : Absence) → AbsenceGrows a a
-absence_self (takes_default t) = refl
-absence_self stays_absent = refl
-absence_self is_required = tt
+pub absence_self : (k : ℕ) (a : Absence) → AbsenceGrows k a a
+absence_self k (takes_default t) = λ few. refl
+absence_self k stays_absent = refl
+absence_self k is_required = tt
 
-fields_self : (fs : List FieldForm) → FieldsGrow fs fs
-fields_self [] = tt
-fields_self (f ∷ fs) = (record { name = refl; shape = refl; absence = absence_self f.absence }, fields_self fs)
+fields_self : (k : ℕ) (fs : List FieldForm) → FieldsGrow k fs fs
+fields_self k [] = tt
+fields_self k (f ∷ fs) = (record { name = refl; shape = refl; absence = absence_self k f.absence }, fields_self k fs)
 
-form_self : (form : InputForm) → FormGrows form form
-form_self integer_form = refl
-form_self string_form = refl
-form_self boolean_form = refl
-form_self id_form = refl
-form_self custom_form = refl
-form_self (enum_form names) = refl
-form_self (object_form fs) = (fs, refl, fields_self fs)
-form_self no_form = refl
+pub form_self : (k : ℕ) (form : InputForm) → FormGrows k form form
+form_self k integer_form = refl
+form_self k string_form = refl
+form_self k boolean_form = refl
+form_self k id_form = refl
+form_self k custom_form = refl
+form_self k (enum_form names) = refl
+form_self k (object_form fs) = (fs, refl, fields_self k fs)
+form_self k no_form = refl
 
-absence_more : (literal : Option ValueTree) (less more : Option CoercedTree) (s : ShapeTree) → ((t : CoercedTree) → less ≡ Some t → more ≡ Some t) → AbsenceGrows (table_absence literal less s) (table_absence literal more s)
-absence_more None less more s keeps = absence_self (absence_of s)
-absence_more (Some l) None more s keeps = tt
-absence_more (Some l) (Some t) more s keeps = ap (λ v. table_absence (Some l) v s) (keeps t refl)
+absence_more : (k : ℕ) (literal : Option ValueTree) (less more : Option CoercedTree) (s : ShapeTree) → ((t : CoercedTree) → less ≡ Some t → more ≡ Some t) → AbsenceGrows k (table_absence literal less s) (table_absence literal more s)
+absence_more k None less more s keeps = absence_self k (absence_of s)
+absence_more k (Some l) None more s keeps = tt
+absence_more k (Some l) (Some t) more s keeps = λ few. ap (λ v. table_absence (Some l) v s) (keeps t refl)
 
-fields_more : (less more : ℕ → Option CoercedTree) (n : ℕ) (fs : List FieldDraft) → ((at : ℕ) (t : CoercedTree) → less at ≡ Some t → more at ≡ Some t) → FieldsGrow (table_fields less n fs) (table_fields more n fs)
-fields_more less more n [] keeps = tt
-fields_more less more n (f ∷ fs) keeps = (record { name = refl; shape = refl; absence = absence_more f.default (less n) (more n) f.shape (keeps n) }, fields_more less more (suc n) fs keeps)
+fields_more : (k : ℕ) (less more : ℕ → Option CoercedTree) (n : ℕ) (fs : List FieldDraft) → ((at : ℕ) (t : CoercedTree) → less at ≡ Some t → more at ≡ Some t) → FieldsGrow k (table_fields less n fs) (table_fields more n fs)
+fields_more k less more n [] keeps = tt
+fields_more k less more n (f ∷ fs) keeps = (record { name = refl; shape = refl; absence = absence_more k f.default (less n) (more n) f.shape (keeps n) }, fields_more k less more (suc n) fs keeps)
 
-form_more : (d : Draft) (less more : ℕ → Option CoercedTree) → ((at : ℕ) (t : CoercedTree) → less at ≡ Some t → more at ≡ Some t) → FormGrows (table_form less d) (table_form more d)
-form_more (settled form) less more keeps = form_self form
-form_more (drafted fs) less more keeps = (table_fields more 0 fs, refl, fields_more less more 0 fs keeps)
+form_more : (k : ℕ) (d : Draft) (less more : ℕ → Option CoercedTree) → ((at : ℕ) (t : CoercedTree) → less at ≡ Some t → more at ≡ Some t) → FormGrows k (table_form less d) (table_form more d)
+form_more k (settled form) less more keeps = form_self k form
+form_more k (drafted fs) less more keeps = (table_fields more 0 fs, refl, fields_more k less more 0 fs keeps)
 
 -- ## Values stay what literals come to
 
@@ -83,22 +85,22 @@ small_ok : (a : Answer CoercedTree) (t : CoercedTree) → small_enough a ≡ Ok 
 small_ok (Ok u) t e = ap Ok (cond_ok (leb (nodes u) most_nodes) u t e)
 small_ok (Err path) t e = absurd (err_ok [] t e)
 
-default_more : (less more : ℕ → InputForm) (s : ShapeTree) (l : ValueTree) (t : CoercedTree) → ((of : ℕ) → FormGrows (less of) (more of)) → default_value less s l ≡ Ok t → default_value more s l ≡ Ok t
-default_more less more s l t grows e =
+pub default_more : (k : ℕ) (less more : ℕ → InputForm) (s : ShapeTree) (l : ValueTree) (t : CoercedTree) → nodes t ≤ k → ((of : ℕ) → FormGrows k (less of) (more of)) → default_value less s l ≡ Ok t → default_value more s l ≡ Ok t
+default_more k less more s l t few grows e =
     let was = small_ok (coerced less (literal_given no_variables l) s) t e in
-    ap small_enough (grown less more grows (literal_given no_variables l) s t was ∙ sym was) ∙ e
+    ap small_enough (grown k less more grows (literal_given no_variables l) s t few was ∙ sym was) ∙ e
 
-literal_more : (less more : ℕ → InputForm) (s : ShapeTree) (l : Option ValueTree) (t : CoercedTree) → ((of : ℕ) → FormGrows (less of) (more of)) → literal_value less s l ≡ Ok t → literal_value more s l ≡ Ok t
+literal_more : (less more : ℕ → InputForm) (s : ShapeTree) (l : Option ValueTree) (t : CoercedTree) → ((of : ℕ) → FormGrows (nodes t) (less of) (more of)) → literal_value less s l ≡ Ok t → literal_value more s l ≡ Ok t
 literal_more less more s None t grows e = e
-literal_more less more s (Some l) t grows e = default_more less more s l t grows e
+literal_more less more s (Some l) t grows e = default_more (nodes t) less more s l t (omega arith) grows e
 
-field_more : (less more : ℕ → InputForm) (f : Option FieldDraft) (t : CoercedTree) → ((of : ℕ) → FormGrows (less of) (more of)) → field_value less f ≡ Ok t → field_value more f ≡ Ok t
+field_more : (less more : ℕ → InputForm) (f : Option FieldDraft) (t : CoercedTree) → ((of : ℕ) → FormGrows (nodes t) (less of) (more of)) → field_value less f ≡ Ok t → field_value more f ≡ Ok t
 field_more less more None t grows e = e
 field_more less more (Some f) t grows e = literal_more less more f.shape f.default t grows e
 
 place_more : (draft : ℕ → Draft) (less more : Table) (of at : ℕ) (t : CoercedTree) → Keeps less more → place_value draft less of at ≡ Ok t → place_value draft more of at ≡ Ok t
 place_more draft less more of at t keeps e =
-    field_more (table_forms draft less) (table_forms draft more) (slice_get (draft_fields (draft of)) at) t (λ o. form_more (draft o) (less o) (more o) (λ k u. keeps o k u)) e
+    field_more (table_forms draft less) (table_forms draft more) (slice_get (draft_fields (draft of)) at) t (λ o. form_more (nodes t) (draft o) (less o) (more o) (λ k u. keeps o k u)) e
 
 -- ## One value more
 
@@ -321,5 +323,14 @@ rounds_end types now start after missing still same before left over =
     subst (λ ts. AreFilled (drafts types) (table_forms (drafts ts) after)) (sym same)
     (all_filled (drafts types) after (left.found before.0) (none_left (drafts types) start after missing still left over (still_covers (drafts types) start after missing still left before.1)))
 
-pub rounds_go_on : (types : List DraftType) (start after : Table) (missing still : List (ℕ × ℕ)) → AreFound (drafts types) start × Covers (drafts types) start missing → RoundLeft (drafts types) start after missing still (length missing) → AreFound (drafts types) after × Covers (drafts types) after still
-rounds_go_on types start after missing still before left = (left.found before.0, still_covers (drafts types) start after missing still left before.1)
+covers_moved : (draft : ℕ → Draft) (table : Table) (still moved : List (ℕ × ℕ)) → IsPermutation still moved → Covers draft table still → Covers draft table moved
+covers_moved draft table still moved move covers = λ of at. elim (covers of at) [
+  | inl nothing ↦ inl nothing
+  | inr r ↦ elim r [
+    | inl found ↦ inr (inl found)
+    | inr c ↦ inr (inr (Contains-permutation still moved (of, at) move c))
+  ]
+]
+
+pub rounds_go_on : (types : List DraftType) (start after : Table) (missing still moved : List (ℕ × ℕ)) → AreFound (drafts types) start × Covers (drafts types) start missing → RoundLeft (drafts types) start after missing still (length missing) → IsPermutation still moved → AreFound (drafts types) after × Covers (drafts types) after moved
+rounds_go_on types start after missing still moved before left move = (left.found before.0, covers_moved (drafts types) after still moved move (still_covers (drafts types) start after missing still left before.1))

@@ -3,7 +3,6 @@ use Rattle.std.proofs.Common.{◌≡◌, ◌+◌, ℕ, zero, suc, ◌||◌, byte
 use Rattle.std.specs.Prelude.{slice_get}
 use Rattle.std.proofs.lemmas.Option.{slice_get-map}
 use Rattle.gql_base.specs.names.Names.{has_name}
-use Rattle.gql_base.specs.declared.parts.trees.Name.{Name}
 use Rattle.input_values.specs.values.Coerced.{CoercedTree}
 use Rattle.input_values.specs.coercion.Forms.{is_value, is_field, names_of, fields_of}
 use Rattle.input_values.specs.coercion.Kinds.{scalar_form_of}
@@ -56,6 +55,6 @@ at_place values fs at = at_drafted values (map field_draft fs) at ∙ (ap (optio
     twice None = refl
     twice (Some f) = refl
 
-pub has_value_drafted : (names : List (Bor Name)) (name : List ℕ) → is_value (map (λ n. n.now.text) names) name ≡ has_name (λ n. n.now.text) names name
+pub has_value_drafted : (names : List (Bor (List ℕ))) (name : List ℕ) → is_value (map (λ n. n.now) names) name ≡ has_name (λ n. n.now) names name
 has_value_drafted [] name = refl
-has_value_drafted (n ∷ names) name = ap (λ b. bytes_eq n.now.text name || b) (has_value_drafted names name)
+has_value_drafted (n ∷ names) name = ap (λ b. bytes_eq n.now name || b) (has_value_drafted names name)

@@ -27,7 +27,7 @@ field_draft f = record { name = f.name.now; shape = shape_tree f.shape; default 
 
 abbrev pub type_draft : DraftType → Draft
 type_draft (Simple kind) = settled (scalar_form_of kind)
-type_draft (EnumDraft names) = settled (enum_form (map (λ n. n.now.text) names.items.items))
+type_draft (EnumDraft names) = settled (enum_form (map (λ n. n.now) names.items.items))
 type_draft (ObjectDraft fields) = drafted (map field_draft fields.items.items)
 
 abbrev pub draft_or : Option DraftType → Draft

@@ -2,7 +2,7 @@
 
 use crate::inputs::shape::Shape;
 use crate::inputs::types::InputKind;
-use gql_base::{Indexed, Name, Named, Value};
+use gql_base::{Indexed, Named, Text, Value};
 
 /// A field of an input object, with the literal of its default.
 #[derive(Drop)]
@@ -26,6 +26,8 @@ pub enum DraftType<'a> {
     /// A scalar by its kind, or a type that is no input type by the kind `None`. The kinds of enums and input objects
     /// count as `None` here.
     Simple(InputKind),
-    Enum(Indexed<&'a Name>),
+    /// An enum, by the names of its values.
+    Enum(Indexed<&'a Text>),
+    /// An input object.
     Object(Indexed<DraftField<'a>>),
 }

@@ -12,7 +12,7 @@ use crate::defaults::drafts::{DraftField, DraftType};
 use crate::inputs::shape::{Shape, TypeId};
 use crate::inputs::types::{Absence, InputField, InputKind, InputTypes};
 use crate::values::coerced::Coerced;
-use gql_base::{Indexed, Name, Value};
+use gql_base::{Indexed, Text, Value};
 use std::collections::BTreeMap;
 
 /// Types with the values of their defaults.
@@ -86,8 +86,8 @@ impl<'a> FilledTypes<'a> {
 
     /// The names of an enum's values.
     #[tactic(auto, using(crate::proofs::FillingSteps::Tables::no_names))]
-    fn names(&self, of: TypeId) -> Option<&Indexed<&'a Name>>
-        ensures { names_of (filled_forms self.now of.number) ≡ listed (option_map (λ names. map (λ n. n.now.text) names.now.items.items) result) }
+    fn names(&self, of: TypeId) -> Option<&Indexed<&'a Text>>
+        ensures { names_of (filled_forms self.now of.number) ≡ listed (option_map (λ names. map (λ n. n.now) names.now.items.items) result) }
     {
         match self.types.get(of.number) {
             Some(DraftType::Enum(names)) => Some(names),

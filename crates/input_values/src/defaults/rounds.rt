@@ -1,5 +1,6 @@
 //! The values of defaults, found in rounds: each default without a value is coerced beside those that were found, until
-//! a round finds none.
+//! a round finds none. A round goes the other way than the one before it, so defaults that are filled one from another in
+//! the order of the text take two rounds, whichever comes first.
 
 ghost use Rattle.std.specs.Prelude.{ℕ, ◌≡◌, ◌<◌, ◌++◌, [], ◌∷◌, if◌then◌else◌, length, slice_get, option_map, Some, IfOk, OnOk, true};
 ghost use Rattle.std.specs.BTreeMap.{Updates};
@@ -27,10 +28,11 @@ pub fn fill<'a>(alloc: Global, types: Vec<DraftType<'a>>) -> Result<FilledTypes<
         values: BTreeMap::new(alloc),
     };
     'rounds: loop {
-        let still = fill_round(alloc, &mut filled, &missing)?;
+        let mut still = fill_round(alloc, &mut filled, &missing)?;
         if still.len() == missing.len() {
             return Ok(filled);
         }
+        still.reverse();
         missing = still;
     }
 }

@@ -13,6 +13,6 @@ returns-then-len c =
 pub rounds-preserved : goal.rounds-preserved
 rounds-preserved c = (
   ap (λ t. t.items) c.fill_round.ensures.same ∙ c.rounds.invariant.0,
-  rounds_go_on c.args.types.items (table_of c.rounds.filled.values) (table_of c.fill_round.new.filled.values) c.rounds.missing.items c.in_ok-still.still.items c.rounds.invariant.1
-      (round_of c.args.types.items c.rounds.filled.types.items (table_of c.rounds.filled.values) (table_of c.fill_round.new.filled.values) c.deref-in-rounds.result.now c.rounds.missing.items c.in_ok-still.still.items c.rounds.invariant.0 c.deref-in-rounds.ensures.value c.in_ok-still.ensures.round),
+  rounds_go_on c.args.types.items (table_of c.rounds.filled.values) (table_of c.fill_round.new.filled.values) c.rounds.missing.items c.in_ok-still.still.items c.reverse.new.self.items c.rounds.invariant.1
+      (round_of c.args.types.items c.rounds.filled.types.items (table_of c.rounds.filled.values) (table_of c.fill_round.new.filled.values) c.deref-in-rounds.result.now c.rounds.missing.items c.in_ok-still.still.items c.rounds.invariant.0 c.deref-in-rounds.ensures.value c.in_ok-still.ensures.round) c.reverse.ensures.permutation,
 )
