@@ -1,0 +1,13 @@
+pub mod ShapeSteps
+pub mod NamedDrafts
+pub mod PossibleTypes
+pub mod Arguments
+pub mod MarkSteps
+pub mod Narrowing
+pub mod DraftSteps
+pub mod FaultSteps
+pub mod AskedSteps
+pub mod FormSteps
+pub mod DefaultSteps
+pub mod BuildLaws
+pub mod OwnForms

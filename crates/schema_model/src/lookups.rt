@@ -1,0 +1,217 @@
+//! What is looked up in a checked schema. The look-ups take no memory. They ask for numbers of this schema; at
+//! other numbers they answer as at a union without members, or a field, that has no name.
+
+ghost use Rattle.std.specs.Prelude.{◌≡◌, map, option_map, length, get_or};
+ghost use Rattle.std.specs.List.{list_any};
+ghost use Rattle.gql_base.specs.names.Names.{has_name};
+ghost use Rattle.input_values.specs.inputs.Shapes.{shape_tree};
+ghost use Rattle.input_values.specs.inputs.Definitions.{input_data};
+ghost use Rattle.schema_model.specs.SchemaData.{type_at, field_at, type_named, field_named, possible, applies, root_of, same_text, number_at};
+ghost use Rattle.schema_model.specs.Numbers.{type_number};
+ghost use Rattle.schema_model.specs.Entries.{type_data, field_data, field_number, maybe_text, maybe_size};
+ghost use Rattle.schema_model.specs.SchemaViews.{schema_data};
+
+use crate::entries::{FieldEntry, FieldId, ListSize, TypeEntry};
+use crate::marks::has_number;
+use crate::schema::Schema;
+use gql_base::Text;
+use input_values::{InputDef, Shape, TypeId};
+use schema_rules::Kind;
+
+impl Schema {
+    pub(crate) fn entry(&self, of: TypeId) -> &TypeEntry
+        ensures { type_data result.now ≡ type_at (schema_data self.now) of.number }
+    {
+        match self.types.items().get(of.number) {
+            Some(entry) => entry,
+            None => &self.other_type,
+        }
+    }
+
+    fn field_entry(&self, of: FieldId) -> &FieldEntry
+        ensures { field_data result.now ≡ field_at (schema_data self.now) of.number }
+    {
+        match self.fields.get(of.number) {
+            Some(entry) => entry,
+            None => &self.other_field,
+        }
+    }
+
+    /// The type of this name.
+    pub fn find(&self, name: &str) -> Option<TypeId>
+        ensures { option_map type_number result ≡ type_named (schema_data self.now) name.now }
+    {
+        match self.types.position(name) {
+            Some(number) => Some(TypeId { number }),
+            None => None,
+        }
+    }
+
+    /// The field of this name.
+    pub fn field(&self, of: TypeId, name: &str) -> Option<FieldId>
+        ensures { option_map field_number result ≡ field_named (schema_data self.now) of.number name.now }
+    {
+        let entry = self.entry(of);
+        match entry.names.position(name) {
+            Some(at) => Some(field_at_place(&entry.fields, at)),
+            None => None,
+        }
+    }
+
+    /// The object types of a composite type, in the order of the schema.
+    pub fn possible(&self, of: TypeId) -> &[TypeId]
+        ensures { map type_number result.now ≡ possible (schema_data self.now) of.number }
+    {
+        match self.possible.get(of.number) {
+            Some(possible) => possible,
+            None => &[],
+        }
+    }
+
+    /// Whether a condition applies to an object type: it is that type, an interface that it implements, or a union of which
+    /// it is a member.
+    pub fn applies(&self, condition: TypeId, object: TypeId) -> bool
+        ensures { result ≡ applies (schema_data self.now) condition.number object.number }
+    {
+        match self.kind(condition) {
+            Kind::Object => condition.number == object.number,
+            Kind::Interface => has_number(self.interfaces(object), condition.number),
+            Kind::Union => has_number(&self.entry(condition).members, object.number),
+            Kind::Scalar | Kind::Enum | Kind::Input => false,
+        }
+    }
+
+    /// The type of the operations of a kind: of mutations, or of queries.
+    pub fn root(&self, mutation: bool) -> Option<TypeId>
+        ensures { option_map type_number result ≡ root_of (schema_data self.now) mutation }
+    {
+        if mutation {
+            self.mutation
+        } else {
+            Some(self.query)
+        }
+    }
+
+    /// The type of subscriptions.
+    pub fn subscription(&self) -> Option<TypeId>
+        ensures { option_map type_number result ≡ (schema_data self.now).subscription }
+    {
+        self.subscription
+    }
+
+    /// The numbers of defined types, and of fields of object and interface types.
+    pub fn counts(&self) -> (usize, usize)
+        ensures types { result.0 ≡ (schema_data self.now).defined }
+        ensures fields { result.1 ≡ length (schema_data self.now).fields }
+    {
+        (self.defined, self.fields.len())
+    }
+
+    pub fn kind(&self, of: TypeId) -> Kind
+        ensures { result ≡ (type_at (schema_data self.now) of.number).kind }
+    {
+        self.entry(of).kind
+    }
+
+    pub fn type_name(&self, of: TypeId) -> &Text
+        ensures { result.now ≡ (type_at (schema_data self.now) of.number).name }
+    {
+        &self.entry(of).name
+    }
+
+    /// The fields of an object or interface type, in the order of the text.
+    pub fn fields(&self, of: TypeId) -> &[FieldId]
+        ensures { map field_number result.now ≡ (type_at (schema_data self.now) of.number).fields }
+    {
+        &self.entry(of).fields
+    }
+
+    /// The interfaces that a type names.
+    pub fn interfaces(&self, of: TypeId) -> &[TypeId]
+        ensures { map type_number result.now ≡ (type_at (schema_data self.now) of.number).interfaces }
+    {
+        &self.entry(of).interfaces
+    }
+
+    /// The types that a union names.
+    pub fn members(&self, of: TypeId) -> &[TypeId]
+        ensures { map type_number result.now ≡ (type_at (schema_data self.now) of.number).members }
+    {
+        &self.entry(of).members
+    }
+
+    pub fn enum_values(&self, of: TypeId) -> &[Text]
+        ensures { result.now ≡ (type_at (schema_data self.now) of.number).values }
+    {
+        self.entry(of).values.items()
+    }
+
+    /// The fields of an input object type, in the order of the text.
+    pub fn input_fields(&self, of: TypeId) -> &[InputDef]
+        ensures { map input_data result.now ≡ (type_at (schema_data self.now) of.number).inputs }
+    {
+        self.entry(of).inputs.items()
+    }
+
+    /// The text of the weight of a type's own `@cost`.
+    pub fn type_cost(&self, of: TypeId) -> Option<&Text>
+        ensures { maybe_text result ≡ (type_at (schema_data self.now) of.number).cost }
+    {
+        self.entry(of).cost.as_ref()
+    }
+
+    pub fn field_name(&self, of: FieldId) -> &Text
+        ensures { result.now ≡ (field_at (schema_data self.now) of.number).name }
+    {
+        &self.field_entry(of).name
+    }
+
+    /// The type that has the field.
+    pub fn owner(&self, of: FieldId) -> TypeId
+        ensures { result.number ≡ (field_at (schema_data self.now) of.number).owner }
+    {
+        self.field_entry(of).owner
+    }
+
+    pub fn field_shape(&self, of: FieldId) -> &Shape
+        ensures { shape_tree result.now ≡ (field_at (schema_data self.now) of.number).shape }
+    {
+        &self.field_entry(of).shape
+    }
+
+    pub fn arguments(&self, of: FieldId) -> &[InputDef]
+        ensures { map input_data result.now ≡ (field_at (schema_data self.now) of.number).arguments }
+    {
+        &self.field_entry(of).arguments
+    }
+
+    /// The text of the weight of a field's own `@cost`.
+    pub fn field_cost(&self, of: FieldId) -> Option<&Text>
+        ensures { maybe_text result ≡ (field_at (schema_data self.now) of.number).cost }
+    {
+        self.field_entry(of).cost.as_ref()
+    }
+
+    /// A field's own `@listSize`.
+    pub fn list_size(&self, of: FieldId) -> Option<&ListSize>
+        ensures { maybe_size result ≡ (field_at (schema_data self.now) of.number).size }
+    {
+        self.field_entry(of).size.as_ref()
+    }
+
+    /// Whether the schema defines a directive of this name.
+    pub fn has_directive(&self, name: &str) -> bool
+        ensures { result ≡ has_name same_text (schema_data self.now).directives name.now }
+    {
+        self.directives.has(name)
+    }
+}
+
+fn field_at_place(fields: &[FieldId], at: usize) -> FieldId
+    ensures { result.number ≡ get_or (map field_number fields.now) at 0 }
+{
+    match fields.get(at) {
+        Some(field) => *field,
+        None => FieldId { number: 0 },
+    }
+}
