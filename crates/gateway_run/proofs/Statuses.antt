@@ -6,17 +6,33 @@ use Rattle.gateway_run.specs.Texts.{line}
 use Rattle.response_meter.specs.declared.fault.MeterFault.{MeterFault}
 use Rattle.response_meter.specs.declared.fault.MeterFault.TheVariants.{NotResponse, SizeBroken, Memory as MeterMemory}
 use Rattle.gateway_run.specs.declared.command.Command.{Command}
-use Rattle.gateway_run.specs.declared.command.Command.TheVariants.{Price, Meter}
+use Rattle.gateway_run.specs.declared.command.Command.TheVariants.{Check, Price, Meter}
 use Rattle.gateway_run.specs.declared.outcome.Outcome.{Outcome}
 use Rattle.gateway_run.specs.declared.outcome.Outcome.TheVariants.{Done, Refused, FileFailed, Faulty, Usage, Memory}
 use Rattle.gateway_run.specs.declared.outcome.TheConstants.{DONE, REFUSED, USAGE, FILE_FAILED, STREAM_FAILED, NO_MEMORY, SIZE_BROKEN, NOT_RESPONSE}
 use Rattle.gateway_run.specs.Commands.{Asks, IsNoCommand}
 use Rattle.gateway_run.specs.Outcomes.{FilesTold, StreamTold, IsKept, Writes, Ends}
+use Rattle.gateway_run.specs.Check.{CheckOf}
 use Rattle.gateway_run.specs.Price.{PriceOf}
 use Rattle.gateway_run.specs.Meter.{status_of, MeterOf}
 use Rattle.gateway_run.specs.Program.{CommandCameTo, IsCommandOf, ComeTo, IsFileOf, NamesFile, OneFailed, PrintsOutput, PrintsRefusal, PrintsFault, IsSilent}
 
 -- the bytes that were read come to no file that failed, and to no wrong use
+check_file : (schema bytes name : List ℕ) → CheckOf schema bytes (FileFailed name) → ⊥
+check_file schema bytes name (inl memory) = absurd (cc)
+check_file schema bytes name (inr (inl done)) = absurd done.2
+check_file schema bytes name (inr (inr refused)) = absurd refused.2
+
+check_usage : (schema bytes : List ℕ) → CheckOf schema bytes Usage → ⊥
+check_usage schema bytes (inl memory) = absurd (cc)
+check_usage schema bytes (inr (inl done)) = absurd done.2
+check_usage schema bytes (inr (inr refused)) = absurd refused.2
+
+check_faulty : (schema bytes text : List ℕ) (status : ℕ) → CheckOf schema bytes (Faulty status text) → ⊥
+check_faulty schema bytes text status (inl memory) = absurd (cc)
+check_faulty schema bytes text status (inr (inl done)) = absurd done.2
+check_faulty schema bytes text status (inr (inr refused)) = absurd refused.2
+
 price_file : (schema document name : List ℕ) → PriceOf schema document (FileFailed name) → ⊥
 price_file schema document name (inl memory) = absurd (cc)
 price_file schema document name (inr (inl done)) = absurd done.2
@@ -61,6 +77,8 @@ meter_faulty schema document reply text status (inr (inr (inr refused))) = absur
 
 -- what commands come to
 came_file : (command : Command) (files : FilesTold) (name : List ℕ) → CommandCameTo command files (FileFailed name) → IsFileOf command name × Rose (files.faults_before name) (files.faults_after name)
+came_file (Check schema) files name (inl stopped) = stopped
+came_file (Check schema) files name (inr read) = absurd (check_file schema read.0 name read.2)
 came_file (Price schema document) files name (inl stopped) = stopped
 came_file (Price schema document) files name (inr read) = absurd (price_file read.0 read.1 name read.4)
 came_file (Meter schema document reply) files name (inl stopped) = stopped
@@ -68,6 +86,8 @@ came_file (Meter schema document reply) files name (inr (inl large)) = absurd la
 came_file (Meter schema document reply) files name (inr (inr read)) = absurd (meter_file read.0 read.1 read.4.0 name read.4.3)
 
 came_usage : (command : Command) (files : FilesTold) → CommandCameTo command files Usage → ⊥
+came_usage (Check schema) files (inl stopped) = stopped
+came_usage (Check schema) files (inr read) = check_usage schema read.0 read.2
 came_usage (Price schema document) files (inl stopped) = stopped
 came_usage (Price schema document) files (inr read) = price_usage read.0 read.1 read.4
 came_usage (Meter schema document reply) files (inl stopped) = stopped
@@ -75,6 +95,8 @@ came_usage (Meter schema document reply) files (inr (inl large)) = large.1
 came_usage (Meter schema document reply) files (inr (inr read)) = meter_usage read.0 read.1 read.4.0 read.4.3
 
 came_faulty : (command : Command) (files : FilesTold) (status : ℕ) (text : List ℕ) → CommandCameTo command files (Faulty status text) → IsReplyStatus status
+came_faulty (Check schema) files status text (inl stopped) = absurd stopped
+came_faulty (Check schema) files status text (inr read) = absurd (check_faulty schema read.0 text status read.2)
 came_faulty (Price schema document) files status text (inl stopped) = absurd stopped
 came_faulty (Price schema document) files status text (inr read) = absurd (price_faulty read.0 read.1 text status read.4)
 came_faulty (Meter schema document reply) files status text (inl stopped) = absurd stopped

@@ -1,7 +1,19 @@
 -- Words whose first names the command.
 use Rattle.std.proofs.Common.{sym, ◌≡◌, ◌≤◌, ◌<◌, ℕ, List, [], ◌∷◌, length, get_or, true, nat_eq, codes, arith}
 use lib.Pointwise.{pointwise, bytes_decides}
-use Rattle.gateway_run.specs.Commands.{price_words, meter_words}
+use Rattle.gateway_run.specs.Commands.{check_words, price_words, meter_words}
+
+two : (words : List (List ℕ)) (a b : List ℕ) → 2 ≤ length words → length words < 3 → a ≡ get_or words 0 a → b ≡ get_or words 1 b → words ≡ a ∷ b ∷ []
+two [] a b most least p q = absurd (omega (arith, most))
+two (x ∷ []) a b most least p q = absurd (omega (arith, most))
+two (x ∷ y ∷ []) a b most least p q = grind (arith, p, q)
+two (x ∷ y ∷ z ∷ words) a b most least p q = absurd (omega (arith, least))
+
+-- they are a check command's
+pub are_check : (words : List (List ℕ)) (a b name : List ℕ) → 2 ≤ length words → length words < 3 → a ≡ get_or words 0 a → b ≡ get_or words 1 b
+    → name ≡ a → true ≡ pointwise nat_eq name (codes "check") → words ≡ check_words b
+are_check words a b name most least p q same named =
+    grind (arith, two words a b most least p q, (bytes_decides name (codes "check")).0 (sym named), same)
 
 three : (words : List (List ℕ)) (a b c : List ℕ) → 3 ≤ length words → length words < 4 → a ≡ get_or words 0 a → b ≡ get_or words 1 b → c ≡ get_or words 2 c → words ≡ a ∷ b ∷ c ∷ []
 three [] a b c most least p q r = absurd (omega (arith, most))

@@ -5,6 +5,8 @@ pub mod Operations
 pub mod Faults
 pub mod Outcomes
 pub mod Refusals
+pub mod SchemaTexts
+pub mod Check
 pub mod Price
 pub mod Meter
 pub mod Program

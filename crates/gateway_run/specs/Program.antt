@@ -2,7 +2,7 @@
 use Rattle.std.specs.Prelude.{◌≡◌, ◌⊎◌, ℕ, List, Vec}
 use Rattle.std.specs.declared.alloc.Global.{Global}
 use Rattle.gateway_run.specs.declared.command.Command.{Command}
-use Rattle.gateway_run.specs.declared.command.Command.TheVariants.{Price, Meter}
+use Rattle.gateway_run.specs.declared.command.Command.TheVariants.{Check, Price, Meter}
 use Rattle.gateway_run.specs.declared.command.WordsFault.{WordsFault}
 use Rattle.gateway_run.specs.declared.command.WordsFault.TheVariants.{Usage as NoCommand, Memory as NoMemory}
 use Rattle.gateway_run.specs.declared.outcome.Outcome.{Outcome}
@@ -11,11 +11,13 @@ use Rattle.gateway_run.specs.Commands.{Asks, IsNoCommand}
 use Rattle.outside.specs.Faults.{Rose}
 use Rattle.gateway_run.specs.Texts.{line, file_text}
 use Rattle.gateway_run.specs.Outcomes.{FilesTold, StreamTold, Gains, IsKept, HasFailed, FailsAmid, Ends}
+use Rattle.gateway_run.specs.Check.{CheckCameTo}
 use Rattle.gateway_run.specs.Price.{PriceCameTo}
 use Rattle.gateway_run.specs.Meter.{MeterCameTo}
 
 -- What a command came to.
 abbrev pub CommandCameTo : Command → FilesTold → Outcome → Type 0
+CommandCameTo (Check schema) files outcome = CheckCameTo schema files outcome
 CommandCameTo (Price schema document) files outcome = PriceCameTo schema document files outcome
 CommandCameTo (Meter schema document reply) files outcome = MeterCameTo schema document reply files outcome
 
@@ -40,6 +42,7 @@ Runs words status files out err = (outcome : Outcome) × ComeTo words files outc
 
 -- The names of the command's files.
 abbrev pub IsFileOf : Command → List ℕ → Type 0
+IsFileOf (Check schema) name = name ≡ schema
 IsFileOf (Price schema document) name = (name ≡ schema) ⊎ (name ≡ document)
 IsFileOf (Meter schema document reply) name = (name ≡ schema) ⊎ (name ≡ document) ⊎ (name ≡ reply)
 

@@ -1,6 +1,7 @@
 -- The lines that the commands write.
 use Rattle.std.specs.Prelude.{ℕ, List, [], ◌∷◌, ◌++◌, codes}
 use Rattle.std.specs.Fmt.{decimal}
+use Rattle.gql_base.specs.declared.lexical.lexing.LexFault.{LexFault}
 use Rattle.gql_base.specs.declared.lexical.lexing.LexFault.TheVariants as lexical
 use Rattle.document_reader.specs.declared.document.DocFault.{DocFault}
 use Rattle.document_reader.specs.declared.document.DocFault.TheVariants.{Lex, Unexpected, TooDeep, Memory as DocumentMemory}
@@ -19,14 +20,22 @@ line text = text ++ (10 ∷ [])
 abbrev pub placed : List ℕ → ℕ → List ℕ
 placed text at = text ++ (32 ∷ decimal at)
 
--- a fault of a document with its place, where a fault of its tokens is the fault's field; want of memory has no text
+-- a text, a space, and the name or the place of what is at fault
+abbrev pub naming : List ℕ → List ℕ → List ℕ
+naming text name = text ++ (32 ∷ name)
+
+-- what is wrong with the tokens of a text, with its place; want of memory has no text
+abbrev pub lexical_text : LexFault → List ℕ
+lexical_text (lexical.BadChar at) = placed (codes "1 Lex 1 BadChar") at
+lexical_text (lexical.BadNumber at) = placed (codes "1 Lex 2 BadNumber") at
+lexical_text (lexical.OpenText at) = placed (codes "1 Lex 3 OpenText") at
+lexical_text (lexical.BadEscape at) = placed (codes "1 Lex 4 BadEscape") at
+lexical_text (lexical.FloatValue at) = placed (codes "1 Lex 5 FloatValue") at
+lexical_text lexical.Memory = []
+
+-- a fault of a document with its place; want of memory has no text
 abbrev pub document_text : DocFault → List ℕ
-document_text (Lex (lexical.BadChar at)) = placed (codes "document 1 Lex 1 BadChar") at
-document_text (Lex (lexical.BadNumber at)) = placed (codes "document 1 Lex 2 BadNumber") at
-document_text (Lex (lexical.OpenText at)) = placed (codes "document 1 Lex 3 OpenText") at
-document_text (Lex (lexical.BadEscape at)) = placed (codes "document 1 Lex 4 BadEscape") at
-document_text (Lex (lexical.FloatValue at)) = placed (codes "document 1 Lex 5 FloatValue") at
-document_text (Lex lexical.Memory) = []
+document_text (Lex fault) = codes "document " ++ lexical_text fault
 document_text (Unexpected at) = placed (codes "document 2 Unexpected") at
 document_text (TooDeep at) = placed (codes "document 3 TooDeep") at
 document_text DocumentMemory = []
@@ -46,7 +55,11 @@ file_text name = codes "file " ++ name
 
 -- a file is longer than its limit
 abbrev pub too_large_text : List ℕ → List ℕ
-too_large_text name = codes "input 1 TooLarge " ++ name
+too_large_text name = naming (codes "input 1 TooLarge") name
+
+-- a file is no text
+abbrev pub not_text_text : List ℕ → List ℕ
+not_text_text name = naming (codes "input 2 NotText") name
 
 abbrev pub why_text : Why → List ℕ
 why_text NotJson = codes "NotJson"

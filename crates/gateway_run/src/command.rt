@@ -1,7 +1,7 @@
 //! The commands, and the words that ask for them.
 
 ghost use Rattle.std.specs.Prelude.{◌≡◌, ◌↔◌, IfOk, IfSome, IfNone, IsErrOf};
-ghost use Rattle.gateway_run.specs.Commands.{price_words, meter_words, IsNoPrice, IsNoMeter, Asks, IsNoCommand};
+ghost use Rattle.gateway_run.specs.Commands.{check_words, price_words, meter_words, IsNoCheck, IsNoPrice, IsNoMeter, Asks, IsNoCommand};
 
 use gql_base::Text;
 use std::alloc::{AllocError, Global};
@@ -10,6 +10,8 @@ use thiserror::Error;
 /// A command, with the names of its files.
 #[derive(Drop)]
 pub enum Command {
+    /// Says how many types and fields a schema has, or which test it doesn't pass.
+    Check { schema: Text },
     /// Says what an operation costs at most.
     Price {
         schema: Text,
@@ -32,6 +34,19 @@ pub enum WordsFault {
     /// There was no memory.
     #[error("there was no memory for the words")]
     Memory,
+}
+
+// The name in the words of a check command.
+fn check_name(words: &[Text]) -> Option<&Text>
+    ensures some { IfSome result (λ name. words.now ≡ check_words name.now) }
+    ensures none { IfNone result (IsNoCheck words.now) }
+{
+    if let [command, schema] = words {
+        if command.as_str() == "check" {
+            return Some(schema);
+        }
+    }
+    None
 }
 
 // The names in the words of a price command.
@@ -67,6 +82,14 @@ fn copied(alloc: Global, word: &Text) -> Result<Text, AllocError>
     Text::copy_of(alloc, word.as_str())
 }
 
+// The check command for this name.
+fn check_command(alloc: Global, schema: &Text) -> Result<Command, AllocError>
+    ensures { IfOk result (λ command. command ≡ Command.Check schema.now) }
+{
+    let schema = copied(alloc, schema)?;
+    Ok(Command::Check { schema })
+}
+
 // The price command for these names.
 fn price_command(alloc: Global, schema: &Text, document: &Text) -> Result<Command, AllocError>
     ensures { IfOk result (λ command. command ≡ Command.Price schema.now document.now) }
@@ -100,6 +123,12 @@ pub fn command_of(alloc: Global, words: &[Text]) -> Result<Command, WordsFault>
     ensures asked { IfOk result (Asks words.now) }
     ensures usage { IsErrOf result WordsFault.Usage ↔ IsNoCommand words.now }
 {
+    if let Some(schema) = check_name(words) {
+        return match check_command(alloc, schema) {
+            Ok(command) => Ok(command),
+            Err(_) => Err(WordsFault::Memory),
+        };
+    }
     if let Some((schema, document)) = price_names(words) {
         return match price_command(alloc, schema, document) {
             Ok(command) => Ok(command),

@@ -12,7 +12,9 @@ use gql_base::Text;
 use outside::{Sink, WriteFault, write_whole};
 
 /// How the program is used.
-pub const USAGE_TEXT: &[u8] = b"usage: tellcrock price SCHEMA DOCUMENT
+pub const USAGE_TEXT: &[u8] = b"usage: tellcrock check SCHEMA
+  prints how many types and fields a schema has, or which test it doesn't pass
+usage: tellcrock price SCHEMA DOCUMENT
   prints the greatest type cost and the greatest field cost that a response can have
 usage: tellcrock meter SCHEMA DOCUMENT REPLY
   prints what a reply cost, and the answer for its client

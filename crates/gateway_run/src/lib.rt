@@ -3,6 +3,8 @@
 //! Words are read into a command, a command comes to an outcome, and an outcome is written.
 #![tactic(auto)]
 
+mod check;
+mod checked;
 mod command;
 mod finish;
 mod inputs;
@@ -13,6 +15,7 @@ mod outcome;
 mod price;
 mod program;
 mod reply_texts;
+mod schema_texts;
 mod status_laws;
 #[cfg(test)]
 mod tests;

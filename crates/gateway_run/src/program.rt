@@ -4,6 +4,7 @@ ghost use Rattle.std.specs.Prelude.{◌≡◌};
 ghost use Rattle.gateway_run.specs.Outcomes.{files_told, stream_told, Ends};
 ghost use Rattle.gateway_run.specs.Program.{no_command, CommandCameTo, ComeTo, Runs};
 
+use crate::check::check;
 use crate::command::{Command, WordsFault, command_of};
 use crate::finish::finish;
 use crate::meter::meter;
@@ -18,6 +19,7 @@ fn outcome_of<F: Files>(alloc: Global, command: Command, files: &mut F) -> Outco
     ensures { CommandCameTo command (files_told (F.content files.old) (F.faults files.old) (F.faults files.new)) result }
 {
     match command {
+        Command::Check { schema } => check(alloc, schema, files),
         Command::Price { schema, document } => price(alloc, schema, document, files),
         Command::Meter {
             schema,

@@ -6,6 +6,7 @@ ghost use Rattle.gateway_run.specs.Texts.{why_text, meter_text, too_large_text};
 ghost use Rattle.gateway_run.specs.Outcomes.{IsRefusedAs, IsFaultyAs};
 
 use crate::outcome::{NOT_RESPONSE, Outcome, SIZE_BROKEN};
+use crate::texts::refused_naming;
 use gql_base::Text;
 use response_meter::{MeterFault, Why};
 use std::alloc::{AllocError, Global};
@@ -86,20 +87,9 @@ pub fn size_broken(alloc: Global, path: Text, size: u64, length: u64) -> Outcome
     }
 }
 
-// The text of a file that is longer than its limit.
-fn text_of_too_large(alloc: Global, name: &Text) -> Result<String, AllocError>
-    ensures { IfOk result (λ text. string_bytes text ≡ too_large_text name.now) }
-{
-    let name = name.as_str();
-    format!(in alloc; "input 1 TooLarge {name}")
-}
-
-/// The outcome of a file that is longer than its limit.
+/// The outcome of a reply file that is longer than its limit.
 pub fn too_large(alloc: Global, name: Text) -> Outcome
     ensures { IsRefusedAs (too_large_text name) result }
 {
-    match text_of_too_large(alloc, &name) {
-        Ok(text) => Outcome::Refused(Text::from(text)),
-        Err(_) => Outcome::Memory,
-    }
+    refused_naming(alloc, "input 1 TooLarge", &name)
 }

@@ -1,0 +1,62 @@
+//! The texts of why a schema is refused.
+
+ghost use Rattle.gateway_run.specs.SchemaTexts.{schema_text_text, schema_fault_text, schema_refusal_text};
+ghost use Rattle.gateway_run.specs.Outcomes.{IsRefusedAs};
+
+use crate::checked::SchemaRefusal;
+use crate::outcome::Outcome;
+use crate::texts::{refused_as, refused_at, refused_lexical, refused_naming};
+use gql_base::Text;
+use schema_model::SchemaFault;
+use schema_reader::SchemaTextFault;
+use std::alloc::Global;
+
+// The outcome of a text that is no schema text.
+fn refused_text(alloc: Global, fault: SchemaTextFault) -> Outcome
+    ensures { IsRefusedAs (schema_text_text fault) result }
+{
+    match fault {
+        SchemaTextFault::Lex(fault) => refused_lexical(alloc, "text ", fault),
+        SchemaTextFault::Unexpected { at } => refused_at(alloc, "text 2 Unexpected", at),
+        SchemaTextFault::Extension { at } => refused_at(alloc, "text 3 Extension", at),
+        SchemaTextFault::TooDeep { at } => refused_at(alloc, "text 4 TooDeep", at),
+        SchemaTextFault::Memory => Outcome::Memory,
+    }
+}
+
+// The outcome of a schema that doesn't pass a test.
+fn refused_test(alloc: Global, fault: SchemaFault) -> Outcome
+    ensures { IsRefusedAs (schema_fault_text fault) result }
+{
+    match fault {
+        SchemaFault::TooMany { counted } => refused_at(alloc, "schema 1 TooMany", counted),
+        SchemaFault::Repeated { place } => refused_naming(alloc, "schema 2 Repeated", &place),
+        SchemaFault::Reserved { place } => refused_naming(alloc, "schema 3 Reserved", &place),
+        SchemaFault::UnknownType { name } => refused_naming(alloc, "schema 4 UnknownType", &name),
+        SchemaFault::NoQuery => refused_as(alloc, "schema 5 NoQuery"),
+        SchemaFault::WrongKind { place } => refused_naming(alloc, "schema 6 WrongKind", &place),
+        SchemaFault::FloatScalar { place } => refused_naming(alloc, "schema 7 FloatScalar", &place),
+        SchemaFault::NestedList { place } => refused_naming(alloc, "schema 8 NestedList", &place),
+        SchemaFault::EmptyType { name } => refused_naming(alloc, "schema 9 EmptyType", &name),
+        SchemaFault::NotImplemented { place } => {
+            refused_naming(alloc, "schema 10 NotImplemented", &place)
+        }
+        SchemaFault::BadDirective { place } => {
+            refused_naming(alloc, "schema 11 BadDirective", &place)
+        }
+        SchemaFault::BadDefault { place } => refused_naming(alloc, "schema 12 BadDefault", &place),
+        SchemaFault::Memory => Outcome::Memory,
+    }
+}
+
+/// The outcome of a schema file of this name that is refused.
+pub fn refused_schema(alloc: Global, name: &Text, refusal: SchemaRefusal) -> Outcome
+    ensures { IsRefusedAs (schema_refusal_text name.now refusal) result }
+{
+    match refusal {
+        SchemaRefusal::TooLarge => refused_naming(alloc, "input 1 TooLarge", name),
+        SchemaRefusal::NotText => refused_naming(alloc, "input 2 NotText", name),
+        SchemaRefusal::NoSchemaText(fault) => refused_text(alloc, fault),
+        SchemaRefusal::Fails(fault) => refused_test(alloc, fault),
+    }
+}
