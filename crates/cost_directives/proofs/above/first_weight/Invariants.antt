@@ -1,0 +1,12 @@
+use Rattle.std.proofs.Common.{◌≡◌, drop, map, nat_eq}
+use Rattle.std.specs.List.{list_all}
+use Rattle.schema_model.specs.SchemaViews.{schema_data}
+use Rattle.schema_model.specs.Numbers.{type_number}
+use Rattle.schema_model.specs.Entries.{size_data}
+use Rattle.cost_directives.specs.Weighing.{own_weight, own_size, carried_in, carries_like, first_carried}
+use Rattle.cost_directives.specs.Disagree.{same_size}
+use Rattle.cost_directives.proofs.above.first_weight.Given as goal
+
+-- What is left answers as the whole.
+abbrev pub invariant-loop-interface : goal.invariant-loop-interface
+invariant-loop-interface l = first_carried (map (carried_in (schema_data l.schema) own_weight l.name) (map type_number (drop l.interface-index l.interfaces))) ≡ first_carried (map (carried_in (schema_data l.schema) own_weight l.name) (map type_number l.interfaces))

@@ -1,0 +1,11 @@
+use Rattle.std.proofs.Common.{◌≡◌, drop, map}
+use Rattle.schema_rules.specs.First.{first_of}
+use Rattle.schema_model.specs.SchemaViews.{schema_data}
+use Rattle.schema_model.specs.Entries.{field_number}
+use Rattle.cost_directives.specs.FieldPlaces.{field_told}
+use Rattle.cost_directives.specs.SizedOnList.{is_sized_list}
+use Rattle.cost_directives.proofs.faults.sized_on_list.first_sized_list.Given as goal
+
+-- What is left answers as the whole.
+abbrev pub invariant-loop-field : goal.invariant-loop-field
+invariant-loop-field l = first_of (field_told (schema_data l.schema) is_sized_list) (map field_number (drop l.field-index l.fields)) ≡ first_of (field_told (schema_data l.schema) is_sized_list) (map field_number l.fields)

@@ -1,0 +1,12 @@
+use Rattle.std.proofs.Common.{◌≡◌, ◌≤◌, ◌+◌, drop, map, length}
+use Rattle.std.specs.List.{list_any, filter}
+use Rattle.schema_model.specs.Arguments.{arg_data}
+use Rattle.cost_directives.specs.DeclaredSizes.{slicing_args, is_supplied, has_value, is_given, negative_slice, slices_of, greatest_of}
+use Rattle.cost_directives.proofs.sizes.count_given.Given as goal
+
+-- Those so far and those of what is left are all.
+abbrev pub invariant-loop-at : goal.invariant-loop-at
+invariant-loop-at l = record {
+  sum : l.count + length (filter is_given (slicing_args (drop l.at l.places) (map arg_data l.args))) ≡ length (filter is_given (slicing_args l.places (map arg_data l.args)));
+  within : l.count ≤ l.at;
+}

@@ -1,0 +1,21 @@
+-- The meaning: what types and fields weigh, what arguments cost, declared sizes, the weights of a schema and their look-ups;
+-- then the tests of cost directives in the order in which they are made, and what a build answers.
+pub mod Readings
+pub mod Weighing
+pub mod ArgumentCosts
+pub mod DeclaredSizes
+pub mod Weights
+pub mod FieldPlaces
+pub mod BadWeight
+pub mod NotAList
+pub mod Dotted
+pub mod SlicingUnknown
+pub mod SlicingNotInt
+pub mod SizedOnList
+pub mod SizedUnknown
+pub mod NegativeSize
+pub mod Disagree
+pub mod DirectiveFaults
+-- What serves proofs: what the program's forms of these stand for.
+pub mod WeightViews
+pub mod TestViews

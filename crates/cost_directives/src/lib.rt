@@ -1,0 +1,26 @@
+//! What `@cost` and `@listSize` mean on a checked schema (IBM GraphQL Cost Directives Specification): the weights of types and
+//! fields, the declared size of a list, and what arguments cost.
+#![tactic(auto)]
+
+mod above;
+mod argument_costs;
+mod arguments;
+mod build;
+mod entries;
+mod fault;
+mod faults;
+mod laws;
+mod places;
+mod readings;
+mod rules;
+mod sharing;
+mod sizes;
+#[cfg(test)]
+mod tests;
+mod weights;
+
+pub use fault::DirectiveFault;
+pub use laws::weights_are_read_once;
+pub use sharing::weights_are_shared;
+pub use sizes::{Size, SizeFault};
+pub use weights::Weights;
