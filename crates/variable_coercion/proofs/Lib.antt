@@ -1,0 +1,5 @@
+pub mod JsonSteps
+pub mod ShapeSteps
+pub mod InOrder
+pub mod Refused
+pub mod Related

@@ -1,0 +1,56 @@
+-- What the calls answer: what a definition says, or a fault that tells the first refusal. Want of memory tells nothing.
+use Rattle.std.specs.Prelude.{◌≡◌, List, map, Option, Some, None, option_map, Result, Ok, Err}
+use Rattle.input_values.specs.values.Coerced.{CoercedTree, coerced_tree}
+use Rattle.input_values.specs.declared.values.coerced.Coerced.{Coerced}
+use Rattle.input_values.specs.declared.coercion.variables.VariableValue.{VariableValue}
+use Rattle.input_values.specs.coercion.Literals.{Environment, values_of}
+use Rattle.variable_coercion.specs.declared.values.ValueFault.{ValueFault}
+use Rattle.variable_coercion.specs.declared.values.ValueFault.TheVariants.{BadValue as UnfitValue, TooLarge as UnfitSize, Memory as NoMemory}
+use Rattle.variable_coercion.specs.declared.faults.CoerceFault.{CoerceFault}
+use Rattle.variable_coercion.specs.declared.faults.CoerceFault.TheVariants.{Missing, BadValue, TooLarge, Memory}
+use Rattle.variable_coercion.specs.declared.faults.ArgFault.{ArgFault}
+use Rattle.variable_coercion.specs.declared.faults.ArgFault.TheVariants.{Missing as MissingArgument, BadValue as BadArgument, TooLarge as LargeArgument, Memory as NoMemoryLeft}
+use Rattle.variable_coercion.specs.declared.variables.Variables.{Variables}
+use Rattle.variable_coercion.specs.Refusals.{Unfit, unfit_at, unfit_size, Refusal, missing, bad_value, too_large}
+use Rattle.variable_coercion.specs.Variables.{VariableData}
+
+-- `told` is what a fault tells.
+abbrev pub IsTold : {A R : Type 0} → Option R → Result A R → Type 0
+IsTold (Some refusal) answer = answer ≡ Err refusal
+IsTold None answer = Unit {0}
+
+-- `view` is how a result is seen, `told` what a fault tells.
+abbrev pub Answers : {X A F R : Type 0} → (X → A) → (F → Option R) → Result X F → Result A R → Type 0
+Answers view told (Ok x) answer = answer ≡ Ok (view x)
+Answers view told (Err fault) answer = IsTold (told fault) answer
+
+abbrev pub unfit_told : ValueFault → Option Unfit
+unfit_told (UnfitValue path) = Some (unfit_at path)
+unfit_told UnfitSize = Some unfit_size
+unfit_told NoMemory = None
+
+abbrev pub variable_told : CoerceFault → Option Refusal
+variable_told (Missing name) = Some (missing name)
+variable_told (BadValue path) = Some (bad_value path)
+variable_told (TooLarge name) = Some (too_large name)
+variable_told Memory = None
+
+abbrev pub argument_told : ArgFault → Option Refusal
+argument_told (MissingArgument name) = Some (missing name)
+argument_told (BadArgument name) = Some (bad_value name)
+argument_told (LargeArgument name) = Some (too_large name)
+argument_told NoMemoryLeft = None
+
+abbrev pub value_data : Option Coerced → Option CoercedTree
+value_data value = option_map coerced_tree value
+
+abbrev pub variable_data : VariableValue → VariableData
+variable_data v = record { name = v.name; value = option_map coerced_tree v.value }
+
+-- the variables of an operation, in their order
+abbrev pub variables_data : Variables → List VariableData
+variables_data vs = map variable_data vs.values.items.items
+
+-- their values, by their names
+abbrev pub environment : Variables → Environment
+environment vs = values_of vs.values.items.items

@@ -1,0 +1,27 @@
+-- JSON values as what is given for input types. A number that isn't held as a whole one is a fraction, a string may be the
+-- name of an enum value too, and an object has each name once.
+use Rattle.std.specs.Prelude.{ℤ, true, Option, Some, None}
+use Rattle.serde_json.specs.Data.{Data, null, boolean, number, string, array, object, Items, no_items, item, Members, no_members, member}
+use Rattle.serde_json.specs.Find.{as_integer}
+use Rattle.input_values.specs.coercion.Given.{Given, given_null, given_integer, given_fraction, given_text, given_boolean, given_list, given_object, GivenItems, no_given, given_then, GivenFields, no_given_field, given_field_then}
+
+abbrev pub number_given : Option ℤ → Given
+number_given (Some z) = given_integer z
+number_given None = given_fraction
+
+abbrev mutual
+  pub json_given : Data → Given
+  json_given null = given_null
+  json_given (boolean b) = given_boolean b
+  json_given (number n) = number_given (as_integer n)
+  json_given (string s) = given_text s
+  json_given (array items) = given_list (json_items items)
+  json_given (object members) = given_object true (json_members members)
+
+  pub json_items : Items → GivenItems
+  json_items no_items = no_given
+  json_items (item d others) = given_then (json_given d) (json_items others)
+
+  pub json_members : Members → GivenFields
+  json_members no_members = no_given_field
+  json_members (member name d others) = given_field_then name (json_given d) (json_members others)

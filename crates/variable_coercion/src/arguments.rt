@@ -1,0 +1,174 @@
+//! The arguments of a field (GraphQL October 2021, 6.4.1).
+
+ghost use Rattle.std.specs.Prelude.{Some, true, false, Result, map};
+ghost use Rattle.gql_base.specs.parts.Trees.{value_tree};
+ghost use Rattle.input_values.specs.values.Coerced.{CoercedTree, coerced_tree};
+ghost use Rattle.input_values.specs.inputs.Shapes.{shape_tree};
+ghost use Rattle.input_values.specs.inputs.Definitions.{input_data};
+ghost use Rattle.input_values.specs.coercion.Coercion.{coerced};
+ghost use Rattle.input_values.specs.coercion.Literals.{literal_given};
+ghost use Rattle.schema_model.specs.SchemaViews.{schema_data};
+ghost use Rattle.schema_model.specs.InputForms.{schema_forms};
+ghost use Rattle.schema_model.specs.Arguments.{arg_data, args_data};
+ghost use Rattle.variable_coercion.specs.Refusals.{Unfit, fitting, given_value, no_value};
+ghost use Rattle.variable_coercion.specs.Arguments.{argument_given, argument_refusal, default_or_none, marked, argument_answer, defined_answer, arguments_answer};
+ghost use Rattle.variable_coercion.specs.Calls.{Answers, unfit_told, argument_told, value_data, environment};
+
+use crate::faults::ArgFault;
+use crate::values::{VALUE_LIMIT, ValueFault, coerced_literal};
+use crate::variables::Variables;
+use gql_base::{Argument, NameIndex, Text, Value, index_of};
+use input_values::places::is_nullable;
+use input_values::{Coerced, InputDef, Scope, copy_value, is_nothing};
+use schema_model::{Arg, Args, FieldId, Schema};
+use std::alloc::Global;
+
+/// The arguments that a field defines, in their order, where `written` is what is written at it: each by its value, or
+/// else its default. The values of variables are taken as they are.
+///
+/// It asks that the names that are written are known and distinct. Of two of one name the first counts, and one that
+/// isn't known doesn't matter.
+pub fn coerce_arguments(
+    alloc: Global,
+    schema: &Schema,
+    of: FieldId,
+    written: &[Argument],
+    variables: &Variables,
+) -> Result<Args, ArgFault>
+    ensures { Answers args_data argument_told result (arguments_answer (schema_data schema.now) of.number written.now (environment variables.now)) }
+{
+    let index = index_of(alloc, written)?;
+    all_arguments(alloc, schema, schema.arguments(of), &index, variables)
+}
+
+/// The arguments that are defined, in their order, up to the first that is refused.
+fn all_arguments(
+    alloc: Global,
+    schema: &Schema,
+    inputs: &[InputDef],
+    written: &NameIndex<'_, Argument>,
+    variables: &Variables,
+) -> Result<Args, ArgFault>
+    ensures { Answers args_data argument_told result (defined_answer (schema_data schema.now) (map input_data inputs.now) written.now.items.now (environment variables.now)) }
+{
+    let mut list = Vec::new(alloc);
+    'inputs: for input in inputs {
+        match coerce_argument(alloc, schema, input, written, variables) {
+            Ok(argument) => list.push(argument)?,
+            Err(fault) => return Err(fault),
+        }
+    }
+    Ok(Args { list })
+}
+
+/// One argument.
+fn coerce_argument(
+    alloc: Global,
+    schema: &Schema,
+    input: &InputDef,
+    written: &NameIndex<'_, Argument>,
+    variables: &Variables,
+) -> Result<Arg, ArgFault>
+    ensures { Answers arg_data argument_told result (argument_answer (schema_forms schema.now) (input_data input.now) (argument_given (environment variables.now) written.now.items.now input.now.name)) }
+{
+    match written.first_named(input.name.as_str()) {
+        Some(argument) => written_argument(alloc, schema, input, &argument.value, variables),
+        None => unsupplied_argument(alloc, input),
+    }
+}
+
+/// An argument that is written.
+fn written_argument(
+    alloc: Global,
+    schema: &Schema,
+    input: &InputDef,
+    value: &Value,
+    variables: &Variables,
+) -> Result<Arg, ArgFault>
+    ensures { Answers arg_data argument_told result (argument_answer (schema_forms schema.now) (input_data input.now) (Some (literal_given (environment variables.now) (value_tree value.now)))) }
+{
+    let scope = Scope {
+        types: schema,
+        variables: &variables.values,
+        limit: VALUE_LIMIT,
+    };
+    if is_nothing(&scope, value) {
+        return unsupplied_argument(alloc, input);
+    }
+    supplied_argument(alloc, schema, input, value, variables)
+}
+
+/// An argument that is supplied.
+fn supplied_argument(
+    alloc: Global,
+    schema: &Schema,
+    input: &InputDef,
+    value: &Value,
+    variables: &Variables,
+) -> Result<Arg, ArgFault>
+    ensures { Answers arg_data argument_told result (marked true (given_value (argument_refusal input.now.name) (fitting (coerced (schema_forms schema.now) (literal_given (environment variables.now) (value_tree value.now)) (shape_tree input.now.shape))))) }
+{
+    let value = coerced_literal(alloc, schema, &variables.values, &input.shape, value);
+    match told(alloc, input.name.as_str(), value) {
+        Ok(value) => Ok(Arg {
+            value,
+            supplied: true,
+        }),
+        Err(fault) => Err(fault),
+    }
+}
+
+/// An argument that isn't supplied.
+fn unsupplied_argument(alloc: Global, input: &InputDef) -> Result<Arg, ArgFault>
+    ensures { Answers arg_data argument_told result (marked false (default_or_none (input_data input.now) (input_data input.now).default)) }
+{
+    match default_or_none(alloc, input) {
+        Ok(value) => Ok(Arg {
+            value,
+            supplied: false,
+        }),
+        Err(fault) => Err(fault),
+    }
+}
+
+/// The default of an argument, or none where it may be absent.
+fn default_or_none(alloc: Global, input: &InputDef) -> Result<Option<Coerced>, ArgFault>
+    ensures { Answers value_data argument_told result (default_or_none (input_data input.now) (input_data input.now).default) }
+{
+    match &input.default {
+        Some(default) => Ok(Some(copy_value(alloc, default)?)),
+        None => no_value(alloc, input.name.as_str(), is_nullable(&input.shape)),
+    }
+}
+
+/// No value, where that may be.
+fn no_value(alloc: Global, name: &str, nullable: bool) -> Result<Option<Coerced>, ArgFault>
+    ensures { Answers value_data argument_told result (no_value name.now nullable) }
+{
+    if nullable {
+        return Ok(None);
+    }
+    Err(ArgFault::Missing {
+        name: Text::copy_of(alloc, name)?,
+    })
+}
+
+/// What a value that is there says of the argument of this name.
+fn told(
+    alloc: Global,
+    name: &str,
+    value: Result<Coerced, ValueFault>,
+) -> Result<Option<Coerced>, ArgFault>
+    ensures { (answer : Result CoercedTree Unfit) → Answers coerced_tree unfit_told value answer → Answers value_data argument_told result (given_value (argument_refusal name.now) answer) }
+{
+    match value {
+        Ok(value) => Ok(Some(value)),
+        Err(ValueFault::BadValue { .. }) => Err(ArgFault::BadValue {
+            name: Text::copy_of(alloc, name)?,
+        }),
+        Err(ValueFault::TooLarge) => Err(ArgFault::TooLarge {
+            name: Text::copy_of(alloc, name)?,
+        }),
+        Err(ValueFault::Memory) => Err(ArgFault::Memory),
+    }
+}

@@ -1,0 +1,75 @@
+//! Values of custom scalars, as JSON (GraphQL October 2021, 3.5.5): any value whose numbers are whole.
+
+ghost use Rattle.std.specs.Prelude.{◌≡◌, true};
+ghost use Rattle.serde_json.specs.View.{view, items_view, members_view};
+ghost use Rattle.input_values.specs.coercion.Given.{given_list, given_object};
+ghost use Rattle.input_values.specs.coercion.Customs.{any_value};
+ghost use Rattle.input_values.specs.coercion.Calls.{Coerces};
+ghost use Rattle.variable_coercion.specs.Json.{json_given, json_items, json_members};
+
+use input_values::building::{list_within, object_within, push_field, push_item};
+use input_values::leaves::{boolean, integer, null, string};
+use input_values::{Coerced, CoercionFault, bad_value, count_node};
+use serde_json::{Map, Value};
+use std::alloc::Global;
+
+/// Any value whose numbers are whole.
+#[cycle(any)]
+fn any_json(
+    alloc: Global,
+    value: &Value,
+    limit: u32,
+    count: &mut u64,
+) -> Result<Option<Coerced>, CoercionFault>
+    ensures { Coerces limit count.old count.new result (any_value (json_given (view value.now))) }
+{
+    match value {
+        Value::Null => null(limit, count),
+        Value::Bool(truth) => boolean(*truth, limit, count),
+        Value::Number(number) => match number.as_i128() {
+            Some(whole) => integer(whole, limit, count),
+            None => Err(bad_value(alloc)),
+        },
+        Value::String(text) => string(alloc, text.as_str(), limit, count),
+        Value::Array(items) => any_array(alloc, items.as_slice(), limit, count),
+        Value::Object(members) => any_members(alloc, members, limit, count),
+    }
+}
+
+/// A list of any values.
+#[cycle(any)]
+pub(crate) fn any_array(
+    alloc: Global,
+    items: &[Value],
+    limit: u32,
+    count: &mut u64,
+) -> Result<Option<Coerced>, CoercionFault>
+    ensures { Coerces limit count.old count.new result (any_value (given_list (json_items (items_view items.now)))) }
+{
+    count_node(limit, count);
+    let mut built = Vec::new(alloc);
+    'items: for item in items {
+        let value = any_json(alloc, item, limit, count)?;
+        push_item(&mut built, value)?;
+    }
+    Ok(list_within(built, limit, *count))
+}
+
+/// An object of any values, in the order of its names.
+#[cycle(any)]
+pub(crate) fn any_members(
+    alloc: Global,
+    members: &Map<String, Value>,
+    limit: u32,
+    count: &mut u64,
+) -> Result<Option<Coerced>, CoercionFault>
+    ensures { Coerces limit count.old count.new result (any_value (given_object true (json_members (members_view members.now.entries)))) }
+{
+    count_node(limit, count);
+    let mut built = Vec::new(alloc);
+    'members: for (name, member) in members.iter() {
+        let value = any_json(alloc, member, limit, count)?;
+        push_field(alloc, &mut built, name.as_str(), value)?;
+    }
+    Ok(object_within(built, limit, *count))
+}
