@@ -47,7 +47,7 @@ without_first : (name : List ℕ) (nullable : Bool) → first_refusal (without_r
 without_first name true = refl
 without_first name false = refl
 
-default_first : (form : ℕ → InputForm) (v : Declared) (o : Option ValueTree) → first_refusal (default_refusals form v o) ≡ refusal_in (default_answer form v o)
+default_first : (form : ℕ → InputForm) (v : Declared) (o : Option ValueTree) → first_refusal (default_refusals form v o) ≡ refusal_in (default_answer form v.name v.shape o)
 default_first form v (Some literal) = fitting_first (variable_refusal v.name) form (literal_given no_variables literal) v.shape
 default_first form v None = without_first v.name (is_nullable v.shape)
 

@@ -1,4 +1,5 @@
 -- What variables and arguments come to is what the relations say, and nothing else.
+use Rattle.core.specs.FinMap.Entries.{same_Some}
 use Rattle.std.proofs.Common.{◌≡◌, ℕ, List, [], ◌∷◌, Bool, true, false, true≢false, cond, leb, Option, Some, None, Result, Ok, Err, refl, sym, ap, ap₂, ◌∙◌}
 use Rattle.gql_base.specs.parts.Values.{ValueTree}
 use Rattle.serde_json.specs.Data.{Data}
@@ -29,9 +30,6 @@ value_or d (Err e) = d
 ok_same : {A : Type 0} (x y : A) → okay x ≡ okay y → x ≡ y
 ok_same x y e = ap (value_or x) e
 
-some_same : {A : Type 0} (x y : A) → Some x ≡ Some y → x ≡ y
-some_same x y e = cc
-
 no_some : {A B : Type 0} (x : A) → Some x ≡ None → B
 no_some x e = absurd (differ x e)
   where
@@ -57,7 +55,7 @@ sized_iff : (why : Unfit → Refusal) (form : ℕ → InputForm) (g : Given) (s 
     → Iff (given_value why (cond small (Ok u) (Err unfit_size)) ≡ Ok o) (IsFitting form g s o)
 sized_iff why form g s u true is e None = (λ h. no_some u (ok_same (Some u) None h), λ h. absurd h)
 sized_iff why form g s u true is e (Some t) = (
-  λ h. let k = some_same u t (ok_same (Some u) (Some t) h) in ((coerced_iff form g s t).0 (is ∙ ap Ok k), ap (λ x. leb (nodes x) value_limit) (sym k) ∙ e),
+  λ h. let k = same_Some u t (ok_same (Some u) (Some t) h) in ((coerced_iff form g s t).0 (is ∙ ap Ok k), ap (λ x. leb (nodes x) value_limit) (sym k) ∙ e),
   λ h. ap (λ x. Ok (Some x)) (same_tree u t (coerced form g s) is ((coerced_iff form g s t).1 h.0)),
 )
 sized_iff why form g s u false is e None = (λ h. no_ok (why unfit_size) None h, λ h. absurd h)
@@ -80,7 +78,7 @@ without_iff name false o = (λ h. no_ok (missing name) o h, λ h. absurd (true�
 
 -- ## Variables
 
-default_iff : (form : ℕ → InputForm) (v : Declared) (d : Option ValueTree) (o : Option CoercedTree) → Iff (default_answer form v d ≡ Ok o) (IsDefault form v d o)
+default_iff : (form : ℕ → InputForm) (v : Declared) (d : Option ValueTree) (o : Option CoercedTree) → Iff (default_answer form v.name v.shape d ≡ Ok o) (IsDefault form v d o)
 default_iff form v (Some literal) o = fitting_iff (variable_refusal v.name) form (literal_given no_variables literal) v.shape o
 default_iff form v None o = without_iff v.name (is_nullable v.shape) o
 
