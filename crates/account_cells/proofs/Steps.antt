@@ -5,6 +5,7 @@ use Rattle.std.proofs.lemmas.Bool.{cases_Bool, eqb-true, eqb-false}
 use mathlib.Core.Option.{some-injective}
 use lib.ListN.{get_elem?}
 use lib.Pointwise.{pointwise, bytes_decides}
+use Rattle.cost_num.proofs.Costs.{cost_eq}
 use Rattle.crossbeam_utils.specs.Register.{Turns}
 use Rattle.atomic_table.proofs.Lists.{at_set, set_else}
 use Rattle.cost_num.specs.declared.Cost.{Cost}
@@ -15,7 +16,7 @@ use Rattle.account_core.specs.Machine.{State, Entry, entry, Call, reservation, s
 use Rattle.account_core.specs.Numbers.{reservation_reply, reserved_account, settled_account, KeepsLimit}
 use Rattle.account_core.specs.History.{state_after, entries_by, NumbersBelow, IsNext, StartsWith, IsLegal}
 use Rattle.account_core.specs.Sums.{open_grants}
-use Rattle.account_core.proofs.CostSums.{counted_elsewhere, together-nothing, cost_eq}
+use Rattle.account_core.proofs.CostSums.{counted_elsewhere, together-nothing}
 use Rattle.account_core.proofs.Histories.{legal-push, state_after-push, entries_by-append, entries_by-own, entries_by-other}
 use Rattle.account_core.proofs.NumberSteps.{reserves as reserves_on, settles_open}
 use Rattle.account_core.proofs.Callers.{numbers_stand, numbers_within, grant_is_held, own_grant}

@@ -1,6 +1,7 @@
 -- Every legal history keeps to the allowance, with what is carried.
 use Rattle.std.proofs.Common.{◌≡◌, ◌⊎◌, inl, inr, ⊎_elim, ℕ, zero, suc, ◌+◌, ◌≤◌, ◌<◌, true, false, true≢false, ◌||◌, cond, nat_eq, List, [], ◌∷◌, ◌++◌, Some, refl, sym, ap, subst, ◌∙◌, arith, zero-le, le_refl}
 use Rattle.std.proofs.lemmas.Bool.{cases_Bool, cond-true, cond-false, cond_both, eq-eqb, eqb-true, eqb-false, or_right, or_parts, or_cases, cases_lt}
+use Rattle.cost_num.proofs.Costs.{cost_eq}
 use Rattle.cost_num.specs.Within.{Within}
 use Rattle.cost_num.specs.declared.Cost.{Cost}
 use Rattle.account_core.specs.declared.Account.{Account}
@@ -10,7 +11,7 @@ use Rattle.account_core.specs.Machine.{State, Call, reservation, settlement, Cal
 use Rattle.account_core.specs.Numbers.{KeepsLimit}
 use Rattle.account_core.specs.History.{state_after, IsNext, IsLegal}
 use Rattle.account_core.specs.Sums.{spent_by, spent_in, open_grants, open_in, opens_window, is_opened, handed_on, carried_in, allowance_in, KeepsAllowance}
-use Rattle.account_core.proofs.CostSums.{cost_eq, types_of, fields_of, together-nothing, nothing-together, together_assoc, nothing_parts, nothing_within, at_most_same, counted_cases, counted_elsewhere, counted_within}
+use Rattle.account_core.proofs.CostSums.{types_of, fields_of, together-nothing, nothing-together, together_assoc, nothing_parts, nothing_within, at_most_same, counted_cases, counted_elsewhere, counted_within}
 use Rattle.account_core.proofs.GrantLists.{held_in-push, held_in-without}
 use Rattle.account_core.proofs.Histories.{state_after-push, along, legal-empty, legal-push, legal-front}
 use Rattle.account_core.proofs.OpenGrants.{StateInOrder, in_order}

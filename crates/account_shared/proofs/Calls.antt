@@ -2,8 +2,8 @@
 use Rattle.std.proofs.Common.{◌≡◌, ℕ, ◌<◌, ◌≤◌, List, sym, subst, ap, ◌∙◌, ⊎_elim, map, length, Some}
 use Rattle.std.proofs.lemmas.Bool.{cases_lt}
 use Rattle.std.proofs.lemmas.List.{get_or_past, length-map}
+use Rattle.std.proofs.lemmas.Option.{none-some}
 use Rattle.account_core.specs.declared.Limit.{Limit}
-use Rattle.account_core.proofs.GrantLists.{some_not_none}
 use Rattle.cost_num.specs.declared.Cost.{Cost}
 use Rattle.account_core.specs.declared.Reply.{Reply}
 use Rattle.account_core.specs.declared.Reply.TheVariants.{Granted, Short}
@@ -39,8 +39,8 @@ owes_if_open p client seq window bound named opened =
 known_if_open : (p : PassesView) (client seq window : ℕ) (bound : Cost) → IsOpen p client seq window bound → client < length p.clients
 known_if_open p client seq window bound opened = ⊎_elim
     (λ (low : client < length p.clients). low)
-    (λ (past : length p.clients ≤ client). absurd (some_not_none (grant p.label.name seq window bound)
-    (sym opened ∙ ap (λ (v : View). open_grant p.label.name seq (open_grants v.own)) (get_or_past p.clients client no_view past))))
+    (λ (past : length p.clients ≤ client). absurd (none-some (grant p.label.name seq window bound)
+    (sym (ap (λ (v : View). open_grant p.label.name seq (open_grants v.own)) (get_or_past p.clients client no_view past)) ∙ opened)))
     (cases_lt client (length p.clients))
 
 pub limited_if_open : (p : PassesView) (limits : List Limit) (client seq window : ℕ) (bound : Cost) → map limit_of p.clients ≡ limits → IsOpen p client seq window bound → client < length limits

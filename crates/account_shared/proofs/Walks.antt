@@ -1,7 +1,7 @@
 -- A walk along a list of lanes that changes one after the other, and lists that grow beside it.
 use Rattle.std.proofs.Common.{◌≡◌, ℕ, ◌+◌, ◌≤◌, ◌<◌, List, [], ◌∷◌, ◌++◌, true, false, nat_eq, refl, sym, ap, ◌∙◌, subst, ⊎_elim, arith, map, set, take, length, get_or, suc}
 use Rattle.std.proofs.lemmas.Bool.{cases_Bool, eqb-true, eqb-false}
-use Rattle.std.proofs.lemmas.List.{length-map, length-set, get_or-set_same, get_or-set_other, get_or_default, same_lists, get_or-map, take_all}
+use Rattle.std.proofs.lemmas.List.{length-map, length-set, get_or-set_same, get_or-set_other, get_or_default, same_lists, get_or-map, take_all, nil_from_length}
 use lib.Seq.{take-suc}
 use mathlib.Core.List.{map-append}
 
@@ -34,13 +34,9 @@ walk_steps R i old new x y walked low is changed = record {
   above = λ k d le. get_or-set_other new i k y d (λ same. absurd (omega arith)) ∙ walked.above k d (omega arith);
 }
 
-none_left : {L : Type 0} (xs : List L) → length xs ≡ 0 → xs ≡ []
-none_left [] e = refl
-none_left (x ∷ xs) e = absurd (omega (arith, e))
-
 -- at the end, what all places show now by what they showed
 pub walk_shows : {L C : Type 0} (R : ℕ → L → L → Type 0) (f g : L → C) (n : ℕ) (old new : List L) → ((k : ℕ) (a b : L) → R k a b → f b ≡ g a) → WalkedTo R n old new → length old ≤ n → map f new ≡ map g old
-walk_shows R f g n [] new tells walked le = ap (map f) (none_left new walked.long)
+walk_shows R f g n [] new tells walked le = ap (map f) (nil_from_length new walked.long)
 walk_shows R f g n (x ∷ xs) new tells walked le =
     let old = x ∷ xs in
     same_lists (map f new) (map g old) (length-map new f ∙ (walked.long ∙ sym (length-map old g)))

@@ -1,3 +1,4 @@
+pub mod Costs
 pub mod CappedSums
 pub mod Digits
 pub mod ShownPlaces

@@ -1,5 +1,6 @@
 -- Each text is a document or has one fault, and not both.
 use Rattle.std.proofs.Common.{ℕ, ◌≡◌, ◌⊎◌, inl, inr, false, List, [], ◌∷◌, Ok, refl, sym, ap, ◌∙◌, subst, arith}
+use Rattle.gql_base.proofs.WayLaws.ReadingLaws.{no_symbol}
 use Rattle.gql_base.specs.ways.Symbols.{Symbols}
 use Rattle.gql_base.specs.ways.Reading.{next, is_there}
 use Rattle.gql_base.specs.ways.FirstFaults.{level_limit}
@@ -33,10 +34,6 @@ told_back (Lex fault) = refl
 told_back (Unexpected at) = refl
 told_back (TooDeep at) = refl
 told_back Memory = refl
-
-no_symbol : (ws : Symbols) → is_there (next ws) ≡ false → ws ≡ []
-no_symbol [] e = refl
-no_symbol (w ∷ ws) e = cc
 
 -- Reading a document leaves nothing.
 nothing_left : (n : ℕ) (ws : Symbols) (x : List DefinitionTree × Symbols) → document_at n ws ≡ Ok x → x.1 ≡ []

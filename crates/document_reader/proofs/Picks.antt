@@ -3,12 +3,10 @@ use Rattle.std.proofs.Common.{ℕ, suc, ◌+◌, ◌≡◌, ◌≤◌, ◌<◌, 
 use Rattle.std.specs.Prelude.{if◌then◌else◌}
 use Rattle.std.proofs.lemmas.List.{drop_all}
 use Rattle.std.proofs.Math.Seq.{drop-cons}
+use Rattle.gql_base.proofs.Lists.{at_front}
 use Rattle.document_reader.specs.declared.trees.Definition.{Definition}
 use Rattle.document_reader.specs.declared.picking.PickFault.{PickFault}
 use Rattle.document_reader.specs.Picking.{is_operation, is_named, first_where, count_where, picked_with, picked, there, asked}
-
-at_front : (ds : List Definition) (at : ℕ) (d : Definition) → at < length ds → d ≡ get_or ds at d → drop at ds ≡ d ∷ drop (at + 1) ds
-at_front ds at d h is = let e : suc at ≡ at + 1 = omega arith in drop-cons ds at d h ∙ (ap (λ x. x ∷ drop (suc at) ds) (sym is) ∙ ap (λ n. d ∷ drop n ds) e)
 
 pub first_passes : (test : Definition → Bool) (ds : List Definition) (at : ℕ) (d : Definition) → at < length ds → d ≡ get_or ds at d → test d ≡ true → first_where test at (drop at ds) ≡ Some at
 unfolding first_where

@@ -1,5 +1,6 @@
 -- Two files have one price, and a reply to their operation one measure.
 use Rattle.std.proofs.Common.{◌≡◌, ◌∙◌, ℕ, List, [], Bool, Option, sym, ap, ap₂, subst}
+use Rattle.cost_num.proofs.Costs.{cost_eq}
 use Rattle.serde_json.specs.Data.{Data}
 use Rattle.cost_num.specs.declared.Cost.{Cost}
 use Rattle.response_model.specs.Cost.{Part, types, fields}
@@ -23,12 +24,6 @@ use Rattle.response_meter.specs.Metered.{IsMetered}
 pub plan_alike : (operation other : List FirstNode) → firsts_of operation ≡ firsts_of other → plan_of operation ≡ plan_of other
 plan_alike operation other same = ap (λ firsts. value_plan Object (nodes_of_firsts firsts)) same
 
-same_cost : (a b : Cost) → a.types ≡ b.types → a.fields ≡ b.fields → a ≡ b
-same_cost a b of_types of_fields = ap₂ (λ t f. record {
-  types = t;
-  fields = f;
-}) of_types of_fields
-
 -- A plan has one bound for each part of the cost.
 abbrev pub OneBound : Type 0
 OneBound = (holds : ℕ → Data → Bool) (part : Part) (plan : Plan) (a b : ℕ) → IsBound holds part plan a → IsBound holds part plan b → a ≡ b
@@ -38,7 +33,7 @@ bound_alike part n plan other same bound = subst (λ p. IsBound holds part p n) 
 
 pub one_price : OneBound → (operation other : List FirstNode) (cost cost_2 : Cost) → plan_of operation ≡ plan_of other → IsBoundOf operation cost → IsBoundOf other cost_2 → cost ≡ cost_2
 one_price one operation other cost cost_2 same a b =
-    same_cost cost cost_2
+    cost_eq cost cost_2
     (one holds types (plan_of other) cost.types cost_2.types (bound_alike types cost.types (plan_of operation) (plan_of other) same a.of_types) b.of_types)
     (one holds fields (plan_of other) cost.fields cost_2.fields (bound_alike fields cost.fields (plan_of operation) (plan_of other) same a.of_fields) b.of_fields)
 
@@ -59,7 +54,7 @@ pub one_measure : OneReply → (plan : Plan) (bytes : List ℕ) (a b : FirstMete
 one_measure one plan bytes a b m n =
     let same = one own_name [] plan bytes m.tree n.tree m.errors n.errors own_names_differ m.reads n.reads in
     same_measure a b
-    (same_cost a.cost b.cost
+    (cost_eq a.cost b.cost
     (m.types_cost ∙ (ap (reply_cost types plan) same.0 ∙ sym n.types_cost))
     (m.fields_cost ∙ (ap (reply_cost fields plan) same.0 ∙ sym n.fields_cost)))
     (m.text ∙ (ap₂ response_text same.0 same.1 ∙ sym n.text))

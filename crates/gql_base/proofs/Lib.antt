@@ -1,3 +1,4 @@
+pub mod Lists
 pub mod LexicalLaws
 pub mod WayLaws
 pub mod PartLaws

@@ -24,7 +24,7 @@ pub use names::named::Named;
 pub use names::owned_index::{Indexed, index_owned};
 pub use names::repeated::first_repeated;
 pub use parts::arguments::{directives, maybe_arguments, maybe_default, operation_kind};
-pub use parts::fault_laws::{a_value_has_one_fault, a_value_or_a_fault_is_read};
+pub use parts::fault_laws::{a_read_value_has_no_fault, a_value_has_one_fault};
 pub use parts::readers::{LEVEL_LIMIT, ValueFault, read_type_ref, read_value};
 pub use parts::tree_laws::{
     a_text_is_one_value, offsets_change_no_nesting, offsets_change_no_tree,

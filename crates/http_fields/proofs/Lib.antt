@@ -1,3 +1,4 @@
 mod Naming
 mod Bounds
 mod Cases
+pub mod Fronts

@@ -2,6 +2,7 @@
 use Rattle.std.proofs.Common.{◌≡◌, ℕ, ◌+◌, ◌-◌, ◌≤◌, ◌<◌, inr, List, [], ◌∷◌, ◌++◌, length, take, drop, refl, sym, ap, ◌∙◌, subst, min, arith, zero, suc, Bool, true, false, Ok, Err}
 use Rattle.std.proofs.lemmas.Grind.{common_steps}
 use Rattle.std.proofs.lemmas.List.{length-drop, drop-drop}
+use Rattle.http_fields.proofs.Fronts.{take_grows}
 use Rattle.httparse.specs.declared.spans.HeaderSpan.{HeaderSpan}
 use Rattle.httparse.specs.declared.spans.RequestSpans.{RequestSpans}
 use Rattle.httparse.specs.declared.Error.{Error}
@@ -18,13 +19,6 @@ use Rattle.http_front.specs.declared.front.Ask.{Ask}
 use Rattle.http_front.specs.Heads.{wants}
 use Rattle.http_front.specs.Asks.{in_room, BeginsWithHead, IsPartOfHead, IsRefused, HasFault, Lacks, IsAsk}
 use Rattle.http_front.specs.Service.{IsOfHead, AtEndIs, PieceSays, HeadIs, BodySays}
-
-pub take_min : (n : ℕ) (xs : List ℕ) → take (min (length xs) n) xs ≡ take n xs
-take_min n xs = grind (arith, common_steps)
-
-pub fields_fit : (buf : List ℕ) (headers : List HeaderSpan) (count : ℕ) (fields : List Field)
-    → AreFieldsAt buf headers count fields → count ≤ 64 → length fields ≤ 64
-fields_fit buf headers count fields same fits = grind (arith, common_steps)
 
 -- a fault of a head's tests is the first fault
 pub refused_by : (bytes : List ℕ) (f : FrontFault) → IsOfHead f → IsRefused bytes f → HasFault bytes false f
@@ -50,11 +44,6 @@ of_memory bytes ended f e = subst (λ x. HasFault bytes ended x) (sym e) tt
 -- a fault of a head's tests isn't one of reading
 pub not_read : (f : FrontFault) → IsOfHead f → f ≡ fault.ReadFault → ⊥
 not_read f k e = subst IsOfHead e k
-
-pub take_grows : (n : ℕ) (xs ys : List ℕ) → (rest : List ℕ) × (take n (xs ++ ys) ≡ take n xs ++ rest)
-take_grows zero xs ys = ([], refl)
-take_grows (suc n) [] ys = (take (suc n) ys, refl)
-take_grows (suc n) (x ∷ xs) ys = let r = take_grows n xs ys in (r.0, ap (λ l. x ∷ l) r.1)
 
 -- a head that stands in the room still stands there when more bytes come
 pub head_stays : (bytes more : List ℕ) (h : RequestHead) → BeginsWithHead bytes h → BeginsWithHead (bytes ++ more) h

@@ -1,7 +1,8 @@
 -- Bytes have one answer, whatever comes after them.
 use Rattle.std.proofs.Common.{◌≡◌, ℕ, ◌≤◌, inl, inr, List, [], ◌∷◌, ◌++◌, length, take, drop, refl, sym, ap, ◌∙◌, subst, append_assoc, arith, Bool, Result, Ok, Err}
 use Rattle.std.proofs.lemmas.Grind.{common_steps}
-use Rattle.std.proofs.lemmas.List.{append-nil, take-append-le, length-append, length-take}
+use Rattle.std.proofs.lemmas.List.{append-nil, take-append-le, length-append, length-take, drop-append-le}
+use Rattle.http_fields.proofs.Fronts.{take_grows}
 use Rattle.httparse.specs.Grammar.{RequestHead, print_request, ReadsRequest, HasNoRequest, print_blank, print_version, print_end, print_section}
 use Rattle.httparse.proofs.GrammarLemmas.{request_unique, print_request-append}
 use Rattle.http_front.specs.declared.fault.FrontFault.{FrontFault}
@@ -9,7 +10,7 @@ use Rattle.http_front.specs.declared.fault.FrontFault.TheVariants as fault
 use Rattle.http_front.specs.declared.front.Ask.{Ask}
 use Rattle.http_front.specs.Heads.{Wants, wanted}
 use Rattle.http_front.specs.Asks.{in_room, behind, BeginsWithHead, IsPartOfHead, IsNoHead, HasTooManyFields, AsksFor, IsRefused, HasFault, Lacks, IsAsk}
-use Rattle.http_front.proofs.Fronts.{head_stays, take_grows}
+use Rattle.http_front.proofs.Fronts.{head_stays}
 
 ok_or : Wants → Result Wants FrontFault → Wants
 ok_or d (Ok w) = w
@@ -85,16 +86,13 @@ one_ask bytes rest other a b x y =
       x.rest_is ∙ (λ i. drop (lengths i) (tails i)) ∙ sym y.rest_is,
     )
 
-drop_grows : (n : ℕ) (xs ys : List ℕ) → n ≤ length xs → drop n (xs ++ ys) ≡ drop n xs ++ ys
-drop_grows n xs ys inside = grind (arith, common_steps)
-
 pub head_inside : (bytes : List ℕ) (h : RequestHead) → BeginsWithHead bytes h → length (print_request h) ≤ length bytes
 head_inside bytes h x = let e : length (in_room bytes) ≡ length (print_request h ++ x.0) = ap length x.1.1 in omega (arith, e, length-append (print_request h) x.0, length-take 16384 bytes)
 
 -- the bytes after an ask don't change it
 pub ask_stays : (bytes rest more : List ℕ) (a : Ask) → IsAsk bytes a rest → IsAsk (bytes ++ more) a (rest ++ more)
 ask_stays bytes rest more a x =
-    let tail : behind x.head (bytes ++ more) ≡ behind x.head bytes ++ more = drop_grows (length (print_request x.head)) bytes more (head_inside bytes x.head x.asks.0) in
+    let tail : behind x.head (bytes ++ more) ≡ behind x.head bytes ++ more = drop-append-le (length (print_request x.head)) bytes more (head_inside bytes x.head x.asks.0) in
     let enough = x.enough in
     record {
       head = x.head;
@@ -104,7 +102,7 @@ ask_stays bytes rest more a x =
       close = x.close;
       enough = subst (λ l. x.wants.length ≤ length l) (sym tail) (grind (arith, common_steps));
       body = x.body ∙ sym (ap (take x.wants.length) tail ∙ take-append-le x.wants.length (behind x.head bytes) more enough);
-      rest_is = ap (λ l. l ++ more) x.rest_is ∙ sym (ap (drop x.wants.length) tail ∙ drop_grows x.wants.length (behind x.head bytes) more enough);
+      rest_is = ap (λ l. l ++ more) x.rest_is ∙ sym (ap (drop x.wants.length) tail ∙ drop-append-le x.wants.length (behind x.head bytes) more enough);
     }
 
 -- no more than a fault that is sure without the end of the bytes

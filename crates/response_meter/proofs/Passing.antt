@@ -3,6 +3,7 @@ use Rattle.std.proofs.Common.{◌≡◌, ◌≤◌, ℕ, suc, List, [], ◌∷�
 use Rattle.std.proofs.lemmas.Bool.{and_parts}
 use Rattle.std.proofs.lemmas.Slice.Eq.{bytes_eq-Decides}
 use Rattle.std.specs.Option.{option_or}
+use Rattle.std.proofs.lemmas.Option.{none-some, same_Some}
 use Rattle.serde_json.specs.Data.{Data, null as json_null, boolean, number, string, array, object as json_object, Items, no_items, item, Members, no_members, member}
 use Rattle.serde_json.specs.Find.{get_member}
 use Rattle.serde_json.specs.Events.{items_len}
@@ -19,10 +20,7 @@ use Rattle.response_meter.specs.Trees.{data_tree, tree_of, items_tree, list_tree
 
 -- tests that hold
 pub some_none : {A B : Type 0} {x : A} → Some x ≡ None → B
-some_none h = absurd (differ h)
-  where
-    differ : {A : Type 0} {x : A} → Some x ≡ None → ⊥
-    differ h = cc
+some_none {A} {B} {x} h = absurd (none-some x (sym h))
 
 pub held : (b : Bool) (why : Why) (later : Option Fault) → tested b why later ≡ None → (b ≡ true) × (later ≡ None)
 held false why later h = some_none h
@@ -53,23 +51,16 @@ text_read s (Some (string t)) h = ap (λ (x : List ℕ). Some (string x)) (sym (
 text_read s (Some (array ds)) h = absurd (true≢false (sym h))
 text_read s (Some (json_object ms)) h = absurd (true≢false (sym h))
 
-some_same : (a b : ℕ) → Some a ≡ Some b → a ≡ b
-some_same a b h = ap value h
-  where
-    value : Option ℕ → ℕ
-    value None = 0
-    value (Some n) = n
-
 -- the type that an object says
 only_told : (possible : ObjectTypes) (T : ℕ) → only_type possible ≡ Some T → IsOnlyType T possible × (is_possible T possible ≡ true)
 only_told no_type T h = some_none (sym h)
-only_told (object_type U w ns no_type) T h = (some_same U T h, ap (λ (b : Bool). b || false) (eq-eqb U T (some_same U T h)))
+only_told (object_type U w ns no_type) T h = (same_Some U T h, ap (λ (b : Bool). b || false) (eq-eqb U T (same_Some U T h)))
 only_told (object_type U w ns (object_type V v ms others)) T h = some_none (sym h)
 
 module _ (name : ℕ → List ℕ) (alias : List ℕ) where
   named_either : (b q : Bool) (U T : ℕ) (json : Option Data) (rest : Option ℕ) → is_text (name U) json ≡ b → cond b (Some U) rest ≡ Some T
       → (rest ≡ Some T → (q ≡ true) × (json ≡ Some (string (name T)))) → ((eqb U T || q) ≡ true) × (json ≡ Some (string (name T)))
-  named_either true q U T json rest e k later = (ap (λ (x : Bool). x || q) (eq-eqb U T (some_same U T k)), text_read (name U) json e ∙ ap (λ (x : ℕ). Some (string (name x))) (some_same U T k))
+  named_either true q U T json rest e k later = (ap (λ (x : Bool). x || q) (eq-eqb U T (same_Some U T k)), text_read (name U) json e ∙ ap (λ (x : ℕ). Some (string (name x))) (same_Some U T k))
   named_either false q U T json rest e k later = (ap (λ (x : Bool). eqb U T || x) (later k).0 ∙ or_true (eqb U T), (later k).1)
     where
       or_true : (b : Bool) → (b || true) ≡ true

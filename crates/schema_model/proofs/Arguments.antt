@@ -1,4 +1,5 @@
 -- Arguments of directives, opened.
-use Rattle.schema_rules.proofs.Namings.{open_argument, argument_text, argument_value}
+use Rattle.gql_base.proofs.PrintingLaws.PrintSteps.{open_argument}
+use Rattle.schema_rules.proofs.Namings.{argument_text, argument_value}
 
 pub ruleset opened_arguments = (open_argument, argument_text, argument_value)

@@ -16,7 +16,7 @@ use Rattle.gql_base.specs.ways.Grammar.{Repeated}
 use Rattle.gql_base.specs.ways.FirstFaults.{level_limit, IsWritten}
 use Rattle.gql_base.specs.ways.Sources.{ahead, Halts, offset_of}
 use Rattle.gql_base.specs.ways.Halting.{fault_of_halt, fault_of_lexing}
-use Rattle.gql_base.proofs.WayLaws.ReadingLaws.{ok_same}
+use Rattle.gql_base.proofs.WayLaws.ReadingLaws.{ok_same, no_symbol}
 use Rattle.gql_base.proofs.WayLaws.LevelLaws.{is_unexpected, is_too_deep, is_written, is_read}
 use Rattle.gql_base.proofs.WayLaws.Readings.{halts_for_memory}
 use Rattle.schema_reader.specs.declared.schema_text.SchemaTextFault.{SchemaTextFault}
@@ -29,10 +29,6 @@ use Rattle.schema_reader.specs.SchemaReading.{begins_definition, definitions_at}
 use Rattle.schema_reader.specs.SchemaAnswers.{HasSchema, IsFaultAmong, IsSchemaFault, schema_fault}
 use Rattle.schema_reader.proofs.DefinitionLaws.{definitions_family}
 use Rattle.schema_reader.proofs.SchemaSteps.{are_definitions, written_schema, unexpected_schema, too_deep_schema, none_unexpected, no_extension, extends_there}
-
-no_symbol : (ws : Symbols) → is_there (next ws) ≡ false → ws ≡ []
-no_symbol [] e = refl
-no_symbol (w ∷ ws) e = cc
 
 -- the definitions that a call has read
 before : (s : Source) (trees : List DefinitionTree) (end : ℕ) → definitions_at level_limit (ahead s 0) ≡ Ok (trees, ahead s end) → IsWritten (Repeated (IsDefinition 0)) level_limit (ahead s 0) trees (ahead s end)

@@ -4,6 +4,7 @@ use Rattle.std.specs.Prelude.{option_map, option_copied}
 use Rattle.std.specs.Borrow.{Bor}
 use Rattle.std.specs.List.{list_any, filter, position_from}
 use Rattle.std.proofs.lemmas.Bool.{cases_Bool}
+use Rattle.gql_base.proofs.PrintingLaws.PrintSteps.{open_argument}
 use Rattle.gql_base.specs.declared.parts.trees.Argument.{Argument}
 use Rattle.gql_base.specs.declared.parts.trees.Value.TheFolds.{fold_out-Argument}
 use Rattle.gql_base.specs.parts.Trees.{value_tree, named_value, value_step, argument_step}
@@ -13,10 +14,6 @@ use Rattle.schema_rules.specs.declared.items.Item.{Item}
 use Rattle.schema_rules.specs.Items.{place_of}
 use Rattle.schema_rules.specs.Views.{item_tree}
 use Rattle.schema_rules.specs.Repeated.{place_at}
-
-pub open_argument : (a : Argument) → named_value a ≡ ((a.name.text, a.name.at), value_tree a.value)
-unfolding named_value value_tree
-open_argument a = fold_out-Argument ValueTree NamedValue value_step argument_step a
 
 pub argument_text : (a : Argument) → argument_name (named_value a) ≡ a.name.text
 argument_text a = ap argument_name (open_argument a)
@@ -60,18 +57,15 @@ seen_some view test all r b e is = sym (find_view view test all) ∙ ap (option_
 pub seen_none : {A B : Type 0} (view : B → A) (test : A → Bool) (all : List B) (r : Option (Bor B)) → option_copied r ≡ find (λ x. test (view x)) all → r ≡ None → find test (map view all) ≡ None
 seen_none view test all r e is = sym (find_view view test all) ∙ ap (option_map view) (sym e ∙ ap option_copied is)
 
-never : (n : ℕ) → n < 0 → ⊥
-never n h = omega arith
-
 -- what stands at a place of a list
 pub placed : (items : List Item) (n : ℕ) (item : Item) → n < length items → item ≡ get_or items n item → place_at (map item_tree items) (Some n) ≡ Some (place_of (item_tree item))
-placed [] n item h e = absurd (never n h)
+placed [] n item h e = absurd (omega (arith, h))
 placed (x ∷ items) zero item h e = ap (λ i. Some (place_of (item_tree i))) (sym e)
 placed (x ∷ items) (suc n) item h e = placed items n item (omega arith) e
 
 pub unplaced : (items : List Item) (n : ℕ) → length items ≤ n → place_at (map item_tree items) (Some n) ≡ None
 unplaced [] n h = refl
-unplaced (x ∷ items) zero h = let none : length items < 0 = omega arith in absurd (never (length items) none)
+unplaced (x ∷ items) zero h = absurd (omega (arith, h))
 unplaced (x ∷ items) (suc n) h = unplaced items n (omega arith)
 
 pub ruleset placements = (placed, unplaced)

@@ -1,6 +1,7 @@
 -- A head, and the body behind it.
 use Rattle.std.proofs.Common.{◌≡◌, ℕ, List, ◌++◌, Bool, true, false, cond, Ok, Err, None, Some, refl, sym, ap, ◌∙◌, subst, drop, length}
 use Rattle.std.specs.Prelude.{Result, nat_lt, ⊤, Option, map}
+use Rattle.std.proofs.lemmas.List.{drop-append-le}
 use Rattle.httparse.specs.Grammar.{ResponseHead, status_code, print_response}
 use Rattle.httparse.specs.Spans.{name_and_value}
 use Rattle.upstream_link.specs.declared.fault.LinkFault.{LinkFault}
@@ -12,7 +13,7 @@ use Rattle.http_fields.specs.declared.lengths.BadLength.{BadLength}
 use Rattle.http_fields.specs.Fields.{NameAndValue, is_coded, has_transfer_coding, length_in}
 use Rattle.upstream_link.specs.Framing.{has_no_body, has_other_coding, framed_by_length, framed_with, framing_of}
 use Rattle.upstream_link.specs.ReplyHeads.{HasHead, ReplyHeadAt, after_head}
-use Rattle.upstream_link.proofs.Fronts.{heads_grow, head_stays, head_inside, drop_grows}
+use Rattle.upstream_link.proofs.Fronts.{heads_grow, head_stays, head_inside}
 
 -- a fault, if there is one, is no failed transfer
 abbrev pub IsOfBytes : {A : Type 0} → Result A LinkFault → Type 0
@@ -47,4 +48,4 @@ reply_head_stays bytes here more h x = (x.0, heads_grow bytes x.0 here more x.1,
 
 -- the bytes behind the head, with more
 pub behind : (here more : List ℕ) (h : ResponseHead) (len : ℕ) → HasHead here h → len ≡ length (print_response h) → drop len here ++ more ≡ after_head h (here ++ more)
-behind here more h len has is = ap (λ n. drop n here ++ more) is ∙ sym (drop_grows (length (print_response h)) here more (head_inside here h has))
+behind here more h len has is = ap (λ n. drop n here ++ more) is ∙ sym (drop-append-le (length (print_response h)) here more (head_inside here h has))

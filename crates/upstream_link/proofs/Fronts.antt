@@ -1,7 +1,8 @@
 -- Heads at the front of bytes.
 use Rattle.std.proofs.Common.{◌≡◌, ℕ, ◌≤◌, inl, List, [], ◌∷◌, ◌++◌, length, drop, refl, sym, ap, subst, arith, Bool, false, Option, None, Ok, Err}
 use Rattle.std.proofs.lemmas.Grind.{common_steps}
-use Rattle.std.proofs.lemmas.List.{length-append, length-take}
+use Rattle.std.proofs.lemmas.List.{length-append, length-take, drop-append-le}
+use Rattle.http_fields.proofs.Fronts.{take_grows}
 use Rattle.httparse.specs.declared.spans.HeaderSpan.{HeaderSpan}
 use Rattle.httparse.specs.declared.spans.ResponseSpans.{ResponseSpans}
 use Rattle.httparse.specs.declared.Error.{Error}
@@ -18,11 +19,6 @@ use Rattle.upstream_link.specs.Chunks.{room}
 use Rattle.upstream_link.specs.Received.{is_failure}
 use Rattle.upstream_link.specs.ReplyHeads.{HasHead, after_head, HasOpenHead, IsInterim, HeadsTo, HasHeadFault}
 use Rattle.upstream_link.specs.Service.{HeadLookSays, HeadSays}
-use Rattle.upstream_link.proofs.Lines.{take_grows}
-
-pub fields_fit : (buf : List ℕ) (headers : List HeaderSpan) (count : ℕ) (fields : List Field)
-    → AreFieldsAt buf headers count fields → count ≤ 64 → length fields ≤ 64
-fields_fit buf headers count fields same fits = grind (arith, common_steps)
 
 pub complete_at : (P : ResponseSpans → Type 0) (s : Status ResponseSpans) (r : ResponseSpans) → s ≡ Complete r → IfComplete {A = ResponseSpans} {E = Error} (Ok s) P → P r
 complete_at P s r e k = subst (λ x. IfComplete {A = ResponseSpans} {E = Error} (Ok x) P) e k
@@ -73,16 +69,13 @@ head_stays here more h x =
 pub head_inside : (here : List ℕ) (h : ResponseHead) → HasHead here h → length (print_response h) ≤ length here
 head_inside here h x = let e : length (room here) ≡ length (print_response h ++ x.0) = ap length x.1.1 in omega (arith, e, length-append (print_response h) x.0, length-take 16384 here)
 
-pub drop_grows : (n : ℕ) (xs ys : List ℕ) → n ≤ length xs → drop n (xs ++ ys) ≡ drop n xs ++ ys
-drop_grows n xs ys inside = grind (arith, common_steps)
-
 pub heads_grow : (bytes : List ℕ) (hs : List ResponseHead) (here more : List ℕ) → HeadsTo bytes hs here → HeadsTo (bytes ++ more) hs (here ++ more)
 unfolding HeadsTo
 heads_grow bytes [] here more x = ap (λ l. l ++ more) x
 heads_grow bytes (h ∷ hs) here more x = (
   head_stays bytes more h x.0,
   x.1,
-  subst (λ l. HeadsTo l hs (here ++ more)) (sym (drop_grows (length (print_response h)) bytes more (head_inside bytes h x.0))) (heads_grow (after_head h bytes) hs here more x.2),
+  subst (λ l. HeadsTo l hs (here ++ more)) (sym (drop-append-le (length (print_response h)) bytes more (head_inside bytes h x.0))) (heads_grow (after_head h bytes) hs here more x.2),
 )
 
 pub heads_more : (bytes : List ℕ) (hs : List ResponseHead) (h : ResponseHead) (here : List ℕ) → HeadsTo bytes hs here → HasHead here h → IsInterim h → HeadsTo bytes (hs ++ h ∷ []) (after_head h here)

@@ -2,7 +2,8 @@
 use Rattle.std.proofs.Common.{◌≡◌, ℕ, ◌+◌, List, [], ◌∷◌, ◌++◌, length, Ok, inl, inr, refl, sym, ap, ◌∙◌, subst, arith, cond, Bool, true, false}
 use Rattle.std.specs.Prelude.{Option, None, Some, ◌⊎◌, ◌==◌, ◌&&◌, nat_lt}
 use Rattle.std.specs.Option.{option_map}
-use Rattle.std.proofs.lemmas.List.{take-append-le, length-append}
+use Rattle.std.proofs.lemmas.List.{take-append-le, length-append, drop-append-le}
+use Rattle.http_fields.proofs.Fronts.{take_grows}
 use Rattle.httparse.specs.Grammar.{print_chunk_line}
 use Rattle.upstream_link.specs.declared.reply.UpstreamReply.{UpstreamReply}
 use Rattle.upstream_link.specs.declared.framing.Framing.{Framing}
@@ -11,8 +12,8 @@ use Rattle.upstream_link.specs.Bodies.{BodyIs}
 use Rattle.upstream_link.specs.Chunks.{room, line_state, trailer_from, after_line, Ends}
 use Rattle.upstream_link.specs.Replies.{HasBody, ReplyOf}
 use Rattle.upstream_link.specs.ReplyHeads.{after_head}
-use Rattle.upstream_link.proofs.Lines.{take_grows, line_stays, line_inside, chunks_grow}
-use Rattle.upstream_link.proofs.Fronts.{drop_grows, head_inside}
+use Rattle.upstream_link.proofs.Lines.{line_stays, line_inside, chunks_grow}
+use Rattle.upstream_link.proofs.Fronts.{head_inside}
 use Rattle.upstream_link.proofs.Answered.{reply_head_stays}
 
 -- one byte of a trailer, before two rests of which the first has no end or both have the same
@@ -35,7 +36,7 @@ trailer_whole xs more n is = elim (trailer_stays 0 xs more) [ inl none ↦ cc (s
 ends_later : (here more : List ℕ) → Ends here → Ends (here ++ more)
 ends_later here more x =
     let l = x.0 in
-    let after : after_line l (here ++ more) ≡ after_line l here ++ more = drop_grows (length (print_chunk_line l)) here more (line_inside here l x.1).0 in
+    let after : after_line l (here ++ more) ≡ after_line l here ++ more = drop-append-le (length (print_chunk_line l)) here more (line_inside here l x.1).0 in
     let in_room = take_grows 16384 (after_line l here) more in
     let whole : room (after_line l (here ++ more)) ≡ room (after_line l here) ++ in_room.0 = ap room after ∙ in_room.1 in
     (l, line_stays here more l x.1, x.2, (x.3.0, ap (trailer_from 0) whole ∙ trailer_whole (room (after_line l here)) in_room.0 x.3.0 x.3.1))
@@ -52,7 +53,7 @@ reply_later bytes more ended reply x =
     let here = x.0 in
     let h = x.1 in
     let f = x.4.0 in
-    let after : after_head h (here ++ more) ≡ after_head h here ++ more = drop_grows _ here more (head_inside here h x.2.3) in
+    let after : after_head h (here ++ more) ≡ after_head h here ++ more = drop-append-le _ here more (head_inside here h x.2.3) in
     let body : HasBody h (Ok reply.body.items) (after_head h (here ++ more)) ended =
     (f, x.4.1, subst (λ l. BodyIs f (Ok reply.body.items) l ended) (sym after) (body_later f reply.body.items (after_head h here) more ended x.4.2)) in
     (here ++ more, h, reply_head_stays bytes here more h x.2, x.3, body)

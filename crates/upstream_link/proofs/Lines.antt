@@ -1,6 +1,7 @@
 -- Size lines at the front of bytes.
 use Rattle.std.proofs.Common.{◌≡◌, ℕ, ◌+◌, ◌-◌, ◌≤◌, ◌<◌, inl, inr, List, [], ◌∷◌, ◌++◌, length, take, drop, refl, sym, ap, ◌∙◌, subst, append_assoc, min, arith, zero, suc, Bool, true, false, cond, Option, Some, None, Ok, Err}
 use Rattle.std.proofs.lemmas.Grind.{common_steps}
+use Rattle.http_fields.proofs.Fronts.{take_grows}
 use Rattle.httparse.specs.declared.Status.{Status}
 use Rattle.httparse.specs.declared.Status.TheVariants.{Complete, Partial}
 use Rattle.httparse.specs.declared.InvalidChunkSize.{InvalidChunkSize}
@@ -17,14 +18,6 @@ use Rattle.std.proofs.Math.Seq.{drop-append_seam}
 use Rattle.std.specs.Option.{option_map}
 use Rattle.std.specs.List.{AllByRecursion}
 use Rattle.std.specs.Prelude.{◌==◌, ◌&&◌, nat_lt}
-
-pub take_min : (n : ℕ) (xs : List ℕ) → take (min (length xs) n) xs ≡ take n xs
-take_min n xs = grind (arith, common_steps)
-
-pub take_grows : (n : ℕ) (xs ys : List ℕ) → (rest : List ℕ) × (take n (xs ++ ys) ≡ take n xs ++ rest)
-take_grows zero xs ys = ([], refl)
-take_grows (suc n) [] ys = (take (suc n) ys, refl)
-take_grows (suc n) (x ∷ xs) ys = let r = take_grows n xs ys in (r.0, ap (λ l. x ∷ l) r.1)
 
 -- a piece that didn't come, or found no memory
 pub piece_fails : (Q : LinkFault → Type 0) (old new piece : List ℕ) (f : LinkFault) → PieceSays old new piece (Err f)

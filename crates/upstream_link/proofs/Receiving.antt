@@ -3,36 +3,32 @@ use Rattle.std.proofs.Common.{◌≡◌, ℕ, List, [], ◌∷◌, ◌++◌, ref
 use Rattle.std.specs.Prelude.{Option, Some, None, ◌||◌}
 use Rattle.std.specs.Io.KnownBytes.{IsAtEnd}
 use Rattle.std.proofs.lemmas.List.{append-nil}
+use Rattle.std.proofs.Math.Bool.{or-false}
 use Rattle.outside.specs.Taken.{Took}
 use Rattle.outside.specs.Dials.{Dial, LastBecomes, with_last, takes, fails}
 use Rattle.outside.proofs.Taking.{took_none, took_more}
 use Rattle.outside.proofs.Dialling.{last_then}
 use Rattle.upstream_link.specs.Received.{receives, Told, Brings, Received}
 
-or_false : (a : Bool) → (a || false) ≡ a
-or_false true = refl
-or_false false = refl
-
 or_none : (a b : Bool) → ((a || false) || b) ≡ (a || b)
-or_none true b = refl
-or_none false b = refl
+or_none a b = ap (λ c. c || b) (or-false a)
 
 receives_none : (d : Dial) → d ≡ receives [] false false d
-receives_none d = λ i. record { sent = d.sent; taken = sym (append-nil d.taken) i; ended = sym (or_false d.ended) i; failed = sym (or_false d.failed) i }
+receives_none d = λ i. record { sent = d.sent; taken = sym (append-nil d.taken) i; ended = sym (or-false d.ended) i; failed = sym (or-false d.failed) i }
 
 receives_then : (first second : List ℕ) (ended failed : Bool) (d : Dial) → receives second ended failed (receives first false false d) ≡ receives (first ++ second) ended failed d
 receives_then first second ended failed d =
     λ i. record { sent = d.sent; taken = append_assoc d.taken first second i; ended = or_none d.ended ended i; failed = or_none d.failed failed i }
 
 takes_receives : (bytes : List ℕ) (ended : Bool) (d : Dial) → takes bytes ended d ≡ receives bytes ended false d
-takes_receives bytes ended d = λ i. record { sent = d.sent; taken = d.taken ++ bytes; ended = d.ended || ended; failed = sym (or_false d.failed) i }
+takes_receives bytes ended d = λ i. record { sent = d.sent; taken = d.taken ++ bytes; ended = d.ended || ended; failed = sym (or-false d.failed) i }
 
 or_true : (a : Bool) → true ≡ (a || true)
 or_true true = refl
 or_true false = refl
 
 fails_receives : (d : Dial) → fails d ≡ receives [] false true d
-fails_receives d = λ i. record { sent = d.sent; taken = sym (append-nil d.taken) i; ended = sym (or_false d.ended) i; failed = or_true d.failed i }
+fails_receives d = λ i. record { sent = d.sent; taken = sym (append-nil d.taken) i; ended = sym (or-false d.ended) i; failed = or_true d.failed i }
 
 pub same_last : (change other : Dial → Dial) → ((d : Dial) → change d ≡ other d) → (a b : Option (List Dial)) → LastBecomes change a b → LastBecomes other a b
 same_last change other same a b x = subst (λ (f : Dial → Dial). LastBecomes f a b) (λ i d. same d i) x

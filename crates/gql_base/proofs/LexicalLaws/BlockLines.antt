@@ -9,6 +9,7 @@ use Rattle.std.proofs.lemmas.List.Elements.{All-head, All-tail}
 use Rattle.std.proofs.lemmas.List.Sums.{prefix_len_passes, prefix_len-le-length}
 use Rattle.std.proofs.lemmas.Bool.Decides.{nat_tests}
 use Rattle.std.proofs.lemmas.Str.{IsCharBoundary-after_ascii}
+use Rattle.std.specs.Cmp.{second_so}
 use Rattle.gql_base.proofs.LexicalLaws.StringValues.{border_of_escape}
 use Rattle.gql_base.specs.lexical.Characters.{is_line_end}
 use Rattle.gql_base.specs.lexical.Pieces.{BeginsWithout}
@@ -138,10 +139,6 @@ line_run (x ∷ xs) rest ls all next =
     inside true e = absurd (let no : false ≡ true = e in cc)
     inside false e = refl
 
-second_is : (a b : Bool) → (a && b) ≡ true → b ≡ true
-second_is true b e = e
-second_is false b e = absurd (let no : false ≡ true = e in cc)
-
 feed_ends : (cs : List ℕ) → begins_with_line_feed cs ≡ true → lines_of cs ≡ [] ∷ lines_of (drop 1 cs)
 unfolding lines_of
 feed_ends [] feed = absurd (let no : false ≡ true = feed in cc)
@@ -151,7 +148,7 @@ line_ends : (rest : List ℕ) → 0 < line_end_length rest → lines_of rest ≡
 unfolding lines_of
 line_ends [] some = absurd (omega (arith, some))
 line_ends (c ∷ cs) some = elim (cases_Bool ((c == 13) && begins_with_line_feed cs)) [
-  | inl both ↦ rw both (feed_ends cs (second_is (c == 13) (begins_with_line_feed cs) both))
+  | inl both ↦ rw both (feed_ends cs (second_so (c == 13) (begins_with_line_feed cs) both))
   | inr one ↦ elim (cases_Bool (is_line_end c)) [
     | inl ends ↦ rw one (rw ends refl)
     | inr other ↦ absurd (let none : line_end_length (c ∷ cs) ≡ 0 = rw one (rw other refl) in omega (arith, none, some))
@@ -196,7 +193,7 @@ first_of_lines text end size is length some =
 line_end_is_ascii : (xs : List ℕ) → 0 < line_end_length xs → get_or xs (line_end_length xs - 1) 0 < 128
 line_end_is_ascii [] some = absurd (omega (arith, some))
 line_end_is_ascii (c ∷ cs) some = elim (cases_Bool ((c == 13) && begins_with_line_feed cs)) [
-  | inl both ↦ rw both (feed_is_ascii cs (second_is (c == 13) (begins_with_line_feed cs) both))
+  | inl both ↦ rw both (feed_is_ascii cs (second_so (c == 13) (begins_with_line_feed cs) both))
   | inr one ↦ elim (cases_Bool (is_line_end c)) [
     | inl ends ↦ rw one (rw ends (end_is_ascii c ends))
     | inr other ↦ absurd (let none : line_end_length (c ∷ cs) ≡ 0 = rw one (rw other refl) in omega (arith, none, some))

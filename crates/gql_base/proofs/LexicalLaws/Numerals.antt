@@ -9,6 +9,7 @@ use Rattle.std.proofs.lemmas.List.{take-append-drop, length-append, length-drop,
 use Rattle.std.proofs.lemmas.List.{length-take}
 use Rattle.std.proofs.lemmas.List.Sums.{prefix_len-le-length}
 use Rattle.std.proofs.lemmas.List.Elements.{All-cons}
+use Rattle.std.proofs.lemmas.Option.{same_Some}
 use Rattle.gql_base.specs.declared.lexical.numbers.Found.{Found}
 use Rattle.gql_base.specs.lexical.Characters.{follows_no_number, is_exponent_mark, is_sign}
 use Rattle.gql_base.specs.lexical.Numbers.{IsDigits, IsWhole, Exponent, Numeral, minus_bytes, fraction_bytes, sign_bytes, exponent_bytes, numeral_bytes, IsFraction, IsSign, IsExponent, IsNumeral, is_there, is_float}
@@ -16,7 +17,7 @@ use Rattle.gql_base.specs.lexical.Pieces.{BeginsWithout}
 use Rattle.gql_base.specs.lexical.Fronts.{bind, passes, is_minus, is_zero, is_dot, digits_end, minus_end, whole_end, fraction_end, sign_end, exponent_end, found_with, number_from, number_found, integer_fits, front_with, found_front}
 use Rattle.gql_base.specs.declared.lexical.token.TokenKind.TheVariants.{Int}
 use Rattle.gql_base.specs.declared.lexical.lexing.LexFault.TheVariants.{BadNumber}
-use Rattle.gql_base.proofs.LexicalLaws.Runs.{run_is_whole, run_passes, rest_after, some_is}
+use Rattle.gql_base.proofs.LexicalLaws.Runs.{run_is_whole, run_passes, rest_after}
 use Rattle.gql_base.proofs.LexicalLaws.StringScans.{drop_head}
 
 -- ---- the byte at a place
@@ -200,7 +201,7 @@ digits_are text at e pass end =
 digits_found : (text : List ℕ) (at e : ℕ) → digits_end text at ≡ Some e → Digits text at e
 digits_found text at e found =
     elim (cases_Bool (passes is_ascii_digit text at)) [
-      | inl t ↦ digits_are text at e t (some_is _ _ (rw t at found))
+      | inl t ↦ digits_are text at e t (same_Some _ _ (rw t at found))
       | inr f ↦ absurd (let none : None ≡ Some e = rw f at found in cc)
     ]
 
@@ -232,7 +233,7 @@ other_whole text at e other ds = (
 whole_found : (text : List ℕ) (at e : ℕ) → whole_end text at ≡ Some e → Whole text at e
 whole_found text at e found =
     elim (cases_Bool (passes is_zero text at)) [
-      | inl t ↦ zero_is text at e t (some_is _ _ (rw t at found))
+      | inl t ↦ zero_is text at e t (same_Some _ _ (rw t at found))
       | inr f ↦ other_whole text at e f (digits_found text at e (rw f at found))
     ]
 
@@ -262,7 +263,7 @@ fraction_found : (text : List ℕ) (at e : ℕ) → fraction_end text at ≡ Som
 fraction_found text at e found =
     elim (cases_Bool (passes is_dot text at)) [
       | inl t ↦ digits_fraction text at e t (digits_found text (at + 1) e (rw t at found))
-      | inr f ↦ no_fraction text at e (some_is _ _ (rw f at found))
+      | inr f ↦ no_fraction text at e (same_Some _ _ (rw f at found))
     ]
 
 Signed : List ℕ → ℕ → ℕ → Type 0
@@ -299,7 +300,7 @@ exponent_found : (text : List ℕ) (at e : ℕ) → exponent_end text at ≡ Som
 exponent_found text at e found =
     elim (cases_Bool (passes is_exponent_mark text at)) [
       | inl t ↦ digits_exponent text at (sign_end text (at + 1)) e t (sign_found text (at + 1)) (digits_found text (sign_end text (at + 1)) e (rw t at found))
-      | inr f ↦ no_exponent text at e (some_is _ _ (rw f at found))
+      | inr f ↦ no_exponent text at e (same_Some _ _ (rw f at found))
     ]
 
 Minus : List ℕ → ℕ → Type 0
@@ -336,7 +337,7 @@ number_with text w f e found m ws fs es last =
     elim (cases_Bool (passes follows_no_number text e)) [
       | inl t ↦ absurd (let none : None ≡ Some found = rw t at last in cc)
       | inr n ↦
-          let same : record { end = e; is_float = nat_lt w e } ≡ found = some_is _ _ (rw n at last) in
+          let same : record { end = e; is_float = nat_lt w e } ≡ found = same_Some _ _ (rw n at last) in
           subst (NumberThere text) same (record {
             numeral = record { minus = m.0; whole = ws.0; fraction = fs.0; exponent = es.0 };
             is = (ws.1, fs.1, es.1);

@@ -1,5 +1,5 @@
 -- The longest run of bytes that pass a test, and what options say.
-use Rattle.std.proofs.Common.{◌≡◌, ℕ, zero, suc, ◌+◌, ◌-◌, ◌<◌, Bool, true, false, List, [], ◌∷◌, ◌++◌, length, take, drop, get_or, refl, sym, ap, ◌∙◌, arith, Some, None}
+use Rattle.std.proofs.Common.{◌≡◌, ℕ, zero, suc, ◌+◌, ◌-◌, ◌<◌, Bool, true, false, List, [], ◌∷◌, ◌++◌, length, take, drop, get_or, refl, sym, ap, ◌∙◌, arith}
 use Rattle.std.specs.List.{AllPass, prefix_len}
 use Rattle.std.proofs.lemmas.List.{get_or-take, length-take, length-drop, take_all, drop-drop, drop_at}
 use Rattle.std.proofs.lemmas.List.Elements.{All-head, All-tail}
@@ -35,11 +35,3 @@ rest_of text at = take_all (length text - at) (drop at text) (omega (arith, leng
 
 pub rest_after : (text xs after : List ℕ) (at : ℕ) → drop at text ≡ xs ++ after → drop (at + length xs) text ≡ after
 rest_after text xs after at cut = sym (drop-drop (length xs) at text) ∙ ap (drop (length xs)) cut ∙ drop_at xs after (length xs) refl
-
--- what an option holds
-
-pub some_is : {A : Type 0} (x y : A) → Some x ≡ Some y → x ≡ y
-some_is x y same = cc
-
-pub not_some : {A : Type 0} (x : A) → None ≡ Some x → ⊥
-not_some x same = cc

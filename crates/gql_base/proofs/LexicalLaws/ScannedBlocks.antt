@@ -6,12 +6,12 @@ use Rattle.std.specs.List.{prefix_len}
 use Rattle.std.proofs.lemmas.Bool.{cases_Bool, eqb-true, and_parts}
 use Rattle.std.proofs.lemmas.Bool.Decides.{nat_tests}
 use Rattle.std.proofs.lemmas.List.Sums.{prefix_len-le-length}
+use Rattle.std.proofs.lemmas.Option.{same_Some}
 use Rattle.gql_base.specs.lexical.Characters.{is_block_byte}
 use Rattle.gql_base.specs.lexical.Strings.{begins_with_marks}
 use Rattle.gql_base.specs.lexical.Scans.{block_closed_at, block_fault, block_fault_after}
 use Rattle.gql_base.specs.lexical.Blocks.{unescaped}
 use Rattle.gql_base.specs.lexical.BlockStrings.{BlockCharacter, escaped_marks, other, marks, block_characters_bytes, AreApart, AreBlockCharacters, IsBlockBody, block_characters_value}
-use Rattle.gql_base.proofs.LexicalLaws.Runs.{some_is}
 use Rattle.gql_base.proofs.LexicalLaws.StringScans.{block_later}
 
 -- ---- characters are scanned
@@ -65,7 +65,7 @@ unfolding block_closed_at
 closed_later n at k [] e = absurd (cc)
 closed_later (suc n) at k (c ∷ cs) e = let h = closed_later n (at + 1) k cs e in omega (arith, h)
 closed_later zero at k (c ∷ cs) e = elim (cases_Bool (begins_with_marks (c ∷ cs))) [
-  | inl t ↦ let same : at ≡ k = some_is at k (rw t at e) in omega (arith, same)
+  | inl t ↦ let same : at ≡ k = same_Some at k (rw t at e) in omega (arith, same)
   | inr f ↦ let h = closed_later (if (c == 92) && begins_with_marks cs then 3 else 0) (at + 1) k cs (rw f at e) in omega (arith, h)
 ]
 
@@ -88,7 +88,7 @@ after_slash b at k rest n t e = let h = closed_later 3 (at + 1) k rest (rw (n, t
 
 no_closing : (b at k : ℕ) (rest : List ℕ) → begins_with_marks (b ∷ rest) ≡ true → block_closed_at 0 at (b ∷ rest) ≡ Some k → at ≡ k
 unfolding block_closed_at
-no_closing b at k rest t e = some_is at k (rw t at e)
+no_closing b at k rest t e = same_Some at k (rw t at e)
 
 with_marks : (b : ℕ) (body xs : List ℕ) → (b == 92) ≡ true → body ≡ marks ++ xs → BlockCut xs → BlockCut (b ∷ body)
 with_marks b body xs slash cut rest = record {

@@ -6,6 +6,7 @@ use Rattle.std.proofs.lemmas.Bool.{cases_Bool, eqb-true, and_parts}
 use Rattle.std.proofs.lemmas.Bool.Decides.{nat_tests}
 use Rattle.std.proofs.lemmas.List.{length-append, length-drop, take-append-drop}
 use Rattle.std.proofs.lemmas.List.Folds.{length-prefix_len}
+use Rattle.std.proofs.lemmas.Option.{same_Some}
 use Rattle.gql_base.specs.declared.lexical.lexing.LexFault.{LexFault}
 use Rattle.gql_base.specs.declared.lexical.lexing.LexFault.TheVariants.{BadChar, BadNumber, OpenText, BadEscape, FloatValue, Memory}
 use Rattle.gql_base.specs.declared.lexical.strings.Escape.{Escape}
@@ -15,7 +16,7 @@ use Rattle.gql_base.specs.lexical.Scans.{closed_at, block_closed_at, escape_at, 
 use Rattle.gql_base.specs.lexical.Strings.{begins_with_mark, begins_with_marks, StringCharacter, plain, character_bytes, is_plain, AreCharacters, characters_bytes}
 use Rattle.gql_base.proofs.LexicalLaws.Texts.{Closed, block_closed_is, inner_string, inner_block, three}
 use Rattle.gql_base.proofs.LexicalLaws.Escapes.{no_escape}
-use Rattle.gql_base.proofs.LexicalLaws.Runs.{run_is_whole, run_passes, run_stops, some_is}
+use Rattle.gql_base.proofs.LexicalLaws.Runs.{run_is_whole, run_passes, run_stops}
 use Rattle.gql_base.specs.lexical.BlockStrings.{marks, block_characters_bytes}
 use Rattle.gql_base.specs.lexical.Closings.{RawCharacter, bare, taken_along, raw_bytes, IsRaw, AreRaw, raws_bytes, IsClosed, IsBlockClosed, HasClosing, BeginsNoCharacter, BeginsWithBad, StringFault, BlockFault, HasFaultInside}
 use Rattle.gql_base.proofs.LexicalLaws.ScannedStrings.{Character, escape_in, characters_faultless, faultless, unclosed as unclosed_one, some_bytes, slash_escape}
@@ -57,7 +58,7 @@ mutual
   raws_in : (at closing : ℕ) (text : List ℕ) → closed_at false at text ≡ Some closing → Raws text at closing
   raws_in at closing [] e = absurd (cc)
   raws_in at closing (c ∷ cs) e = elim (cases_Bool (c == 34)) [
-    | inl t ↦ record { raws = []; after = cs; cut = ap (λ (x : ℕ). x ∷ cs) (eqb-true c 34 t); are = tt; place = let same : at ≡ closing = some_is at closing (rw t at e) in omega (arith, same) }
+    | inl t ↦ record { raws = []; after = cs; cut = ap (λ (x : ℕ). x ∷ cs) (eqb-true c 34 t); are = tt; place = let same : at ≡ closing = same_Some at closing (rw t at e) in omega (arith, same) }
     | inr m ↦ elim (cases_Bool (is_line_end c)) [
       | inl t ↦ absurd (let none : None ≡ Some closing = rw (m, t) at e in cc)
       | inr l ↦ elim (cases_Bool (c == 92)) [
@@ -188,7 +189,7 @@ fault_same f g e = cc
 
 ends_here : (at c : ℕ) (cs after : List ℕ) → (c == 34) ≡ true → closed_at false at (c ∷ (cs ++ 34 ∷ after)) ≡ Some (at + suc (length cs)) → ⊥
 unfolding closed_at
-ends_here at c cs after m closed = let e : at ≡ at + suc (length cs) = some_is _ _ (rw m at closed) in omega (arith, e)
+ends_here at c cs after m closed = let e : at ≡ at + suc (length cs) = same_Some _ _ (rw m at closed) in omega (arith, e)
 
 plain_byte : (c : ℕ) → (not (c == 92) && is_comment_byte c) ≡ true → (c == 34) ≡ false → is_plain c ≡ true
 plain_byte c t m = let p = and_parts (not (c == 92)) (is_comment_byte c) t in rw (p.0, p.1, m) refl

@@ -5,13 +5,13 @@ use Rattle.std.specs.Prelude.{◌==◌, ◌&&◌, not}
 use Rattle.std.proofs.lemmas.Bool.{cases_Bool, eqb-true, eq-eqb, and_parts}
 use Rattle.std.proofs.lemmas.Bool.Decides.{nat_tests}
 use Rattle.std.proofs.lemmas.List.{length-append}
+use Rattle.std.proofs.lemmas.Option.{none-some, same_Some}
 use Rattle.gql_base.specs.declared.lexical.strings.Escape.{Escape}
 use Rattle.gql_base.specs.lexical.Characters.{is_comment_byte, is_line_end, is_hex}
 use Rattle.gql_base.specs.lexical.Scans.{closed_at, letter_at, letter_or, four_digits, code_unit, code_escape, pair_with, escape_with, escape_at, text_step, text_fault, text_value}
 use Rattle.gql_base.specs.lexical.Strings.{begins_with_mark, begins_with_marks, letter_escape, is_leading, is_trailing, joined, FourDigits, StringCharacter, plain, letter, unit, surrogates, unit_bytes, character_bytes, are_hex, number_of, is_plain, IsCharacter, AreCharacters, characters_bytes, IsBody, letter_value, character_value, characters_value}
 use Rattle.gql_base.proofs.LexicalLaws.Escapes.{no_escape}
 use Rattle.gql_base.proofs.LexicalLaws.EscapedTexts.{alone_sound, alone_open, letter_found}
-use Rattle.gql_base.proofs.LexicalLaws.Runs.{some_is, not_some}
 
 -- ---- the escape that a character is
 
@@ -143,36 +143,36 @@ record Unit4 (text : List ℕ) (n : ℕ) : Type 0 where
   value : number_of digits ≡ n
 
 digits_in : (rest : List ℕ) (n : ℕ) → four_digits rest ≡ Some n → Unit4 (92 ∷ 117 ∷ rest) n
-digits_in [] n found = absurd (not_some n found)
-digits_in (a ∷ []) n found = absurd (not_some n found)
-digits_in (a ∷ b ∷ []) n found = absurd (not_some n found)
-digits_in (a ∷ b ∷ c ∷ []) n found = absurd (not_some n found)
+digits_in [] n found = absurd (none-some n found)
+digits_in (a ∷ []) n found = absurd (none-some n found)
+digits_in (a ∷ b ∷ []) n found = absurd (none-some n found)
+digits_in (a ∷ b ∷ c ∷ []) n found = absurd (none-some n found)
 digits_in (a ∷ b ∷ c ∷ d ∷ rest) n found = elim (cases_Bool (is_hex a && is_hex b && is_hex c && is_hex d)) [
-  | inl t ↦ record { digits = record { first = a; second = b; third = c; fourth = d }; rest = rest; cut = refl; hex = t; value = some_is _ n (rw t at found) }
-  | inr f ↦ absurd (not_some n (rw f at found))
+  | inl t ↦ record { digits = record { first = a; second = b; third = c; fourth = d }; rest = rest; cut = refl; hex = t; value = same_Some _ n (rw t at found) }
+  | inr f ↦ absurd (none-some n (rw f at found))
 ]
 
 unit_in : (text : List ℕ) (n : ℕ) → code_unit text ≡ Some n → Unit4 text n
-unit_in [] n found = absurd (not_some n found)
-unit_in (a ∷ []) n found = absurd (not_some n found)
+unit_in [] n found = absurd (none-some n found)
+unit_in (a ∷ []) n found = absurd (none-some n found)
 unit_in (a ∷ b ∷ rest) n found = elim (cases_Bool ((a == 92) && (b == 117))) [
   | inl t ↦
       let both = and_parts (a == 92) (b == 117) t in
       let same : 92 ∷ 117 ∷ rest ≡ a ∷ b ∷ rest = ap (λ x. x ∷ 117 ∷ rest) (sym (eqb-true a 92 both.0)) ∙ ap (λ x. a ∷ x ∷ rest) (sym (eqb-true b 117 both.1)) in
       subst (λ l. Unit4 l n) same (digits_in rest n (rw t at found))
-  | inr f ↦ absurd (not_some n (rw f at found))
+  | inr f ↦ absurd (none-some n (rw f at found))
 ]
 
 letter_in : (text : List ℕ) (c : ℕ) → letter_at text ≡ Some c → Character text
-letter_in [] c found = absurd (not_some c found)
-letter_in (a ∷ []) c found = absurd (not_some c found)
+letter_in [] c found = absurd (none-some c found)
+letter_in (a ∷ []) c found = absurd (none-some c found)
 letter_in (a ∷ b ∷ rest) c found = elim (cases_Bool (a == 92)) [
   | inl t ↦ record { one = letter b; rest = rest; cut = ap (λ x. x ∷ b ∷ rest) (eqb-true a 92 t); is = (c, rw t at found) }
-  | inr f ↦ absurd (not_some c (rw f at found))
+  | inr f ↦ absurd (none-some c (rw f at found))
 ]
 
 pair_in : (text : List ℕ) (n : ℕ) (u : Unit4 text n) (next : Option ℕ) (e : Escape) → is_leading n ≡ true → code_unit u.rest ≡ next → pair_with n next ≡ Some e → Character text
-pair_in text n u None e l is found = absurd (not_some e found)
+pair_in text n u None e l is found = absurd (none-some e found)
 pair_in text n u (Some m) e l is found = elim (cases_Bool (is_trailing m)) [
   | inl t ↦ let v = unit_in u.rest m is in
       record {
@@ -181,17 +181,17 @@ pair_in text n u (Some m) e l is found = elim (cases_Bool (is_trailing m)) [
         cut = u.cut ∙ ap (λ xs. unit_bytes u.digits ++ xs) v.cut;
         is = (u.hex, v.hex, ap is_leading u.value ∙ l, ap is_trailing v.value ∙ t);
       }
-  | inr f ↦ absurd (not_some e (rw f at found))
+  | inr f ↦ absurd (none-some e (rw f at found))
 ]
 
 code_in : (text : List ℕ) (first next : Option ℕ) (e : Escape) → code_unit text ≡ first → code_unit (drop 6 text) ≡ next → code_escape first next ≡ Some e → Character text
-code_in text None next e is after found = absurd (not_some e found)
+code_in text None next e is after found = absurd (none-some e found)
 code_in text (Some n) next e is after found =
     let u = unit_in text n is in
     elim (cases_Bool (is_leading n)) [
       | inl l ↦ pair_in text n u next e l (sym (ap (λ xs. code_unit (drop 6 xs)) u.cut) ∙ after) (rw l at found)
       | inr l ↦ elim (cases_Bool (is_trailing n)) [
-        | inl t ↦ absurd (not_some e (rw (l, t) at found))
+        | inl t ↦ absurd (none-some e (rw (l, t) at found))
         | inr t ↦ record { one = unit u.digits; rest = u.rest; cut = u.cut; is = (u.hex, ap is_leading u.value ∙ l, ap is_trailing u.value ∙ t) }
       ]
     ]
@@ -223,7 +223,7 @@ unfolding text_fault text_step closed_at
 byte_in c cs at after none faultless closed = elim (cases_Bool (not (c == 92) && is_comment_byte c)) [
   | inr f ↦ absurd (let bad = rw (none, f) at faultless in cc)
   | inl t ↦ elim (cases_Bool (c == 34)) [
-    | inl m ↦ absurd (let e : at ≡ at + suc (length cs) = some_is _ _ (rw m at closed) in omega (arith, e))
+    | inl m ↦ absurd (let e : at ≡ at + suc (length cs) = same_Some _ _ (rw m at closed) in omega (arith, e))
     | inr m ↦ record { one = plain c; rest = cs; cut = refl; is = is_plain_byte c t m }
   ]
 ]

@@ -3,6 +3,7 @@ use Rattle.std.proofs.Common.{◌≡◌, inl, inr, ℕ, zero, suc, ◌+◌, Bool
 use Rattle.std.proofs.lemmas.Bool.{cases_Bool, eqb-true}
 use Rattle.std.proofs.lemmas.Bool.Decides.{nat_tests}
 use Rattle.std.proofs.lemmas.List.{take_at}
+use Rattle.std.proofs.lemmas.Option.{same_Some}
 use Rattle.gql_base.specs.declared.lexical.lexing.Front.{Front}
 use Rattle.gql_base.specs.declared.lexical.lexing.LexFault.{LexFault}
 use Rattle.gql_base.specs.declared.lexical.token.TokenKind.TheVariants.{Str, BlockStr}
@@ -10,7 +11,6 @@ use Rattle.gql_base.specs.lexical.Characters.{is_line_end}
 use Rattle.gql_base.specs.lexical.Strings.{begins_with_marks}
 use Rattle.gql_base.specs.lexical.Scans.{closed_at, block_closed_at, text_fault, block_fault, closing_of, fault_before}
 use Rattle.gql_base.specs.lexical.Fronts.{front_with, sound_text, closed_text, text_front}
-use Rattle.gql_base.proofs.LexicalLaws.Runs.{some_is}
 
 pub record Closed (text : List ℕ) (mark : List ℕ) (at closing : ℕ) : Type 0 where
   pub body : List ℕ
@@ -32,7 +32,7 @@ closed_is true at (c ∷ cs) closing is =
     ]
 closed_is false at (c ∷ cs) closing is =
     elim (cases_Bool (c == 34)) [
-      | inl t ↦ record { body = []; after = cs; cut = ap (λ x. x ∷ cs) (eqb-true c 34 t); place = let same : at ≡ closing = some_is at closing (rw t at is) in omega (arith, same) }
+      | inl t ↦ record { body = []; after = cs; cut = ap (λ x. x ∷ cs) (eqb-true c 34 t); place = let same : at ≡ closing = same_Some at closing (rw t at is) in omega (arith, same) }
       | inr f ↦
           elim (cases_Bool (is_line_end c)) [
             | inl t ↦ absurd (let no_one : None ≡ Some closing = rw (f, t) at is in cc)
@@ -57,7 +57,7 @@ block_closed_is skipped at [] closing is = absurd (cc)
 block_closed_is (suc n) at (c ∷ cs) closing is = longer cs (34 ∷ 34 ∷ 34 ∷ []) c at closing (block_closed_is n (at + 1) cs closing is)
 block_closed_is zero at (c ∷ cs) closing is =
     elim (cases_Bool (begins_with_marks (c ∷ cs))) [
-      | inl t ↦ let same : at ≡ closing = some_is at closing (rw t at is) in subst (Closed (c ∷ cs) (34 ∷ 34 ∷ 34 ∷ []) at) same (marks_are (c ∷ cs) at t)
+      | inl t ↦ let same : at ≡ closing = same_Some at closing (rw t at is) in subst (Closed (c ∷ cs) (34 ∷ 34 ∷ 34 ∷ []) at) same (marks_are (c ∷ cs) at t)
       | inr f ↦ longer cs (34 ∷ 34 ∷ 34 ∷ []) c at closing (block_closed_is (if (c == 92) && begins_with_marks cs then 3 else 0) (at + 1) cs closing (rw f at is))
     ]
 

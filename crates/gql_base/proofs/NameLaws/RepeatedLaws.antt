@@ -6,6 +6,7 @@ use Rattle.std.specs.Map.{update}
 use Rattle.std.specs.Str.{bytes_eq}
 use Rattle.std.specs.Cmp.Lexicographic.{nat_list_eq_equiv}
 use Rattle.std.proofs.lemmas.Bool.{cases_Bool}
+use Rattle.std.proofs.lemmas.Option.{same_Some}
 use Rattle.gql_base.specs.names.Names.{are_distinct, repeated_from, first_repeated}
 
 -- whether something stands just at the names that were seen
@@ -103,13 +104,10 @@ cut_later seen n name names at t later =
       with_it = rw (one_more, t) (later.with_it);
     }
 
-some_same : (m n : ℕ) → Some m ≡ Some n → m ≡ n
-some_same m n e = cc
-
 cuts : (seen : List (List ℕ)) (n : ℕ) (names : List (List ℕ)) (at : ℕ) → repeated_from seen n names ≡ Some at → Cuts seen n names at
 cuts seen n [] at e = absurd (let bad : None ≡ Some at = e in cc)
 cuts seen n (name ∷ names) at e = elim (cases_Bool (list_any (bytes_eq name) seen)) [
-  | inl t ↦ cut_here seen n name names at t (some_same n at (rw t at e))
+  | inl t ↦ cut_here seen n name names at t (same_Some n at (rw t at e))
   | inr t ↦ cut_later seen n name names at t (cuts (name ∷ seen) (n + 1) names at (rw t at e))
 ]
 

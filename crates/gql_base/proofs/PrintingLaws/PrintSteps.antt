@@ -1,7 +1,7 @@
 -- Printing symbol after symbol, and what values and types that are looked at stand for.
-use Rattle.std.proofs.Common.{ℕ, suc, ◌+◌, ◌≡◌, ◌<◌, ◌≤◌, List, [], ◌∷◌, ◌++◌, length, map, drop, get_or, Result, Ok, Err, OnOk, refl, sym, ap, ◌∙◌, arith, append_assoc, append-nil}
+use Rattle.std.proofs.Common.{ℕ, ◌+◌, ◌≡◌, ◌<◌, ◌≤◌, List, [], ◌∷◌, ◌++◌, length, map, drop, get_or, refl, sym, ap, ◌∙◌, arith, append_assoc, append-nil}
 use Rattle.std.proofs.lemmas.List.{drop_all}
-use Rattle.std.proofs.Math.Seq.{drop-cons}
+use Rattle.gql_base.proofs.Lists.{at_front}
 use Rattle.gql_base.specs.declared.lexical.token.TokenKind.TheVariants.{Bang, Dollar, Colon, OpenBracket, CloseBracket, OpenBrace, CloseBrace}
 use Rattle.gql_base.specs.declared.parts.trees.Value.{Value}
 use Rattle.gql_base.specs.declared.parts.trees.Argument.{Argument}
@@ -22,10 +22,6 @@ pub put_all_append : (p : Printed) (a b : Symbols) → put_all p (a ++ b) ≡ pu
 unfolding put_all
 put_all_append p [] b = refl
 put_all_append p (w ∷ a) b = put_all_append (put p w) a b
-
-pub on_ok : {A E P Q : Type 0} (r : Result A E) → (P → Q) → OnOk r P → OnOk r Q
-on_ok (Ok x) f p = f p
-on_ok (Err e) f p = tt
 
 -- one symbol
 pub printed_single : (p q : Printed) (v : Value) (t : ValueTree) (w : Symbol) → value_tree v ≡ t → value_symbols t ≡ w ∷ [] → q ≡ put p w → q ≡ put_all p (value_symbols (value_tree v))
@@ -51,9 +47,6 @@ printed_object p one two q fs e f g = g ∙ (ap (λ m. put m (punctuator CloseBr
     ∙ sym (put_all_append (put p (punctuator OpenBrace)) (fields_symbols (fields_from (map named_value fs))) (punctuator CloseBrace ∷ [])))
 
 -- one after the other: what is left prints as the whole
-
-at_front : {A : Type 0} (xs : List A) (at : ℕ) (x : A) → at < length xs → x ≡ get_or xs at x → drop at xs ≡ x ∷ drop (at + 1) xs
-at_front xs at x h is = let e : suc at ≡ at + 1 = omega arith in drop-cons xs at x h ∙ (ap (λ y. y ∷ drop (suc at) xs) (sym is) ∙ ap (λ n. x ∷ drop n xs) e)
 
 pub next_value : (p q : Printed) (vs : List Value) (at : ℕ) (v : Value) → at < length vs → v ≡ get_or vs at v → q ≡ put_all p (value_symbols (value_tree v)) → put_all q (values_symbols (values_from (map value_tree (drop (at + 1) vs)))) ≡ put_all p (values_symbols (values_from (map value_tree (drop at vs))))
 unfolding value_symbols

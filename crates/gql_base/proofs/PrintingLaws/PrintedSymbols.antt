@@ -4,6 +4,7 @@ use Rattle.std.specs.Prelude.{codes, map, if◌then◌else◌}
 use Rattle.std.specs.Str.{bytes_eq}
 use Rattle.std.proofs.lemmas.List.{map-append}
 use Rattle.std.proofs.lemmas.Slice.Eq.{bytes_eq-Decides}
+use Rattle.std.proofs.lemmas.Option.{same_Some}
 use Rattle.gql_base.specs.declared.lexical.token.TokenKind.{TokenKind}
 use Rattle.gql_base.specs.declared.lexical.token.TokenKind.TheVariants.{Bang, Colon, OpenBracket, CloseBracket, OpenBrace, CloseBrace}
 use Rattle.gql_base.specs.ways.Symbols.{Symbol, punctuator, identifier, integer, string, Symbols}
@@ -13,7 +14,6 @@ use Rattle.gql_base.specs.parts.TypeReferences.{TypeTree, named_type, list_type,
 use Rattle.gql_base.specs.printing.PrintedTrees.{value_symbols, values_symbols, fields_symbols, type_symbols}
 use Rattle.gql_base.specs.printing.PlacelessSymbols.{placeless_symbol}
 use Rattle.gql_base.proofs.WayLaws.ReadingLaws.{plain_append}
-use Rattle.gql_base.proofs.LexicalLaws.Runs.{some_is}
 
 -- symbols without their nestings and without the offsets of names
 abbrev pub bare : Nested → Symbols
@@ -40,9 +40,9 @@ named_symbol at name false false false is_true is_false is_null = refl
 literal_symbol : (w : Symbol) (t : ValueTree) → literal w ≡ Some t → value_symbols t ≡ placeless_symbol w ∷ []
 unfolding value_symbols
 literal_symbol (punctuator kind) t e = cc
-literal_symbol (integer value) t e = ap value_symbols (sym (some_is (integer_value value) t e))
-literal_symbol (string value) t e = ap value_symbols (sym (some_is (string_value value) t e))
-literal_symbol (identifier name at) t e = ap value_symbols (sym (some_is (value_of_name name at) t e))
+literal_symbol (integer value) t e = ap value_symbols (sym (same_Some (integer_value value) t e))
+literal_symbol (string value) t e = ap value_symbols (sym (same_Some (string_value value) t e))
+literal_symbol (identifier name at) t e = ap value_symbols (sym (same_Some (value_of_name name at) t e))
     ∙ named_symbol at name (bytes_eq name (codes "true")) (bytes_eq name (codes "false")) (bytes_eq name (codes "null"))
     (bytes_eq-Decides name (codes "true")).0 (bytes_eq-Decides name (codes "false")).0 (bytes_eq-Decides name (codes "null")).0
 

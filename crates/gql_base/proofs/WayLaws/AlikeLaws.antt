@@ -3,6 +3,7 @@
 use Rattle.std.proofs.Common.{ℕ, suc, ◌≡◌, inl, inr, List, [], ◌∷◌, ◌++◌, Option, None, Some, refl, sym, ap, ◌∙◌, subst}
 use Rattle.std.specs.Prelude.{map}
 use Rattle.std.specs.Option.{option_map}
+use Rattle.std.proofs.lemmas.Option.{same_Some}
 use Rattle.gql_base.specs.declared.lexical.token.TokenKind.{TokenKind}
 use Rattle.gql_base.specs.ways.Symbols.{Symbol, punctuator, identifier, integer, string}
 use Rattle.gql_base.specs.ways.Reading.{Taking, exact, any_name, listed, second}
@@ -10,7 +11,6 @@ use Rattle.gql_base.specs.ways.Grammar.{Nested, Single, Pair, Image, Choice, Emp
 use Rattle.gql_base.specs.printing.PlacelessSymbols.{placeless_symbol, name_placeless}
 use Rattle.gql_base.specs.printing.Alike.{AreAlike}
 use Rattle.gql_base.proofs.WayLaws.AlikeSymbols.{none_alike, split_alike, one_alike, punctuator_alike}
-use Rattle.gql_base.proofs.LexicalLaws.Runs.{some_is}
 
 -- Symbols that are alike to those of a thing are those of a thing too, and f, which drops offsets, makes both the same.
 pub record Alike {A : Type 0} (S : A → Nested → Type 0) (f : A → A) : Type 0 where
@@ -27,7 +27,7 @@ both f g p = (f p.0, g p.1)
 
 was_some : {A : Type 0} (f : A → A) (o : Option A) (c : A) → option_map f o ≡ Some c → (b : A) × (o ≡ Some b) × (f b ≡ c)
 was_some f None c e = cc
-was_some f (Some b) c e = (b, refl, some_is (f b) c e)
+was_some f (Some b) c e = (b, refl, same_Some (f b) c e)
 
 -- a symbol without its offset is taken for the thing without its offset
 abbrev pub TakesPlaceless : {A : Type 0} → Taking A → (A → A) → Type 0

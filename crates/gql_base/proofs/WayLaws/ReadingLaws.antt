@@ -2,10 +2,10 @@
 use Rattle.std.proofs.Common.{ℕ, suc, ◌≡◌, ◌≤◌, ◌⊎◌, inl, inr, Bool, true, false, [], ◌∷◌, ◌++◌, Option, None, Some, Ok, Err, refl, sym, ap, ◌∙◌, subst, append_assoc}
 use Rattle.std.specs.Prelude.{if◌then◌else◌}
 use Rattle.std.proofs.lemmas.Bool.{cases_Bool}
+use Rattle.std.proofs.lemmas.Option.{same_Some}
 use Rattle.gql_base.specs.ways.Symbols.{Symbol, Symbols}
-use Rattle.gql_base.specs.ways.Reading.{Stop, unexpected, too_deep, Reading, Reader, Test, Taking, next, then_read, taken, single, pair, image, choice, empty, never}
+use Rattle.gql_base.specs.ways.Reading.{Stop, unexpected, too_deep, Reading, Reader, Test, Taking, next, then_read, taken, single, pair, image, choice, empty, never, is_there}
 use Rattle.gql_base.specs.ways.Grammar.{Nested, plain, Within, Single, Pair, Image, Choice, Empty}
-use Rattle.gql_base.proofs.LexicalLaws.Runs.{some_is}
 
 -- symbols without their nesting
 
@@ -31,6 +31,10 @@ regroup f g zs = ap (λ (l : Symbols). l ++ zs) (plain_append f g) ∙ append_as
 pub same_next : (f : Nested) (zs rest : Symbols) → next zs ≡ next rest → next (plain f ++ zs) ≡ next (plain f ++ rest)
 same_next [] zs rest e = e
 same_next (w ∷ f) zs rest e = refl
+
+pub no_symbol : (ws : Symbols) → is_there (next ws) ≡ false → ws ≡ []
+no_symbol [] e = refl
+no_symbol (w ∷ ws) e = cc
 
 -- answers of readers
 
@@ -331,7 +335,7 @@ taken_took taking d n w ws x (Some a) le is e = subst (Took (Single taking d) n 
 
 refused : {A : Type 0} (taking : Taking A) (w : Symbol) (ws zs : Symbols) → taking w ≡ None → next zs ≡ next (w ∷ ws) → single taking zs ≡ Err (unexpected, zs)
 refused taking w ws [] is h = refl
-refused taking w ws (z ∷ zs) is h = ap (λ o. taken o zs (z ∷ zs)) (ap taking (some_is z w h) ∙ is)
+refused taking w ws (z ∷ zs) is h = ap (λ o. taken o zs (z ∷ zs)) (ap taking (same_Some z w h) ∙ is)
 
 taken_stopped : {A : Type 0} (taking : Taking A) (d n : ℕ) (a : A) (v : Symbol) → taking v ≡ Some a → (w : Symbol) (ws : Symbols) (e : Stop × Symbols) (o : Option A) → taking w ≡ o → taken o ws (w ∷ ws) ≡ Err e → Stopped (Single taking d) n (single taking) (w ∷ ws) e
 taken_stopped taking d n a v good w ws e (Some b) is h = absurd (ok_not_err _ _ h)

@@ -16,8 +16,8 @@ pub fn a_value_has_one_fault()
     ensures types { (text : List ℕ) (tokens : List Token) (from : ℕ) (fault other : ValueFault) → IsFault (IsType 0) text tokens from fault → IsFault (IsType 0) text tokens from other → (fault ≡ Memory → ⊥) → (other ≡ Memory → ⊥) → fault ≡ other }
 {}
 
-/// From a token on there is a value or a fault, and not both, and so for types. Want of memory is no such fault.
-pub fn a_value_or_a_fault_is_read()
+/// Where a value is read from a token on, its reading has no fault, and so for types. Want of memory is no such fault.
+pub fn a_read_value_has_no_fault()
     ensures values { (constant : Bool) (text : List ℕ) (tokens : List Token) (from : ℕ) (t : ValueTree) (rest : Symbols) (fault : ValueFault) → IsWritten (IsValue constant 0) level_limit (symbols_from text tokens from) t rest → IsFault (IsValue constant 0) text tokens from fault → fault ≡ Memory }
     ensures types { (text : List ℕ) (tokens : List Token) (from : ℕ) (t : TypeTree) (rest : Symbols) (fault : ValueFault) → IsWritten (IsType 0) level_limit (symbols_from text tokens from) t rest → IsFault (IsType 0) text tokens from fault → fault ≡ Memory }
 {}

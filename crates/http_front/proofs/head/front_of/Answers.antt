@@ -1,6 +1,6 @@
 -- The lesser of two lengths.
 use Rattle.std.proofs.Common.{◌∙◌, ap, take}
-use Rattle.http_front.proofs.Fronts.{take_min}
+use Rattle.http_fields.proofs.Fronts.{take_min}
 use Rattle.http_front.proofs.head.front_of.Goals as goal
 
 pub returns : goal.returns

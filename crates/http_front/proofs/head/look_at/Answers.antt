@@ -1,9 +1,10 @@
 -- What the parser answers says what stands at the front.
 use Rattle.std.proofs.Common.{inl, inr, ap, subst, arith, length, drop}
 use Rattle.std.proofs.lemmas.List.{length-take}
+use Rattle.http_fields.proofs.Fronts.{fields_fit}
 use Rattle.httparse.specs.Grammar.{ReadsRequest, HasNoRequest, MayBecomeRequest}
 use Rattle.httparse.specs.Spans.{IsRequestOf, IsRequestWithin}
-use Rattle.http_front.proofs.Fronts.{complete_at, partial_at, fields_fit, refused_by, of_memory}
+use Rattle.http_front.proofs.Fronts.{complete_at, partial_at, refused_by, of_memory}
 use Rattle.http_front.proofs.head.look_at.Goals as goal
 
 pub returns-in-Ok-clause-exact : goal.returns-in-Ok-clause-exact

@@ -1,5 +1,5 @@
 use Rattle.std.proofs.Common.{◌∙◌, ap, take}
-use Rattle.upstream_link.proofs.Lines.{take_min}
+use Rattle.http_fields.proofs.Fronts.{take_min}
 use Rattle.upstream_link.proofs.chunks.room_of.Goals as goal
 
 pub returns : goal.returns

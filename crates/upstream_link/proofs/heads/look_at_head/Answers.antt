@@ -1,8 +1,9 @@
 use Rattle.std.proofs.Common.{inr, subst, ap, length, drop, arith}
 use Rattle.std.proofs.lemmas.List.{length-take}
+use Rattle.http_fields.proofs.Fronts.{fields_fit}
 use Rattle.httparse.specs.Grammar.{ReadsResponse, HasNoResponse}
 use Rattle.httparse.specs.Spans.{IsResponseOf, IsResponseWithin}
-use Rattle.upstream_link.proofs.Fronts.{partial_at, complete_at, fields_fit}
+use Rattle.upstream_link.proofs.Fronts.{partial_at, complete_at}
 use Rattle.upstream_link.proofs.heads.look_at_head.Goals as goal
 
 pub returns-in-Ok-Complete-clause-within : goal.returns-in-Ok-Complete-clause-within
