@@ -14,7 +14,7 @@ use Rattle.input_values.specs.coercion.Places.{list_of_one}
 use Rattle.input_values.specs.coercion.Objects.{with_field}
 use Rattle.input_values.specs.coercion.Coercion.{coerced}
 use Rattle.input_values.specs.coercion.Relation.{IsSingle, IsList, IsAbsent, IsThere, Either, AreFields, NamesAreRight, IsObject, IsCoerced, AreCoerced, IsField}
-use Rattle.input_values.proofs.CoercionLaws.Found.{coerced_iff}
+use Rattle.input_values.proofs.CoercionLaws.Found.{no_ok, coerced_iff}
 
 -- defaults of fewer nodes than this stay
 abbrev pub AbsenceGrows : ℕ → Absence → Absence → Type 0
@@ -42,15 +42,6 @@ FormGrows n id_form form = form ≡ id_form
 FormGrows n custom_form form = form ≡ custom_form
 FormGrows n (enum_form names) form = form ≡ enum_form names
 FormGrows n no_form form = form ≡ no_form
-
-abbrev okay : CoercedTree → Answer CoercedTree
-okay t = Ok t
-
-no_ok : {B : Type 0} (path : Path) (t : CoercedTree) → Err path ≡ okay t → B
-no_ok path t e = absurd (differ path t e)
-  where
-    differ : (p : Path) (u : CoercedTree) → Err p ≡ okay u → ⊥
-    differ p u h = cc
 
 -- a leaf is refused at an input object
 leaf_grows : (n : ℕ) (leaf : InputForm → Answer CoercedTree) (less more : InputForm) (t : CoercedTree) → ((fs : List FieldForm) → leaf (object_form fs) ≡ Err []) → FormGrows n less more → leaf less ≡ Ok t → leaf more ≡ Ok t
