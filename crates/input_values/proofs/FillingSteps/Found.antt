@@ -17,7 +17,7 @@ use Rattle.gql_base.specs.parts.Values.{ValueTree}
 use Rattle.input_values.specs.values.Coerced.{CoercedTree, coerced_tree, nodes}
 use Rattle.input_values.specs.inputs.Shapes.{ShapeTree}
 use Rattle.input_values.specs.declared.values.coerced.Coerced.{Coerced}
-use Rattle.input_values.specs.coercion.Answers.{Path, Answer, refused}
+use Rattle.input_values.specs.coercion.Answers.{Answer, refused}
 use Rattle.input_values.specs.coercion.Forms.{Absence, takes_default, stays_absent, is_required, absence_of, FieldForm, InputForm, integer_form, string_form, boolean_form, id_form, custom_form, enum_form, object_form, no_form}
 use Rattle.input_values.specs.coercion.Coercion.{coerced}
 use Rattle.input_values.specs.coercion.Literals.{no_variables, literal_given}

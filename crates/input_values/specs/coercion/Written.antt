@@ -3,7 +3,7 @@ use Rattle.std.specs.Prelude.{ℕ, false, List, [], Option, drop}
 use Rattle.gql_base.specs.declared.parts.trees.Value.{Value}
 use Rattle.gql_base.specs.declared.parts.trees.Argument.{Argument}
 use Rattle.gql_base.specs.parts.Trees.{value_tree}
-use Rattle.input_values.specs.values.Coerced.{CoercedTree, coerced_list, coerced_object, CoercedFields}
+use Rattle.input_values.specs.values.Coerced.{CoercedTree, coerced_list, CoercedFields}
 use Rattle.input_values.specs.declared.inputs.shape.Shape.{Shape}
 use Rattle.input_values.specs.inputs.Shapes.{shape_tree}
 use Rattle.input_values.specs.declared.coercion.variables.VariableValue.{VariableValue}
