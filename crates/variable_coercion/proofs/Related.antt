@@ -1,6 +1,6 @@
 -- What variables and arguments come to is what the relations say, and nothing else.
-use Rattle.core.specs.FinMap.Entries.{same_Some}
 use Rattle.std.proofs.Common.{◌≡◌, ℕ, List, [], ◌∷◌, Bool, true, false, true≢false, cond, leb, Option, Some, None, Result, Ok, Err, refl, sym, ap, ap₂, ◌∙◌}
+use Rattle.std.proofs.lemmas.Option.{none-some, same_Some}
 use Rattle.gql_base.specs.parts.Values.{ValueTree}
 use Rattle.serde_json.specs.Data.{Data}
 use Rattle.serde_json.specs.Find.{get}
@@ -30,12 +30,6 @@ value_or d (Err e) = d
 ok_same : {A : Type 0} (x y : A) → okay x ≡ okay y → x ≡ y
 ok_same x y e = ap (value_or x) e
 
-no_some : {A B : Type 0} (x : A) → Some x ≡ None → B
-no_some x e = absurd (differ x e)
-  where
-    differ : {A : Type 0} (x : A) → Some x ≡ None → ⊥
-    differ x e = cc
-
 no_ok : {A B : Type 0} (r : Refusal) (x : A) → Err r ≡ okay x → B
 no_ok r x e = absurd (differ r x e)
   where
@@ -53,7 +47,7 @@ same_tree u t a e f = ap (value_or u) (sym e ∙ f)
 
 sized_iff : (why : Unfit → Refusal) (form : ℕ → InputForm) (g : Given) (s : ShapeTree) (u : CoercedTree) (small : Bool) → coerced form g s ≡ Ok u → leb (nodes u) value_limit ≡ small → (o : Option CoercedTree)
     → Iff (given_value why (cond small (Ok u) (Err unfit_size)) ≡ Ok o) (IsFitting form g s o)
-sized_iff why form g s u true is e None = (λ h. no_some u (ok_same (Some u) None h), λ h. absurd h)
+sized_iff why form g s u true is e None = (λ h. absurd (none-some u (sym (ok_same (Some u) None h))), λ h. absurd h)
 sized_iff why form g s u true is e (Some t) = (
   λ h. let k = same_Some u t (ok_same (Some u) (Some t) h) in ((coerced_iff form g s t).0 (is ∙ ap Ok k), ap (λ x. leb (nodes x) value_limit) (sym k) ∙ e),
   λ h. ap (λ x. Ok (Some x)) (same_tree u t (coerced form g s) is ((coerced_iff form g s t).1 h.0)),
