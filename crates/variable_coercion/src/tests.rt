@@ -8,6 +8,7 @@ use schema_model::{FieldId, Schema};
 use schema_reader::read_schema_text;
 use serde_json::Value;
 use std::alloc::Global;
+use std::process::Abort;
 use std::test::Fail;
 
 const SCHEMA: &str =
@@ -275,8 +276,7 @@ fn come_to(alloc: Global, schema: &Schema, text: &str, given: &str) -> Result<St
 }
 
 // Each value in both of its forms, as the value of a variable and as its default.
-fn each_value(rt: &HostRuntime, schema: &Schema) -> Result<(), Fail> {
-    let alloc = rt.alloc();
+fn each_value(rt: &impl Abort, alloc: Global, schema: &Schema) -> Result<(), Fail> {
     for (of, json, literal, outcome) in VALUES {
         let want = match outcome.strip_prefix("!") {
             Some(path) => format!(in alloc; "the value of a variable doesn't coerce at '{path}'")?,
@@ -298,8 +298,7 @@ fn each_value(rt: &HostRuntime, schema: &Schema) -> Result<(), Fail> {
 }
 
 // A list at the limit, as a variable and in a list of an argument.
-fn each_size(rt: &HostRuntime, schema: &Schema) -> Result<(), Fail> {
-    let alloc = rt.alloc();
+fn each_size(rt: &impl Abort, alloc: Global, schema: &Schema) -> Result<(), Fail> {
     for (count, last, other, outcome) in SIZES {
         let mut given = format!(in alloc; "{{\"w\":{other},\"v\":[")?;
         for _ in 1..*count {
@@ -324,12 +323,12 @@ fn values_and_first_refusals(rt: HostRuntime) -> Result<(), Fail> {
         assert!(rt; false, "the schema has a fault");
         return Ok(());
     };
-    each_value(&rt, &schema)?;
+    each_value(&rt, alloc, &schema)?;
     for (text, given, outcome) in OPERATIONS {
         let found = come_to(alloc, &schema, text, given)?;
         assert_eq!(rt; found.as_str(), *outcome, "{text}");
     }
-    each_size(&rt, &schema)?;
+    each_size(&rt, alloc, &schema)?;
     variables_are_shared();
     Ok(())
 }
