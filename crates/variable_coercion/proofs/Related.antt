@@ -2,6 +2,7 @@
 use Rattle.std.proofs.Common.{◌≡◌, ℕ, List, [], ◌∷◌, Bool, true, false, true≢false, cond, leb, Option, Some, None, Result, Ok, Err, refl, sym, ap, ap₂, ◌∙◌}
 use Rattle.std.proofs.lemmas.Option.{none-some, same_Some}
 use Rattle.gql_base.specs.parts.Values.{ValueTree}
+use Rattle.gql_base.proofs.WayLaws.AlikeSymbols.{first_same}
 use Rattle.serde_json.specs.Data.{Data}
 use Rattle.serde_json.specs.Find.{get}
 use Rattle.input_values.specs.values.Coerced.{CoercedTree, nodes}
@@ -123,12 +124,9 @@ no_others = []
 nothing_in_front : {A : Type 0} (x : A) (xs : List A) → no_others ≡ x ∷ xs → ⊥
 nothing_in_front x xs e = cc
 
-front_same : {A : Type 0} (x y : A) (xs ys : List A) → x ∷ xs ≡ y ∷ ys → (x ≡ y) × (xs ≡ ys)
-front_same x y xs ys e = (cc, cc)
-
 both_ok : {A : Type 0} (a : Result A Refusal) (b : Result (List A) Refusal) (y : A) (ys : List A) → Iff (and_then a b ≡ Ok (y ∷ ys)) ((a ≡ Ok y) × (b ≡ Ok ys))
 both_ok (Ok x) (Ok xs) y ys = (
-  λ h. let e = front_same x y xs ys (ok_same (x ∷ xs) (y ∷ ys) h) in (ap Ok e.0, ap Ok e.1),
+  λ h. let e = first_same x y xs ys (ok_same (x ∷ xs) (y ∷ ys) h) in (ap Ok e.0, ap Ok e.1),
   λ h. ap₂ (λ p ps. Ok (p ∷ ps)) (ok_same x y h.0) (ok_same xs ys h.1),
 )
 both_ok (Ok x) (Err r) y ys = (λ h. no_ok r (y ∷ ys) h, λ h. no_ok r ys h.1)
