@@ -9,7 +9,7 @@ use Rattle.serde_json.specs.Find.{get}
 use Rattle.input_values.specs.values.Coerced.{CoercedTree, nodes}
 use Rattle.input_values.specs.inputs.Shapes.{ShapeTree, is_nullable}
 use Rattle.input_values.specs.inputs.Definitions.{InputData}
-use Rattle.input_values.specs.coercion.Answers.{Path, Answer, refusal}
+use Rattle.input_values.specs.coercion.Answers.{Answer, refusal}
 use Rattle.input_values.specs.coercion.Given.{Given, is_nothing}
 use Rattle.input_values.specs.coercion.Forms.{InputForm}
 use Rattle.input_values.specs.coercion.Coercion.{coerced}

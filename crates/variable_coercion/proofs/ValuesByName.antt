@@ -1,5 +1,5 @@
 -- The values of variables by their names, in the program and as data.
-use Rattle.std.proofs.Common.{◌≡◌, ℕ, List, [], ◌∷◌, Bool, true, false, cond, map, Option, Some, None, bytes_eq, refl}
+use Rattle.std.proofs.Common.{◌≡◌, ℕ, List, [], ◌∷◌, Bool, true, false, cond, map, Option, Some, bytes_eq, refl}
 use Rattle.std.proofs.Math.Path.{fun_ext}
 use Rattle.gql_base.specs.names.Names.{first_of_name}
 use Rattle.input_values.specs.declared.coercion.variables.VariableValue.{VariableValue}
