@@ -5,7 +5,6 @@ use Rattle.input_values.specs.coercion.Forms.{InputForm}
 use Rattle.input_values.specs.defaults.Drafts.{AreFilled}
 use Rattle.input_values.proofs.FillingSteps.OneFilling.{one_filling}
 use Rattle.schema_reader.specs.Schemas.{DefinitionTree}
-use Rattle.schema_rules.specs.Places.{PlaceTree}
 use Rattle.schema_rules.specs.Items.{ItemTree, items_of}
 use Rattle.schema_rules.specs.TypeNames.{NamedKind, types_of}
 use Rattle.schema_model.specs.Drafts.{TypeDraft, drafts_of}

@@ -1,7 +1,6 @@
 -- The types of a schema ask what those of its text ask, with the defaults filled.
 use Rattle.std.proofs.Common.{◌≡◌, ◌+◌, ℕ, zero, suc, Bool, true, false, true≢false, List, [], ◌∷◌, ◌++◌, map, length, get_or, Option, None, Some, Ok, Err, refl, sym, ap, ap₂, ◌∙◌, subst}
 use Rattle.std.specs.Prelude.{slice_get}
-use Rattle.std.specs.List.{flat_map}
 use Rattle.std.proofs.Math.Path.{fun_ext}
 use Rattle.std.proofs.lemmas.Option.{none-some}
 use Rattle.gql_base.specs.parts.Values.{ValueTree}
@@ -9,17 +8,17 @@ use Rattle.gql_base.specs.parts.Arguments.{DirectiveTree}
 use Rattle.input_values.specs.values.Coerced.{CoercedTree}
 use Rattle.input_values.specs.inputs.Shapes.{ShapeTree}
 use Rattle.input_values.specs.coercion.Answers.{Answer}
-use Rattle.input_values.specs.coercion.Forms.{Absence, absence_at, InputForm, object_form, field_form}
+use Rattle.input_values.specs.coercion.Forms.{absence_at, InputForm, object_form, field_form}
 use Rattle.input_values.specs.defaults.Drafts.{default_value, default_absence, draft_absence, filled_field, filled_form, AreFilled}
 use Rattle.schema_reader.specs.Schemas.{InputDefTree, BodyTree, schema_body, scalar_body, object_body, interface_body, union_body, enum_body, input_body, directive_body, DefinitionTree}
 use Rattle.schema_rules.specs.declared.kind.Kind.{Kind}
 use Rattle.schema_rules.specs.declared.kind.Kind.TheVariants.{Scalar, Object, Interface, Union, Enum, Input}
 use Rattle.schema_rules.specs.Items.{ItemTree, input_field_item, body_items, definition_items, items_of}
 use Rattle.schema_rules.specs.TypeNames.{NamedKind, types_of}
-use Rattle.schema_rules.specs.First.{told, first_of, AreGood}
+use Rattle.schema_rules.specs.First.{told, AreGood}
 use Rattle.schema_rules.proofs.FirstFaults.{none_are_good}
 use Rattle.schema_model.specs.Drafts.{InputDraft, TypeDraft, input_draft, body_draft, definition_draft, scalar_draft, defined_drafts, drafts_of}
-use Rattle.schema_model.specs.Defaults.{asked_field, asked_by, asked_or, all_asked, text_asks, value_in, default_of}
+use Rattle.schema_model.specs.Defaults.{asked_field, asked_by, asked_or, text_asks, value_in, default_of}
 use Rattle.schema_model.specs.BadDefault.{lacks_value, is_bad_draft, bad_default_at, bad_default}
 use Rattle.schema_model.specs.Schemas.{input_of, type_with, types_from, no_type, schema_with}
 use Rattle.schema_model.specs.SchemaViews.{schema_data}

@@ -1,7 +1,6 @@
 -- A checked schema, as contracts see it. Types and fields stand at their numbers.
 use Rattle.std.specs.Prelude.{ℕ, ◌+◌, ℤ, Bool, true, false, nat_eq, List, [], ◌∷◌, get_or, Option, None, Some, if◌then◌else◌}
 use Rattle.std.specs.List.{list_any}
-use Rattle.std.specs.Str.{bytes_eq}
 use Rattle.gql_base.specs.names.Names.{first_of_name, place_of_name}
 use Rattle.input_values.specs.inputs.Shapes.{ShapeTree}
 use Rattle.input_values.specs.inputs.Definitions.{InputData}
