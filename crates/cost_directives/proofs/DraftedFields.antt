@@ -12,10 +12,7 @@ use Rattle.schema_model.specs.Drafts.{FieldDraft, TypeDraft, bare}
 use Rattle.schema_model.specs.Implementing.{draft_at, field_among}
 use Rattle.schema_model.specs.Schemas.{field_of, field_name, numbers, types_from, fields_from, no_type, no_field, schema_with}
 use Rattle.schema_model.specs.SchemaData.{FieldData, SchemaData, type_at, field_at, field_named, number_at, same_text}
-use Rattle.cost_directives.proofs.FirstsFound.{Standing, Missing, standing}
-
-never : (n : ℕ) → n < 0 → ⊥
-never n h = omega arith
+use Rattle.cost_directives.proofs.FirstsFound.{never, Standing, standing}
 
 -- how many fields stand before those of a type
 abbrev fields_before : List TypeDraft → ℕ → ℕ

@@ -26,7 +26,7 @@ none_at test [] d n other none = other
 none_at test (x ∷ xs) d zero other none = here_none (test x) (first_of test xs) none
 none_at test (x ∷ xs) d (suc n) other none = none_at test xs d n other (behind_none (test x) (first_of test xs) none)
 
-never : (n : ℕ) → n < 0 → ⊥
+pub never : (n : ℕ) → n < 0 → ⊥
 never n h = omega arith
 
 -- at a number among those from another on

@@ -5,6 +5,7 @@ use Rattle.std.specs.List.{list_any, list_all}
 use Rattle.std.proofs.lemmas.Bool.{cases_lt, cases_Bool, eq-eqb}
 use Rattle.std.proofs.lemmas.List.{get_or_past}
 use Rattle.std.proofs.lemmas.Option.{none-some, same_Some}
+use Rattle.std.proofs.lemmas.Slice.Eq.{bytes_eq-Decides}
 use Rattle.input_values.specs.coercion.Forms.{InputForm}
 use Rattle.schema_reader.specs.Schemas.{DefinitionTree}
 use Rattle.schema_rules.specs.First.{or_else, told, first_of}
@@ -33,7 +34,7 @@ use Rattle.cost_directives.specs.Fitting.{Fits, SizesFit}
 use Rattle.cost_directives.proofs.FirstsFound.{neither, none_from, both, finds_less, found_passes}
 use Rattle.cost_directives.proofs.DraftedFields.{has_name_of, FieldOf, made, own_interfaces, field_or_none}
 use Rattle.cost_directives.proofs.PlainDrafts.{IsPlain, plain_drafts}
-use Rattle.cost_directives.proofs.Implemented.{name_is, lists_alike, kinds_inside, is_argument, is_int, kept_field, list_below}
+use Rattle.cost_directives.proofs.Implemented.{lists_alike, kinds_inside, is_argument, is_int, kept_field, list_below}
 
 -- ---- tests that find nothing
 
@@ -157,7 +158,7 @@ module _ (form : ℕ → InputForm) (items : List ItemTree) (types : List NamedK
 
   taken_fits : (of : ℕ) (name : List ℕ) (size : SizeData) (f : FieldOf form s ds of name) → first_carried (carried_above s own_size (field_of form of f.draft)) ≡ Some size → Fits s size (field_of form of f.draft)
   taken_fits of name size f above =
-      let named : f.draft.name ≡ name = name_is f.draft.name name (found_passes (has_name_of name) (draft_at ds of).fields f.draft f.drafted) in
+      let named : f.draft.name ≡ name = (bytes_eq-Decides f.draft.name name).0 (found_passes (has_name_of name) (draft_at ds of).fields f.draft f.drafted) in
       let c = carried (carried_in s own_size f.draft.name) (type_at s of).interfaces size above in
       let among : list_any (nat_eq c.at) (draft_at ds of).interfaces ≡ true = sym (ap (list_any (nat_eq c.at)) (own_interfaces form items types ds of)) ∙ c.among in
       elim (field_or_none form items types ds c.at f.draft.name) [

@@ -3,7 +3,7 @@ use Rattle.std.proofs.Common.{◌≡◌, ◌⊎◌, ℕ, Bool, true, false, List
 use Rattle.std.specs.Prelude.{not, nat_eq, ◌&&◌, ◌||◌, is_none, option_map, if◌then◌else◌}
 use Rattle.std.specs.List.{list_any, list_all}
 use Rattle.std.specs.Str.{bytes_eq}
-use Rattle.std.proofs.lemmas.Bool.{eqb-true}
+use Rattle.std.proofs.lemmas.Bool.{eqb-true, not-false}
 use Rattle.std.proofs.lemmas.Option.{none-some, same_Some}
 use Rattle.std.proofs.lemmas.Slice.Eq.{bytes_eq-Decides}
 use Rattle.input_values.specs.coercion.Forms.{InputForm}
@@ -39,16 +39,9 @@ untold : {F : Type 0} (right : Bool) (fault : F) → told (not right) fault ≡ 
 untold true fault none = refl
 untold false fault none = absurd (cc)
 
-unturned : (b : Bool) → not b ≡ false → b ≡ true
-unturned true e = refl
-unturned false e = absurd (cc)
-
 either : (a b : Bool) → a || b ≡ true → (a ≡ true) ⊎ (b ≡ true)
 either true b e = inl refl
 either false b e = inr e
-
-pub name_is : (a b : List ℕ) → bytes_eq a b ≡ true → a ≡ b
-name_is a b e = (bytes_eq-Decides a b).0 e
 
 -- ---- shapes
 
@@ -85,7 +78,7 @@ module _ (form : ℕ → InputForm) (own wanted : FieldDraft) (all : list_all (h
   -- an argument that is wanted is there, with its type
   argument_there : (name : List ℕ) (a : InputDraft) → argument_named wanted.arguments name ≡ Some a → (b : InputDraft) × (argument_named own.arguments name ≡ Some b) × (is_same b.shape a.shape ≡ true)
   argument_there name a found =
-      let named : a.name ≡ name = name_is a.name name (found_passes (λ d. bytes_eq d.name name) wanted.arguments a found) in
+      let named : a.name ≡ name = (bytes_eq-Decides a.name name).0 (found_passes (λ d. bytes_eq d.name name) wanted.arguments a found) in
       let has : has_argument own.arguments a ≡ true = all_found (has_argument own.arguments) (λ d. bytes_eq d.name name) wanted.arguments a found all in
       same_shape (argument_named own.arguments name) a (sym (ap (λ n. is_same_argument (argument_named own.arguments n) a) named) ∙ has)
 
@@ -133,7 +126,7 @@ module _ (form : ℕ → InputForm) (items : List ItemTree) (types : List NamedK
   pub kept_field : (of above : ℕ) (name : List ℕ) (wanted : FieldDraft) → list_any (nat_eq above) (draft_at ds of).interfaces ≡ true → field_among (draft_at ds above).fields name ≡ Some wanted
       → (own : FieldDraft) × (field_among (draft_at ds of).fields name ≡ Some own) × (is_implemented ds own wanted ≡ true)
   kept_field of above name wanted among found =
-      let named : wanted.name ≡ name = name_is wanted.name name (found_passes (has_name_of name) (draft_at ds above).fields wanted found) in
+      let named : wanted.name ≡ name = (bytes_eq-Decides wanted.name name).0 (found_passes (has_name_of name) (draft_at ds above).fields wanted found) in
       implements (field_among (draft_at ds of).fields name) wanted
         (sym (ap (λ n. maybe_implemented ds (field_among (draft_at ds of).fields n) wanted) named) ∙ has_wanted of above name wanted among found)
 
@@ -142,7 +135,7 @@ module _ (form : ℕ → InputForm) (items : List ItemTree) (types : List NamedK
 
   listed : (found : Option ℕ) → not (is_list_field s found) ≡ false → (m : ℕ) × (found ≡ Some m) × (is_list_shape (field_at s m).shape ≡ true)
   listed None e = absurd (cc)
-  listed (Some m) e = (m, refl, unturned (is_list_shape (field_at s m).shape) e)
+  listed (Some m) e = (m, refl, not-false (is_list_shape (field_at s m).shape) e)
 
   -- a list field of an interface is one of a type that names the interface
   list_of_interface : (own wanted : ℕ) (name : List ℕ) (w : FieldOf form s ds wanted name) → list_any (nat_eq wanted) (draft_at ds own).interfaces ≡ true → is_list_shape (field_at s w.number).shape ≡ true
