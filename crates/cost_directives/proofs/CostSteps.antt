@@ -1,6 +1,5 @@
 -- Sums of capped costs, value after value.
-use Rattle.std.proofs.Common.{ℕ, zero, suc, ◌+◌, ◌*◌, ◌≡◌, ◌<◌, ◌≤◌, Bool, List, [], ◌∷◌, length, map, drop, get_or, Option, None, Some, refl, sym, ap, ◌∙◌, arith}
-use Rattle.std.specs.Prelude.{slice_get, min}
+use Rattle.std.proofs.Common.{ℕ, zero, suc, ◌+◌, ◌*◌, ◌≡◌, ◌<◌, ◌≤◌, List, [], ◌∷◌, length, map, drop, get_or, Option, sym, ap, ◌∙◌, arith}
 use Rattle.std.proofs.lemmas.List.{drop_all}
 use Rattle.cost_num.specs.declared.TheConstants.{CAP}
 use Rattle.cost_num.specs.Capped.{capped}
@@ -11,10 +10,8 @@ use Rattle.input_values.specs.declared.values.coerced.CoercedField.{CoercedField
 use Rattle.input_values.specs.values.Coerced.{CoercedTree, CoercedTrees, CoercedFields, coerced_tree, named_tree, coerced_list, coerced_object, trees_from, named_trees_from, nodes, item_nodes, field_nodes}
 use Rattle.input_values.proofs.CoercedTrees.{field_opened}
 use Rattle.gql_base.proofs.Lists.{at_front}
-use Rattle.schema_model.specs.Arguments.{ArgData}
-use Rattle.cost_directives.specs.DeclaredSizes.{no_arg}
 use Rattle.cost_directives.proofs.FirstsFound.{never}
-use Rattle.cost_directives.specs.ArgumentCosts.{ObjectInputs, InputWeightData, weighed_name, field_at, value_cost, items_cost, fields_cost, field_cost, argument_cost, arguments_cost, front_value, behind_front}
+use Rattle.cost_directives.specs.ArgumentCosts.{ObjectInputs, InputWeightData, weighed_name, field_at, value_cost, items_cost, fields_cost, field_cost}
 
 abbrev pub items_in : List Coerced → CoercedTrees
 items_in vs = trees_from (map coerced_tree vs)

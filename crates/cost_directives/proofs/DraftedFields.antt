@@ -1,17 +1,16 @@
 -- The types and fields of a schema, and the drafts that they come from.
-use Rattle.std.proofs.Common.{◌≡◌, ◌⊎◌, ◌+◌, ◌<◌, ℕ, zero, suc, Bool, List, [], ◌∷◌, ◌++◌, find, map, get_or, length, Option, None, Some, inl, inr, refl, sym, ap, ap₂, ◌∙◌, arith}
+use Rattle.std.proofs.Common.{◌≡◌, ◌⊎◌, ◌+◌, ◌<◌, ℕ, zero, suc, Bool, List, [], ◌∷◌, ◌++◌, map, get_or, length, None, Some, inl, inr, refl, sym, ap, ap₂, ◌∙◌, arith}
 use Rattle.std.specs.Str.{bytes_eq}
 use Rattle.std.proofs.lemmas.List.{get_or_append_left, get_or-append-add, get_or-map, length-map}
 use Rattle.gql_base.specs.names.Names.{place_of_name}
 use Rattle.input_values.specs.coercion.Forms.{InputForm}
-use Rattle.schema_rules.specs.declared.kind.Kind.TheVariants.{Scalar}
 use Rattle.schema_rules.specs.Items.{ItemTree}
 use Rattle.schema_rules.specs.TypeNames.{NamedKind}
 use Rattle.schema_rules.proofs.Namings.{position_view}
-use Rattle.schema_model.specs.Drafts.{FieldDraft, TypeDraft, bare}
+use Rattle.schema_model.specs.Drafts.{FieldDraft, TypeDraft}
 use Rattle.schema_model.specs.Implementing.{draft_at, field_among}
 use Rattle.schema_model.specs.Schemas.{field_of, field_name, numbers, types_from, fields_from, no_type, no_field, schema_with}
-use Rattle.schema_model.specs.SchemaData.{FieldData, SchemaData, type_at, field_at, field_named, number_at, same_text}
+use Rattle.schema_model.specs.SchemaData.{SchemaData, type_at, field_at, field_named, number_at, same_text}
 use Rattle.cost_directives.proofs.FirstsFound.{never, Standing, standing}
 
 -- how many fields stand before those of a type

@@ -1,6 +1,6 @@
 -- Sizes of fields, their own and those of interfaces, fit the fields.
-use Rattle.std.proofs.Common.{◌≡◌, ◌⊎◌, ◌<◌, ◌+◌, ◌≤◌, ℕ, Bool, true, false, List, [], ◌∷◌, find, map, length, get_or, Option, None, Some, inl, inr, refl, sym, ap, subst, ◌∙◌, arith}
-use Rattle.std.specs.Prelude.{nat_eq, ◌||◌, not, ◌&&◌, option_map, Ok}
+use Rattle.std.proofs.Common.{◌≡◌, ◌⊎◌, ◌+◌, ℕ, Bool, true, false, List, [], ◌∷◌, map, length, Option, None, Some, inl, inr, refl, sym, ap, subst, ◌∙◌, arith}
+use Rattle.std.specs.Prelude.{nat_eq, option_map, Ok}
 use Rattle.std.specs.List.{list_any, list_all}
 use Rattle.std.proofs.lemmas.Bool.{cases_lt, cases_Bool, eq-eqb}
 use Rattle.std.proofs.lemmas.List.{get_or_past}
@@ -8,17 +8,16 @@ use Rattle.std.proofs.lemmas.Option.{none-some, same_Some}
 use Rattle.std.proofs.lemmas.Slice.Eq.{bytes_eq-Decides}
 use Rattle.input_values.specs.coercion.Forms.{InputForm}
 use Rattle.schema_reader.specs.Schemas.{DefinitionTree}
-use Rattle.schema_rules.specs.First.{or_else, told, first_of}
+use Rattle.schema_rules.specs.First.{told, first_of}
 use Rattle.schema_rules.specs.Items.{ItemTree, items_of}
 use Rattle.schema_rules.specs.TypeNames.{NamedKind, types_of}
 use Rattle.schema_model.specs.Drafts.{FieldDraft, TypeDraft, drafts_of}
 use Rattle.schema_model.specs.Implementing.{draft_at, is_narrower, field_among, has_argument, is_implemented, not_implemented}
 use Rattle.schema_model.specs.Schemas.{input_of, field_of}
-use Rattle.schema_model.specs.SchemaData.{FieldData, SizeData, SchemaData, type_at, field_at, field_named}
+use Rattle.schema_model.specs.SchemaData.{FieldData, SizeData, SchemaData, type_at, field_at}
 use Rattle.schema_model.specs.SchemaViews.{schema_data}
 use Rattle.schema_model.specs.declared.schema.Schema.{Schema}
-use Rattle.schema_model.specs.Faults.{fault_of_items, fault_of_names, fault_of_types, fault_of_drafts, fault_from_types, fault_from_names, at_place, Builds}
-use Rattle.schema_rules.specs.BadDirective.{bad_directive}
+use Rattle.schema_model.specs.Faults.{fault_of_items, fault_of_names, fault_of_types, fault_of_drafts, fault_from_types, fault_from_names, Builds}
 use Rattle.cost_directives.specs.Weighing.{is_list_shape, type_inside, first_carried, carried_by, carried_in, carried_above, own_or, inherited, own_size}
 use Rattle.cost_directives.specs.Weights.{field_numbers}
 use Rattle.cost_directives.specs.FieldPlaces.{is_sized, name_in, field_told, name_told, place_of_field, name_at}
@@ -29,7 +28,7 @@ use Rattle.cost_directives.specs.SlicingNotInt.{is_of_no_int, slicing_of_no_int,
 use Rattle.cost_directives.specs.SizedOnList.{hands_some, is_sized_list, sized_on_list}
 use Rattle.cost_directives.specs.SizedUnknown.{is_no_list_field, sized_of_none, unknown_sized, sized_unknown}
 use Rattle.cost_directives.specs.NegativeSize.{assumes_less, is_negative, negative_size}
-use Rattle.cost_directives.specs.DirectiveFaults.{first_fault, fault_of_weights, fault_of_slicing, fault_of_sizes}
+use Rattle.cost_directives.specs.DirectiveFaults.{first_fault, fault_of_weights, fault_of_sizes}
 use Rattle.cost_directives.specs.Fitting.{Fits, SizesFit}
 use Rattle.cost_directives.proofs.FirstsFound.{neither, none_from, both, finds_less, found_passes}
 use Rattle.cost_directives.proofs.DraftedFields.{has_name_of, FieldOf, made, own_interfaces, field_or_none}

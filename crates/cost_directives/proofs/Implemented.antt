@@ -1,6 +1,6 @@
 -- What is known of a field and of the one that it implements.
-use Rattle.std.proofs.Common.{◌≡◌, ◌⊎◌, ℕ, Bool, true, false, List, [], ◌∷◌, find, map, Option, None, Some, inl, inr, refl, sym, ap, ◌∙◌}
-use Rattle.std.specs.Prelude.{not, nat_eq, ◌&&◌, ◌||◌, is_none, option_map, if◌then◌else◌}
+use Rattle.std.proofs.Common.{◌≡◌, ◌⊎◌, ℕ, Bool, true, false, List, [], map, Option, None, Some, inl, inr, refl, sym, ap, ◌∙◌}
+use Rattle.std.specs.Prelude.{not, nat_eq, ◌||◌, is_none, option_map, if◌then◌else◌}
 use Rattle.std.specs.List.{list_any, list_all}
 use Rattle.std.specs.Str.{bytes_eq}
 use Rattle.std.proofs.lemmas.Bool.{eqb-true, not-false}
@@ -10,15 +10,15 @@ use Rattle.input_values.specs.coercion.Forms.{InputForm}
 use Rattle.input_values.specs.inputs.Shapes.{ShapeTree, named_shape, list_shape}
 use Rattle.schema_rules.specs.declared.kind.Kind.TheVariants.{Scalar}
 use Rattle.schema_rules.specs.Places.{PlaceTree, at_type}
-use Rattle.schema_rules.specs.First.{first_of, told}
+use Rattle.schema_rules.specs.First.{told}
 use Rattle.schema_rules.specs.Items.{ItemTree}
 use Rattle.schema_rules.specs.TypeNames.{NamedKind}
 use Rattle.schema_rules.proofs.Namings.{find_view}
 use Rattle.gql_base.specs.names.Names.{first_of_name}
 use Rattle.schema_model.specs.Drafts.{InputDraft, FieldDraft, TypeDraft, bare}
-use Rattle.schema_model.specs.Implementing.{draft_at, is_kind_of, is_no_looser, is_narrower, is_same, agree, argument_named, field_among, is_same_argument, has_argument, may_be_there, is_implemented, maybe_implemented, has_field, lacks_interfaces, lacking_at, lacking_of, lacking_field, in_type, lack_at, not_implemented}
-use Rattle.schema_model.specs.Schemas.{input_of, field_of}
-use Rattle.schema_model.specs.SchemaData.{SchemaData, type_at, field_at, field_named}
+use Rattle.schema_model.specs.Implementing.{draft_at, is_kind_of, is_no_looser, is_narrower, is_same, agree, argument_named, field_among, is_same_argument, has_argument, is_implemented, maybe_implemented, has_field, lacks_interfaces, lacking_at, lacking_of, lacking_field, in_type, lack_at, not_implemented}
+use Rattle.schema_model.specs.Schemas.{input_of}
+use Rattle.schema_model.specs.SchemaData.{SchemaData, field_at, field_named}
 use Rattle.cost_directives.specs.Weights.{input_name}
 use Rattle.cost_directives.specs.Weighing.{is_list_shape, type_inside}
 use Rattle.cost_directives.specs.SlicingUnknown.{is_no_argument}
@@ -128,7 +128,7 @@ module _ (form : ℕ → InputForm) (items : List ItemTree) (types : List NamedK
   kept_field of above name wanted among found =
       let named : wanted.name ≡ name = (bytes_eq-Decides wanted.name name).0 (found_passes (has_name_of name) (draft_at ds above).fields wanted found) in
       implements (field_among (draft_at ds of).fields name) wanted
-        (sym (ap (λ n. maybe_implemented ds (field_among (draft_at ds of).fields n) wanted) named) ∙ has_wanted of above name wanted among found)
+      (sym (ap (λ n. maybe_implemented ds (field_among (draft_at ds of).fields n) wanted) named) ∙ has_wanted of above name wanted among found)
 
   abbrev s : SchemaData
   s = made form items types ds

@@ -1,6 +1,5 @@
 -- What stands in the weights of a schema at each number.
 use Rattle.std.proofs.Common.{◌≡◌, ◌+◌, ◌<◌, ◌≤◌, ℕ, ℤ, Bool, true, false, List, length, map, get_or, Option, None, Some, Result, Ok, inl, inr, refl, sym, ap, ◌∙◌, arith}
-use Rattle.std.specs.Prelude.{◌&&◌, nat_eq}
 use Rattle.std.specs.List.{range_with_len}
 use Rattle.std.proofs.lemmas.Bool.{cases_lt, eqb-true}
 use Rattle.std.proofs.lemmas.List.{get_or_past}
@@ -63,7 +62,6 @@ any_is_free rule undeclared args handed any =
 rule_is_free : (arguments : List InputData) (is_free : Bool) (size : Option SizeData) → (rule_of arguments is_free size).is_free ≡ is_free
 rule_is_free arguments is_free None = refl
 rule_is_free arguments is_free (Some size) = refl
-
 
 weighs_nothing : (s : SchemaData) (undeclared n : ℕ) → weight_of_type (type_at s n) ≡ 0 → (type_in (weights_of s undeclared) n).weight ≡ 0
 weighs_nothing s undeclared n none = elim (cases_lt n s.defined) [

@@ -1,6 +1,5 @@
 -- A type that is drafted has no members, or it has no fields.
 use Rattle.std.proofs.Common.{◌≡◌, ◌⊎◌, ℕ, zero, suc, List, [], ◌∷◌, ◌++◌, map, drop, length, Option, inl, inr, refl, sym, subst}
-use Rattle.std.specs.List.{flat_map}
 use Rattle.std.proofs.lemmas.List.{append_assoc}
 use Rattle.schema_reader.specs.Schemas.{BodyTree, schema_body, scalar_body, object_body, interface_body, union_body, enum_body, input_body, directive_body, DefinitionTree}
 use Rattle.schema_rules.specs.TypeNames.{NamedKind}
@@ -37,7 +36,7 @@ module _ (types : List NamedKind) where
   plain_defined [] rest plain of = plain of
   plain_defined (d ∷ text) rest plain of =
       subst (λ drafts. IsPlain (draft_at drafts of)) (sym (append_assoc (definition_draft types d) (defined_drafts types text) rest))
-        (plain_body d.1.0 (weight_of d.1.1) d.1.2 (defined_drafts types text ++ rest) (plain_defined text rest plain) of)
+      (plain_body d.1.0 (weight_of d.1.1) d.1.2 (defined_drafts types text ++ rest) (plain_defined text rest plain) of)
 
   pub plain_drafts : (text : List DefinitionTree) (of : ℕ) → IsPlain (draft_at (drafts_of types text) of)
   plain_drafts text of =

@@ -1,5 +1,5 @@
 -- Whether a `@listSize` fits the field that has it, be it the field's own or that of an interface.
-use Rattle.std.specs.Prelude.{◌≡◌, ℕ, false, List, Option, None, Some}
+use Rattle.std.specs.Prelude.{◌≡◌, ℕ, false, List, None, Some}
 use Rattle.schema_model.specs.SchemaData.{FieldData, SizeData, SchemaData, field_at, field_named}
 use Rattle.cost_directives.specs.Weighing.{own_size, inherited}
 use Rattle.cost_directives.specs.NotAList.{is_no_list}

@@ -1,5 +1,5 @@
 -- Lists that may have any length.
-use Rattle.std.specs.Prelude.{◌≡◌, ℕ, true}
+use Rattle.std.specs.Prelude.{◌≡◌, true}
 use Rattle.schema_model.specs.SchemaData.{FieldData, SchemaData}
 use Rattle.cost_directives.specs.Weighing.{is_leaf, is_list_shape, type_inside, returned}
 use Rattle.cost_directives.specs.Weights.{WeightsData, type_in}

@@ -33,7 +33,8 @@ fn weights_of(rt: &HostRuntime, text: &str, undeclared: u32) -> Result<Weights, 
 
 #[test]
 fn the_first_fault_is_told(rt: HostRuntime) -> Result<(), Fail> {
-    match weights_of(&rt, AT_ODDS, 10) {
+    let weights = weights_of(&rt, AT_ODDS, 10);
+    match &weights {
         Err(DirectiveFault::Disagree { place }) => assert_eq!(rt; place.as_str(), "Query.a"),
         _ => assert!(rt; false),
     }
