@@ -3,5 +3,6 @@ mod Refusals
 mod Replies
 mod Exclusions
 mod OneAnswer
+mod Checks
 mod Statuses
 mod MisusedDirectives

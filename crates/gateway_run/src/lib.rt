@@ -4,6 +4,7 @@
 #![tactic(auto)]
 
 mod check;
+mod check_laws;
 mod checked;
 mod command;
 mod finish;
@@ -21,6 +22,7 @@ mod status_laws;
 mod tests;
 mod texts;
 
+pub use check_laws::a_schema_file_has_one_check;
 pub use command::WordsFault;
 pub use laws::{
     a_refusal_excludes_all_else, a_reply_has_one_measure, a_reply_is_measured_or_has_one_fault,
