@@ -1,0 +1,272 @@
+//! A variable's type fits the place where the variable stands (GraphQL October 2021, 5.8.5).
+
+ghost use Rattle.std.specs.Prelude.{◌≡◌, map, option_map, is_some};
+ghost use Rattle.gql_base.specs.names.Names.{first_of_name};
+ghost use Rattle.gql_base.specs.parts.Values.{values_from, fields_from};
+ghost use Rattle.gql_base.specs.parts.Trees.{identifier_of, value_tree, named_value, directive_tree, type_tree, maybe_value};
+ghost use Rattle.document_reader.specs.Trees.{variable_tree};
+ghost use Rattle.input_values.specs.inputs.Shapes.{ShapeTree, shape_tree, level_tree};
+ghost use Rattle.input_values.specs.inputs.Definitions.{InputData, input_data};
+ghost use Rattle.gql_base.specs.declared.parts.trees.Name.{Name};
+ghost use Rattle.schema_model.specs.Numbers.{type_number};
+ghost use Rattle.schema_rules.specs.First.{first_of};
+ghost use Rattle.schema_model.specs.SchemaViews.{schema_data};
+ghost use Rattle.document_rules.specs.VariablePlaces.{Use, input_name, at_items, uses_in, uses_in_items, uses_in_fields, uses_in_field, fits, has_value, is_usable};
+ghost use Rattle.document_rules.specs.Rules.{misplaced, misplaced_among, misplaced_in_condition, misplaced_in_directive, misplaced_in_directives, misplaced_in_arguments};
+ghost use Rattle.document_rules.specs.Views.{declared_tree, site_data, use_at};
+
+use crate::indexes::{Declared, variable_named};
+use crate::lookups::Meaning;
+use crate::site_rule::{SiteRule, told};
+use crate::sites::Site;
+use document_reader::VariableDef;
+use gql_base::{Argument, Directive, Name, Indexed, TypeRef, Value};
+use input_values::places::innermost;
+use input_values::{InputDef, Shape, ShapeLevel, TypeId, shape_level};
+use schema_model::Schema;
+use std::alloc::{AllocError, Global};
+
+/// Refuses a variable whose type doesn't fit the place where it stands.
+#[derive(Clone, Copy)]
+pub struct VariablePlace<'c, 'a> {
+    pub schema: &'c Schema,
+    pub variables: &'c Indexed<Declared<'a>>,
+}
+
+/// Whether each value of a type may stand at a place. Null may come only where it may stand, or where `never_null` says
+/// that it never comes.
+fn fits(schema: &Schema, never_null: bool, of: &TypeRef, place: &Shape) -> bool
+    ensures { result ≡ fits (schema_data schema.now) never_null (type_tree of.now) (shape_tree place.now) }
+{
+    match of {
+        TypeRef::NonNull(inner) => fits(schema, true, &**inner, place),
+        TypeRef::Named(name) => match shape_level(place) {
+            ShapeLevel::Named { of, nullable } => {
+                (never_null || nullable) && name.text.as_str() == schema.type_name(of).as_str()
+            }
+            ShapeLevel::ListOf { .. } => false,
+        },
+        TypeRef::ListOf(item) => match shape_level(place) {
+            ShapeLevel::Named { .. } => false,
+            ShapeLevel::ListOf { item: place, nullable } => {
+                (never_null || nullable) && fits(schema, false, &**item, place)
+            }
+        },
+    }
+}
+
+/// Whether a variable has a default other than null.
+fn has_value(default: &Option<Value>) -> bool
+    ensures { result ≡ has_value (maybe_value default.now) }
+{
+    match default {
+        None => false,
+        Some(Value::Null) => false,
+        Some(_) => true,
+    }
+}
+
+fn is_usable(schema: &Schema, variable: &VariableDef, place: &Shape, has_default: bool) -> bool
+    ensures { (name : Name) → result ≡ is_usable (schema_data schema.now) (variable_tree variable.now) (use_at name place.now has_default) }
+{
+    fits(
+        schema,
+        has_value(&variable.default) || has_default,
+        &variable.of,
+        place,
+    )
+}
+
+/// The argument or the input field of this name.
+fn input_named<'s>(inputs: &'s [InputDef], name: &str) -> Option<&'s InputDef>
+    ensures { option_map (λ i. input_data i.now) result ≡ first_of_name input_name (map input_data inputs.now) name.now }
+{
+    for input in inputs {
+        if input.name.as_str() == name {
+            return Some(input);
+        }
+    }
+    None
+}
+
+/// A variable at a place.
+fn misplaced(
+    rule: &VariablePlace<'_, '_>,
+    place: &Shape,
+    has_default: bool,
+    name: &Name,
+) -> Option<usize>
+    ensures { result ≡ misplaced (schema_data rule.now.schema.now) (map declared_tree rule.now.variables.now.items.items) (use_at name.now place.now has_default) }
+{
+    match variable_named(rule.variables, name.text.as_str()) {
+        Some(variable) => {
+            let usable = is_usable(rule.schema, variable, place, has_default);
+            told(!usable, name.at)
+        }
+        None => None,
+    }
+}
+
+/// The variables of a value that stands at a place.
+#[cycle(places)]
+fn in_value(
+    rule: &VariablePlace<'_, '_>,
+    place: &Shape,
+    has_default: bool,
+    value: &Value,
+) -> Option<usize>
+    ensures { result ≡ misplaced_among (schema_data rule.now.schema.now) (map declared_tree rule.now.variables.now.items.items) (λ s. uses_in s (shape_tree place.now) has_default (value_tree value.now)) }
+{
+    match value {
+        Value::Var(name) => misplaced(rule, place, has_default, name),
+        Value::List(items) => in_list(rule, place, items.as_slice()),
+        Value::Object(fields) => {
+            let inputs = rule.schema.input_fields(innermost(place));
+            in_fields(rule, inputs, fields.as_slice())
+        }
+        _ => None,
+    }
+}
+
+#[cycle(places)]
+fn in_list(rule: &VariablePlace<'_, '_>, place: &Shape, items: &[Value]) -> Option<usize>
+    ensures { result ≡ misplaced_among (schema_data rule.now.schema.now) (map declared_tree rule.now.variables.now.items.items) (λ s. at_items (λ item. uses_in_items s item (values_from (map value_tree items.now))) (shape_tree place.now)) }
+{
+    match shape_level(place) {
+        ShapeLevel::Named { .. } => None,
+        ShapeLevel::ListOf { item, .. } => in_items(rule, item, items),
+    }
+}
+
+#[cycle(places)]
+fn in_items(rule: &VariablePlace<'_, '_>, item: &Shape, items: &[Value]) -> Option<usize>
+    ensures { result ≡ misplaced_among (schema_data rule.now.schema.now) (map declared_tree rule.now.variables.now.items.items) (λ s. uses_in_items s (shape_tree item.now) (values_from (map value_tree items.now))) }
+{
+    for value in items {
+        if let Some(at) = in_value(rule, item, false, value) {
+            return Some(at);
+        }
+    }
+    None
+}
+
+/// The variables of arguments, or of the fields of an object, where these may stand.
+#[cycle(places)]
+fn in_fields(
+    rule: &VariablePlace<'_, '_>,
+    inputs: &[InputDef],
+    fields: &[Argument],
+) -> Option<usize>
+    ensures { result ≡ misplaced_among (schema_data rule.now.schema.now) (map declared_tree rule.now.variables.now.items.items) (λ s. uses_in_fields s (map input_data inputs.now) (fields_from (map named_value fields.now))) }
+{
+    for field in fields {
+        if let Some(at) = in_field(rule, inputs, field) {
+            return Some(at);
+        }
+    }
+    None
+}
+
+#[cycle(places)]
+fn in_field(
+    rule: &VariablePlace<'_, '_>,
+    inputs: &[InputDef],
+    field: &Argument,
+) -> Option<usize>
+    ensures { result ≡ misplaced_among (schema_data rule.now.schema.now) (map declared_tree rule.now.variables.now.items.items) (λ s. uses_in_field s (map input_data inputs.now) (named_value field.now)) }
+{
+    match input_named(inputs, field.name.text.as_str()) {
+        Some(input) => in_value(rule, &input.shape, input.default.is_some(), &field.value),
+        None => None,
+    }
+}
+
+/// The variables of a field's arguments.
+fn in_arguments(rule: &VariablePlace<'_, '_>, site: Site<'_>) -> Option<usize>
+    ensures { result ≡ misplaced_in_arguments (schema_data rule.now.schema.now) (map declared_tree rule.now.variables.now.items.items) (site_data site.entry) }
+{
+    match site {
+        Site::Field { meaning, field } => match meaning {
+            Meaning::Known(known) => {
+                in_fields(rule, rule.schema.arguments(known), field.arguments.as_slice())
+            }
+            Meaning::NoPosition | Meaning::NoSuchField | Meaning::NameOfType => None,
+        },
+        _ => None,
+    }
+}
+
+/// A variable of an argument of a directive.
+fn in_condition(rule: &VariablePlace<'_, '_>, place: &Shape, argument: &Argument) -> Option<usize>
+    ensures { result ≡ misplaced_in_condition (schema_data rule.now.schema.now) (map declared_tree rule.now.variables.now.items.items) (shape_tree place.now) (named_value argument.now) }
+{
+    in_value(rule, place, false, &argument.value)
+}
+
+fn in_conditions(
+    rule: &VariablePlace<'_, '_>,
+    place: &Shape,
+    arguments: &[Argument],
+) -> Option<usize>
+    ensures { result ≡ first_of (misplaced_in_condition (schema_data rule.now.schema.now) (map declared_tree rule.now.variables.now.items.items) (shape_tree place.now)) (map named_value arguments.now) }
+{
+    for argument in arguments {
+        if let Some(at) = in_condition(rule, place, argument) {
+            return Some(at);
+        }
+    }
+    None
+}
+
+fn in_directives_at(
+    rule: &VariablePlace<'_, '_>,
+    place: &Shape,
+    directives: &[Directive],
+) -> Option<usize>
+    ensures { result ≡ first_of (misplaced_in_directive (schema_data rule.now.schema.now) (map declared_tree rule.now.variables.now.items.items) (shape_tree place.now)) (map directive_tree directives.now) }
+{
+    for directive in directives {
+        if let Some(at) = in_conditions(rule, place, directive.arguments.as_slice()) {
+            return Some(at);
+        }
+    }
+    None
+}
+
+fn in_directives_of(
+    rule: &VariablePlace<'_, '_>,
+    boolean: Option<TypeId>,
+    directives: &[Directive],
+) -> Option<usize>
+    ensures { result ≡ misplaced_in_directives (schema_data rule.now.schema.now) (map declared_tree rule.now.variables.now.items.items) (option_map type_number boolean) (map directive_tree directives.now) }
+{
+    match boolean {
+        Some(of) => {
+            let place = Shape::Named {
+                of,
+                nullable: false,
+            };
+            in_directives_at(rule, &place, directives)
+        }
+        None => None,
+    }
+}
+
+impl<'c, 'a> SiteRule for VariablePlace<'c, 'a> {
+    ghost use Rattle.std.specs.Prelude.{map};
+    ghost use Rattle.schema_model.specs.SchemaViews.{schema_data};
+    ghost use Rattle.document_rules.specs.Rules.{variable_place};
+    ghost use Rattle.document_rules.specs.Views.{declared_tree};
+
+    ghost breaks = { λ rule. variable_place (schema_data rule.schema.now) (map declared_tree rule.variables.now.items.items) };
+
+    fn broken(&self, _alloc: Global, site: Site<'_>) -> Result<Option<usize>, AllocError> {
+        match in_arguments(self, site) {
+            Some(at) => Ok(Some(at)),
+            None => {
+                let boolean = self.schema.find("Boolean");
+                Ok(in_directives_of(self, boolean, site.directives()))
+            }
+        }
+    }
+}
