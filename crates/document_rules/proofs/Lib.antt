@@ -1,1 +1,7 @@
 pub mod Opened
+pub mod Lists
+pub mod Repeats
+pub mod ValueSteps
+pub mod SpreadSteps
+pub mod SiteSteps
+pub mod MisusedSteps

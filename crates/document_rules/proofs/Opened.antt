@@ -1,5 +1,5 @@
 -- Arguments and types of the program, opened by one level.
-use Rattle.std.proofs.Common.{◌≡◌, ap, Box, Global}
+use Rattle.std.proofs.Common.{◌≡◌, Bool, true, false, ap, Box, Global, bytes_eq}
 use Rattle.gql_base.specs.declared.parts.trees.Name.{Name}
 use Rattle.gql_base.specs.declared.parts.trees.TypeRef.{TypeRef}
 use Rattle.gql_base.specs.declared.parts.trees.TypeRef.TheBlock.{Named}
@@ -7,7 +7,11 @@ use Rattle.gql_base.specs.declared.parts.trees.TypeRef.TheViews.{ListOf, NonNull
 use Rattle.gql_base.specs.parts.Trees.{identifier_of, type_tree}
 use Rattle.gql_base.proofs.PartLaws.ValueSteps.{list_type_tree, non_null_tree, named_type_tree}
 use Rattle.gql_base.proofs.PrintingLaws.PrintSteps.{open_argument}
+use Rattle.input_values.specs.inputs.Shapes.{ShapeTree}
+use Rattle.input_values.proofs.ShapeTrees.{named_made, list_made}
+use Rattle.schema_model.specs.SchemaData.{SchemaData, type_at}
 use Rattle.document_rules.specs.Rules.{named_in}
+use Rattle.document_rules.specs.VariablePlaces.{fits, fits_name, fits_list}
 
 pub ruleset opened_arguments = (open_argument)
 
@@ -24,3 +28,19 @@ unfolding named_in
 named_in_non_null b = ap named_in (non_null_tree b)
 
 pub ruleset named_levels = (named_here, named_in_list, named_in_non_null)
+
+pub ruleset shape_levels = (named_made, list_made)
+
+pub fits_named : (s : SchemaData) (never_null : Bool) (n : Name) (place : ShapeTree) → fits s never_null (type_tree (Named n)) place ≡ fits_name (λ of. bytes_eq n.text (type_at s of).name) never_null place
+unfolding fits
+fits_named s never_null n place = ap (λ t. fits s never_null t place) (named_type_tree n)
+
+pub fits_listed : (s : SchemaData) (never_null : Bool) (b : Box TypeRef Global) (place : ShapeTree) → fits s never_null (type_tree (ListOf b)) place ≡ fits_list (fits s false (type_tree b.value)) never_null place
+unfolding fits
+fits_listed s never_null b place = ap (λ t. fits s never_null t place) (list_type_tree b)
+
+pub fits_non_null : (s : SchemaData) (never_null : Bool) (b : Box TypeRef Global) (place : ShapeTree) → fits s never_null (type_tree (NonNull b)) place ≡ fits s true (type_tree b.value) place
+unfolding fits
+fits_non_null s never_null b place = ap (λ t. fits s never_null t place) (non_null_tree b)
+
+pub ruleset fits_levels = (fits_named, fits_listed, fits_non_null)

@@ -48,24 +48,29 @@ is_met met number = list_any (nat_eq number) (map met_number met)
 abbrev pub met_at : ℕ → Option ℕ → Met
 met_at number within = record { fragment = number; within = within }
 
-module _ (fragments : List FragmentData) where
-  abbrev pub spreads_of_data : ℕ → Option FragmentData → List Spread
-  spreads_of_data place None = []
-  spreads_of_data place (Some f) = spreads_within (Some place) f.below
+-- the spreads of a fragment that stands at a place among those that were met
+abbrev pub spreads_of_data : ℕ → Option FragmentData → List Spread
+spreads_of_data place None = []
+spreads_of_data place (Some f) = spreads_within (Some place) f.below
 
-  -- The walk where it comes to a spread. A fragment that was met is passed over. Another one is met, and what is spread in
-  -- it comes before what the walk had still to come to.
-  abbrev pub enter : (List Met → List Spread → List Met) → List Met → Spread → List Spread → Option ℕ → List Met
-  enter go met s others None = go met others
-  enter go met s others (Some number) =
-      if is_met met number then go met others
-      else go (met ++ (met_at number s.within ∷ [])) (spreads_of_data (length met) (slice_get fragments number) ++ others)
+module _ (fragments : List FragmentData) where
+  -- The walk where it comes to a fragment. One that was met is passed over. Another one is met, and what is spread in it
+  -- comes before what the walk had still to come to.
+  abbrev pub come_to : (List Met → List Spread → List Met) → List Met → Met → List Spread → List Met
+  come_to go met one others =
+      if is_met met one.fragment then go met others
+      else go (met ++ (one ∷ [])) (spreads_of_data (length met) (slice_get fragments one.fragment) ++ others)
+
+  -- the walk where it comes to a spread, by the number of its fragment
+  abbrev pub look_at : (List Met → List Spread → List Met) → List Met → Spread → List Spread → Option ℕ → List Met
+  look_at go met s others None = go met others
+  look_at go met s others (Some number) = come_to go met (met_at number s.within) others
 
   -- The walk from what was met and what it has still to come to, in at most so many steps.
   unfoldable pub walk : ℕ → List Met → List Spread → List Met
   walk zero met spreads = met
   walk (suc steps) met [] = met
-  walk (suc steps) met (s ∷ others) = enter (walk steps) met s others (place_of_name fragment_name fragments s.name)
+  walk (suc steps) met (s ∷ others) = look_at (walk steps) met s others (place_of_name fragment_name fragments s.name)
 
 -- how many spreads the fragments hold
 abbrev pub spread_count : List FragmentData → ℕ

@@ -4,7 +4,7 @@ use Rattle.gql_base.specs.names.Names.{place_of_name}
 use Rattle.document_rules.specs.declared.met.Met.{Met as MetFragment}
 use Rattle.document_rules.specs.declared.met.Spread.{Spread as SpreadToCome}
 use Rattle.document_rules.specs.Parts.{FragmentData, fragment_name}
-use Rattle.document_rules.specs.Met.{Met, Spread, spreads_in, is_met, enter, walk}
+use Rattle.document_rules.specs.Met.{Met, Spread, spreads_in, is_met, come_to, look_at, walk}
 use Rattle.document_rules.specs.Views.{met_data, spread_data}
 
 -- the spreads that are still to be looked at, whose next one stands last
@@ -23,6 +23,10 @@ pub record AreSeen (fragments : List FragmentData) (met : List MetFragment) (see
   pub each : length seen ≡ length fragments
   pub same : (number : ℕ) → number < length seen → get_or seen number false ≡ is_met (map met_data met) number
 
--- The walk comes to a spread and then to others, and goes on from there to these.
-abbrev pub Enters : List FragmentData → List Met → Spread → List Spread → List Met → List Spread → Type 0
-Enters fragments met s others later_met later = (steps : ℕ) → enter fragments (walk fragments steps) met s others (place_of_name fragment_name fragments s.name) ≡ walk fragments steps later_met later
+-- The walk comes to a fragment and then to these spreads, and goes on from there to those.
+abbrev pub ComesTo : List FragmentData → List Met → Met → List Spread → List Met → List Spread → Type 0
+ComesTo fragments met one others later_met later = (steps : ℕ) → come_to fragments (walk fragments steps) met one others ≡ walk fragments steps later_met later
+
+-- The walk comes to a spread and then to others, and goes on from there to those.
+abbrev pub LooksAt : List FragmentData → List Met → Spread → List Spread → List Met → List Spread → Type 0
+LooksAt fragments met s others later_met later = (steps : ℕ) → look_at fragments (walk fragments steps) met s others (place_of_name fragment_name fragments s.name) ≡ walk fragments steps later_met later

@@ -1,5 +1,5 @@
 -- Where variables are used, and whether a variable may be used there (GraphQL October 2021, 5.8).
-use Rattle.std.specs.Prelude.{ℕ, Bool, true, false, ◌&&◌, ◌||◌, is_some, List, [], ◌∷◌, ◌++◌, Option, None, Some}
+use Rattle.std.specs.Prelude.{ℕ, Bool, true, false, not, ◌&&◌, ◌||◌, is_some, List, [], ◌∷◌, ◌++◌, Option, None, Some}
 use Rattle.std.specs.Str.{bytes_eq}
 use Rattle.gql_base.specs.names.Names.{first_of_name}
 use Rattle.gql_base.specs.ways.Reading.{Identifier}
@@ -54,6 +54,33 @@ abbrev pub at_items : (ShapeTree → List Use) → ShapeTree → List Use
 at_items uses (named_shape of nullable) = []
 at_items uses (list_shape item nullable) = uses item
 
+-- ---- types that fit places
+
+-- whether a named type fits a place, by whether it is the type of a number
+abbrev pub fits_name : (ℕ → Bool) → Bool → ShapeTree → Bool
+fits_name is never_null (named_shape of nullable) = (never_null || nullable) && is of
+fits_name is never_null (list_shape item nullable) = false
+
+-- whether a list type fits a place, by whether its items fit a place
+abbrev pub fits_list : (ShapeTree → Bool) → Bool → ShapeTree → Bool
+fits_list item_fits never_null (named_shape of nullable) = false
+fits_list item_fits never_null (list_shape item nullable) = (never_null || nullable) && item_fits item
+
+abbrev pub is_null : ValueTree → Bool
+is_null null_value = true
+is_null (variable_value name at) = false
+is_null (integer_value n) = false
+is_null (string_value s) = false
+is_null (boolean_value b) = false
+is_null (enum_value name at) = false
+is_null (list_value values) = false
+is_null (object_value fields) = false
+
+-- whether a variable has a default other than null
+abbrev pub has_value : Option ValueTree → Bool
+has_value None = false
+has_value (Some v) = not (is_null v)
+
 module _ (s : SchemaData) where
   -- A list stands at a list type with each of its items at the type of items. An object stands at an input object type, also
   -- inside lists, with each of its fields at the input field of that name. A literal that doesn't fit its place has no
@@ -85,22 +112,8 @@ module _ (s : SchemaData) where
   -- said that it never comes. Lists fit by their items, and named types are equal.
   unfoldable pub fits : Bool → TypeTree → ShapeTree → Bool
   fits never_null (non_null_type t) place = fits true t place
-  fits never_null (named_type name at) (named_shape of nullable) = (never_null || nullable) && bytes_eq name (type_at s of).name
-  fits never_null (named_type name at) (list_shape item nullable) = false
-  fits never_null (list_type t) (named_shape of nullable) = false
-  fits never_null (list_type t) (list_shape item nullable) = (never_null || nullable) && fits false t item
-
-  -- whether a variable has a default other than null
-  abbrev pub has_value : Option ValueTree → Bool
-  has_value None = false
-  has_value (Some null_value) = false
-  has_value (Some (variable_value name at)) = true
-  has_value (Some (integer_value n)) = true
-  has_value (Some (string_value s)) = true
-  has_value (Some (boolean_value b)) = true
-  has_value (Some (enum_value name at)) = true
-  has_value (Some (list_value values)) = true
-  has_value (Some (object_value fields)) = true
+  fits never_null (named_type name at) place = fits_name (λ of. bytes_eq name (type_at s of).name) never_null place
+  fits never_null (list_type t) place = fits_list (fits false t) never_null place
 
   -- Whether a variable may be used there: where it has a default other than null or the place has a default, null doesn't
   -- matter.

@@ -93,10 +93,10 @@ struct Names<'c, 'a> {
 
 fn breach_of_fragments(
     alloc: Global,
-    names: Names<'_, '_>,
+    names: &Names<'_, '_>,
     sites: &[Site<'_>],
 ) -> Result<Option<(Rule, usize)>, AllocError>
-    ensures { IfOk result (λ b. b ≡ first_breach (rules_of_fragments (schema_data names.schema.now) (map defined_data names.fragments.now.items.items) (map met_data names.met.now)) (map site_data sites.now)) }
+    ensures { IfOk result (λ b. b ≡ first_breach (rules_of_fragments (schema_data names.now.schema.now) (map defined_data names.now.fragments.now.items.items) (map met_data names.now.met.now)) (map site_data sites.now)) }
 {
     let fragments = names.fragments;
     if let Some(at) = first_broken(alloc, &UnknownFragment { fragments }, sites)? {
@@ -156,10 +156,10 @@ fn breach_of_fields(
 
 fn breach_of_variables(
     alloc: Global,
-    names: Names<'_, '_>,
+    names: &Names<'_, '_>,
     sites: &[Site<'_>],
 ) -> Result<Option<(Rule, usize)>, AllocError>
-    ensures { IfOk result (λ b. b ≡ first_breach (rules_of_variables (schema_data names.schema.now) (map declared_tree names.variables.now.items.items)) (map site_data sites.now)) }
+    ensures { IfOk result (λ b. b ≡ first_breach (rules_of_variables (schema_data names.now.schema.now) (map declared_tree names.now.variables.now.items.items)) (map site_data sites.now)) }
 {
     if let Some(at) = first_broken(alloc, &RepeatedVariable, sites)? {
         return Ok(Some((Rule::RepeatedVariable, at)));
@@ -177,10 +177,10 @@ fn breach_of_variables(
 
 fn breach_of_arguments(
     alloc: Global,
-    names: Names<'_, '_>,
+    names: &Names<'_, '_>,
     sites: &[Site<'_>],
 ) -> Result<Option<(Rule, usize)>, AllocError>
-    ensures { IfOk result (λ b. b ≡ first_breach (rules_of_arguments (schema_data names.schema.now) (map declared_tree names.variables.now.items.items)) (map site_data sites.now)) }
+    ensures { IfOk result (λ b. b ≡ first_breach (rules_of_arguments (schema_data names.now.schema.now) (map declared_tree names.now.variables.now.items.items)) (map site_data sites.now)) }
 {
     let schema = names.schema;
     if let Some(at) = first_broken(alloc, &UnknownArgument { schema }, sites)? {
@@ -199,10 +199,10 @@ fn breach_of_arguments(
 /// The first broken rule of those on the parts of an operation.
 fn breach_of_sites(
     alloc: Global,
-    names: Names<'_, '_>,
+    names: &Names<'_, '_>,
     sites: &[Site<'_>],
 ) -> Result<Option<(Rule, usize)>, AllocError>
-    ensures { IfOk result (λ b. b ≡ breach_of_sites (schema_data names.schema.now) (map defined_data names.fragments.now.items.items) (map met_data names.met.now) (map declared_tree names.variables.now.items.items) (map site_data sites.now)) }
+    ensures { IfOk result (λ b. b ≡ breach_of_sites (schema_data names.now.schema.now) (map defined_data names.now.fragments.now.items.items) (map met_data names.now.met.now) (map declared_tree names.now.variables.now.items.items) (map site_data sites.now)) }
 {
     if let Some(found) = breach_of_fragments(alloc, names, sites)? {
         return Ok(Some(found));
@@ -239,7 +239,7 @@ fn breach_of_parts<'a>(
         met,
         variables: &variables,
     };
-    breach_of_sites(alloc, names, sites.as_slice())
+    breach_of_sites(alloc, &names, sites.as_slice())
 }
 
 /// The first broken rule of those on the whole document and on the kind of the operation.

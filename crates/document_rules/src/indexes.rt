@@ -1,6 +1,6 @@
 //! The variables of an operation and the fragments of a document, found by their names.
 
-ghost use Rattle.std.specs.Prelude.{◌≡◌, map, option_map, option_copied, IfOk};
+ghost use Rattle.std.specs.Prelude.{◌≡◌, ◌<◌, length, map, option_map, slice_get, IfOk, IfSome};
 ghost use Rattle.gql_base.specs.names.Names.{first_of_name, has_name, place_of_name};
 ghost use Rattle.document_reader.specs.Trees.{variable_tree};
 ghost use Rattle.document_rules.specs.Parts.{fragment_data, fragment_name, fragments_of};
@@ -98,7 +98,20 @@ pub fn is_defined(fragments: &Indexed<Defined<'_>>, name: &str) -> bool
 
 /// The number of the first fragment of this name.
 pub fn fragment_number(fragments: &Indexed<Defined<'_>>, name: &str) -> Option<usize>
-    ensures { result ≡ place_of_name fragment_name (map defined_data fragments.now.items.items) name.now }
+    ensures within { IfSome result (λ number. number < length fragments.now.items.items) }
+    ensures place { result ≡ place_of_name fragment_name (map defined_data fragments.now.items.items) name.now }
 {
     fragments.position(name)
+}
+
+/// The fragment of a number.
+#[tactic(auto, using(crate::proofs::Lists::gotten))]
+pub fn fragment_of<'a>(defined: &[Defined<'a>], number: usize) -> Option<&'a Fragment>
+    ensures same { option_map (λ f. f.now) result ≡ slice_get (map defined_fragment defined.now) number }
+    ensures data { option_map (λ f. fragment_data f.now) result ≡ slice_get (map defined_data defined.now) number }
+{
+    match defined.get(number) {
+        Some(one) => Some(one.fragment),
+        None => None,
+    }
 }

@@ -1,12 +1,12 @@
 //! The fragments that an operation reaches (GraphQL October 2021, 2.8).
 
-ghost use Rattle.std.specs.Prelude.{◌≡◌, ◌<◌, ◌+◌, ◌++◌, true, false, length, map, replicate, slice_set, IfOk, OnOk};
+ghost use Rattle.std.specs.Prelude.{◌≡◌, ◌<◌, ◌+◌, ◌++◌, [], ◌∷◌, true, false, length, map, replicate, slice_get, slice_set, option_map, IfOk, OnOk};
 ghost use Rattle.document_reader.specs.Trees.{selection_tree, set_tree};
-ghost use Rattle.document_rules.specs.Met.{spreads_within, spreads_within_one, reached, fragments_met};
-ghost use Rattle.document_rules.specs.Steps.{to_come, unseen_spreads, AreSeen, Enters};
+ghost use Rattle.document_rules.specs.Met.{is_met, spreads_within, spreads_within_one, spreads_of_data, reached, before_reached, fragments_met};
+ghost use Rattle.document_rules.specs.Steps.{to_come, unseen_spreads, AreSeen, ComesTo, LooksAt};
 ghost use Rattle.document_rules.specs.Views.{defined_data, defined_fragment, met_data, spread_data};
 
-use crate::indexes::{Defined, fragment_number};
+use crate::indexes::{Defined, fragment_number, fragment_of};
 use document_reader::{Fragment, Selection};
 use gql_base::Indexed;
 use std::alloc::{AllocError, Global};
@@ -80,7 +80,52 @@ fn mark(marks: &mut Vec<bool>, at: usize)
     marks[at] = true;
 }
 
-/// One step of the walk: a spread is passed over, or its fragment is met and entered.
+/// A fragment that wasn't met is met, and its spreads are to be looked at before the others.
+fn enter<'a>(
+    fragments: &Indexed<Defined<'a>>,
+    one: Met,
+    met: &mut Vec<Met>,
+    seen: &mut Vec<bool>,
+    spreads: &mut Vec<Spread<'a>>,
+) -> Result<(), AllocError>
+    requires seen { AreSeen (map defined_data fragments.now.items.items) met.old.items seen.old.items }
+    requires there { one.number < length fragments.now.items.items }
+    requires unmet { is_met (map met_data met.old.items) one.number ≡ false }
+    ensures seen { OnOk result (AreSeen (map defined_data fragments.now.items.items) met.new.items seen.new.items) }
+    ensures left { OnOk result (length spreads.new.items + unseen_spreads seen.new.items (map defined_data fragments.now.items.items) ≡ length spreads.old.items + unseen_spreads seen.old.items (map defined_data fragments.now.items.items)) }
+    ensures met { OnOk result (map met_data met.new.items ≡ map met_data met.old.items ++ (met_data one ∷ [])) }
+    ensures spreads { OnOk result (to_come spreads.new.items ≡ spreads_of_data (length met.old.items) (slice_get (map defined_data fragments.now.items.items) one.number) ++ to_come spreads.old.items) }
+{
+    let place = met.len();
+    met.push(one)?;
+    mark(seen, one.number);
+    match fragment_of(fragments.items(), one.number) {
+        Some(fragment) => add_spreads(fragment.selections.as_slice(), Some(place), spreads),
+        None => Ok(()),
+    }
+}
+
+/// The walk comes to a fragment, which it enters where it wasn't met.
+fn come_to<'a>(
+    fragments: &Indexed<Defined<'a>>,
+    one: Met,
+    met: &mut Vec<Met>,
+    seen: &mut Vec<bool>,
+    spreads: &mut Vec<Spread<'a>>,
+) -> Result<(), AllocError>
+    requires seen { AreSeen (map defined_data fragments.now.items.items) met.old.items seen.old.items }
+    requires there { one.number < length fragments.now.items.items }
+    ensures seen { OnOk result (AreSeen (map defined_data fragments.now.items.items) met.new.items seen.new.items) }
+    ensures left { OnOk result (length spreads.new.items + unseen_spreads seen.new.items (map defined_data fragments.now.items.items) ≡ length spreads.old.items + unseen_spreads seen.old.items (map defined_data fragments.now.items.items)) }
+    ensures goes { OnOk result (ComesTo (map defined_data fragments.now.items.items) (map met_data met.old.items) (met_data one) (to_come spreads.old.items) (map met_data met.new.items) (to_come spreads.new.items)) }
+{
+    if seen[one.number] {
+        return Ok(());
+    }
+    enter(fragments, one, met, seen, spreads)
+}
+
+/// One step of the walk: a spread is passed over, or its fragment is entered.
 fn look_at<'a>(
     fragments: &Indexed<Defined<'a>>,
     spread: Spread<'a>,
@@ -91,22 +136,18 @@ fn look_at<'a>(
     requires { AreSeen (map defined_data fragments.now.items.items) met.old.items seen.old.items }
     ensures seen { OnOk result (AreSeen (map defined_data fragments.now.items.items) met.new.items seen.new.items) }
     ensures left { OnOk result (length spreads.new.items + unseen_spreads seen.new.items (map defined_data fragments.now.items.items) ≡ length spreads.old.items + unseen_spreads seen.old.items (map defined_data fragments.now.items.items)) }
-    ensures goes { OnOk result (Enters (map defined_data fragments.now.items.items) (map met_data met.old.items) (spread_data spread.entry) (to_come spreads.old.items) (map met_data met.new.items) (to_come spreads.new.items)) }
+    ensures goes { OnOk result (LooksAt (map defined_data fragments.now.items.items) (map met_data met.old.items) (spread_data spread.entry) (to_come spreads.old.items) (map met_data met.new.items) (to_come spreads.new.items)) }
 {
-    let Some(number) = fragment_number(fragments, spread.name) else {
-        return Ok(());
-    };
-    if seen[number] {
-        return Ok(());
+    match fragment_number(fragments, spread.name) {
+        Some(number) => {
+            let one = Met {
+                number,
+                within: spread.within,
+            };
+            come_to(fragments, one, met, seen, spreads)
+        }
+        None => Ok(()),
     }
-    let place = met.len();
-    met.push(Met {
-        number,
-        within: spread.within,
-    })?;
-    mark(seen, number);
-    let fragment = fragments.items()[number].fragment;
-    add_spreads(fragment.selections.as_slice(), Some(place), spreads)
 }
 
 /// The fragments that selections reach, in the order in which they are first met. It fails for want of memory alone.
@@ -127,6 +168,19 @@ pub fn reach<'a>(
     Ok(met)
 }
 
+/// A fragment, if there is one, behind others.
+fn add_fragment<'a>(
+    fragment: Option<&'a Fragment>,
+    into: &mut Vec<&'a Fragment>,
+) -> Result<(), AllocError>
+    ensures { OnOk result (map (λ f. f.now) into.new.items ≡ map (λ f. f.now) into.old.items ++ before_reached (option_map (λ f. f.now) fragment.entry) []) }
+{
+    if let Some(fragment) = fragment {
+        into.push(fragment)?;
+    }
+    Ok(())
+}
+
 /// The fragments of these numbers.
 pub fn fragments_met<'a>(
     alloc: Global,
@@ -137,9 +191,7 @@ pub fn fragments_met<'a>(
 {
     let mut fragments = Vec::new(alloc);
     for one in met {
-        if let Some(defined) = defined.get(one.number) {
-            fragments.push(defined.fragment)?;
-        }
+        add_fragment(fragment_of(defined, one.number), &mut fragments)?;
     }
     Ok(fragments)
 }

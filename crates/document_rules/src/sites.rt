@@ -1,15 +1,15 @@
 //! The parts of an operation and of the fragments that it reaches, which rules look at one at a time.
 
 ghost use Rattle.std.specs.Prelude.{◌≡◌, ◌++◌, map, option_map, Some, OnOk, IfOk};
-ghost use Rattle.document_reader.specs.Trees.{selection_tree, field_tree, set_tree};
+ghost use Rattle.document_reader.specs.Trees.{variable_tree, selection_tree, field_tree, set_tree};
 ghost use Rattle.gql_base.specs.parts.Trees.{directive_tree};
 ghost use Rattle.schema_model.specs.Numbers.{type_number};
 ghost use Rattle.schema_model.specs.SchemaViews.{schema_data};
-ghost use Rattle.document_rules.specs.Sites.{sites_in, sites_in_one, sites_of_operation, sites_of_fragment, sites_of_met, all_sites, directives_at};
+ghost use Rattle.document_rules.specs.Sites.{variable_site, sites_in, sites_in_one, sites_of_operation, sites_of_fragment, sites_of_met, all_sites, directives_at};
 ghost use Rattle.document_rules.specs.Parts.{fragment_data};
 ghost use Rattle.document_rules.specs.Views.{site_data, met_data, defined_data};
 
-use crate::indexes::Defined;
+use crate::indexes::{Defined, fragment_of};
 use crate::lookups::{Meaning, below_field, below_inline, composite_named, meaning_on};
 use crate::met::Met;
 use document_reader::{Field, Fragment, Operation, Selection, VariableDef};
@@ -125,6 +125,19 @@ fn add_field<'a>(
     add_selections(schema, within, below, field.selections.as_slice(), into)
 }
 
+/// The variables of an operation.
+fn add_variables<'a>(
+    variables: &'a [VariableDef],
+    into: &mut Vec<Site<'a>>,
+) -> Result<(), AllocError>
+    ensures { OnOk result (map site_data into.new.items ≡ map site_data into.old.items ++ map variable_site (map variable_tree variables.now)) }
+{
+    for variable in variables {
+        into.push(Site::Variable(variable))?;
+    }
+    Ok(())
+}
+
 /// The parts of an operation whose selections are written on a type.
 fn add_operation<'a>(
     schema: &Schema,
@@ -134,9 +147,7 @@ fn add_operation<'a>(
 ) -> Result<(), AllocError>
     ensures { OnOk result (map site_data into.new.items ≡ map site_data into.old.items ++ sites_of_operation (schema_data schema.now) (Some root.number) operation.now) }
 {
-    for variable in &operation.variables {
-        into.push(Site::Variable(variable))?;
-    }
+    add_variables(operation.variables.as_slice(), into)?;
     into.push(Site::Operation(operation))?;
     add_selections(schema, None, Some(root), operation.selections.as_slice(), into)
 }
@@ -145,14 +156,19 @@ fn add_operation<'a>(
 fn add_fragment<'a>(
     schema: &Schema,
     place: usize,
-    fragment: &'a Fragment,
+    fragment: Option<&'a Fragment>,
     into: &mut Vec<Site<'a>>,
 ) -> Result<(), AllocError>
-    ensures { OnOk result (map site_data into.new.items ≡ map site_data into.old.items ++ sites_of_fragment (schema_data schema.now) place (Some (fragment_data fragment.now))) }
+    ensures { OnOk result (map site_data into.new.items ≡ map site_data into.old.items ++ sites_of_fragment (schema_data schema.now) place (option_map (λ f. fragment_data f.now) fragment.entry)) }
 {
-    into.push(Site::Fragment(fragment))?;
-    let on = composite_named(schema, fragment.on.text.as_str());
-    add_selections(schema, Some(place), on, fragment.selections.as_slice(), into)
+    match fragment {
+        Some(fragment) => {
+            into.push(Site::Fragment(fragment))?;
+            let on = composite_named(schema, fragment.on.text.as_str());
+            add_selections(schema, Some(place), on, fragment.selections.as_slice(), into)
+        }
+        None => Ok(()),
+    }
 }
 
 /// The parts of the fragments that were met.
@@ -165,9 +181,8 @@ fn add_fragments<'a>(
     ensures { OnOk result (map site_data into.new.items ≡ map site_data into.old.items ++ sites_of_met (schema_data schema.now) (map defined_data defined.now) 0 (map met_data met.now)) }
 {
     for place in 0..met.len() {
-        if let Some(defined) = defined.get(met[place].number) {
-            add_fragment(schema, place, defined.fragment, into)?;
-        }
+        let fragment = fragment_of(defined, met[place].number);
+        add_fragment(schema, place, fragment, into)?;
     }
     Ok(())
 }

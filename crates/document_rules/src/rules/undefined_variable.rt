@@ -31,7 +31,11 @@ fn undefined_in_value(variables: &Indexed<Declared<'_>>, value: &Value) -> Optio
         Value::Var(name) => undeclared(variables, name),
         Value::List(items) => undefined_in_items(variables, items.as_slice()),
         Value::Object(fields) => undefined_in(variables, fields.as_slice()),
-        _ => None,
+        Value::Int(_number) => None,
+        Value::Str(_text) => None,
+        Value::Bool(_truth) => None,
+        Value::Null => None,
+        Value::EnumName(_name) => None,
     }
 }
 
@@ -40,8 +44,9 @@ fn undefined_in_items(variables: &Indexed<Declared<'_>>, items: &[Value]) -> Opt
     ensures { result ≡ first_of (undeclared (map declared_tree variables.now.items.items)) (variables_in_items (values_from (map value_tree items.now))) }
 {
     for item in items {
-        if let Some(at) = undefined_in_value(variables, item) {
-            return Some(at);
+        match undefined_in_value(variables, item) {
+            Some(at) => return Some(at),
+            None => {}
         }
     }
     None
@@ -53,8 +58,9 @@ fn undefined_in(variables: &Indexed<Declared<'_>>, fields: &[Argument]) -> Optio
     ensures { result ≡ undefined_in (map declared_tree variables.now.items.items) (map named_value fields.now) }
 {
     for field in fields {
-        if let Some(at) = undefined_in_argument(variables, field) {
-            return Some(at);
+        match undefined_in_argument(variables, field) {
+            Some(at) => return Some(at),
+            None => {}
         }
     }
     None
@@ -85,6 +91,7 @@ fn undefined_in_directives(
 }
 
 /// The first variable of a field's arguments that isn't declared.
+#[tactic(auto, unfolding(crate::specs::VariablePlaces::variables_in_fields))]
 fn undefined_at_field(variables: &Indexed<Declared<'_>>, site: Site<'_>) -> Option<usize>
     ensures { result ≡ undefined_in (map declared_tree variables.now.items.items) (arguments_at (site_data site.entry)) }
 {

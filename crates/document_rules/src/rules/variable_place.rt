@@ -1,17 +1,20 @@
 //! A variable's type fits the place where the variable stands (GraphQL October 2021, 5.8.5).
 
-ghost use Rattle.std.specs.Prelude.{◌≡◌, map, option_map, is_some};
+ghost use Rattle.std.specs.Prelude.{◌≡◌, ◌||◌, false, map, option_map};
+ghost use Rattle.std.specs.Str.{bytes_eq};
+ghost use Rattle.schema_rules.specs.Views.{literal_tree};
+ghost use Rattle.schema_model.specs.SchemaData.{type_at};
 ghost use Rattle.gql_base.specs.names.Names.{first_of_name};
 ghost use Rattle.gql_base.specs.parts.Values.{values_from, fields_from};
 ghost use Rattle.gql_base.specs.parts.Trees.{identifier_of, value_tree, named_value, directive_tree, type_tree, maybe_value};
 ghost use Rattle.document_reader.specs.Trees.{variable_tree};
-ghost use Rattle.input_values.specs.inputs.Shapes.{ShapeTree, shape_tree, level_tree};
+ghost use Rattle.input_values.specs.inputs.Shapes.{named_shape, shape_tree};
 ghost use Rattle.input_values.specs.inputs.Definitions.{InputData, input_data};
 ghost use Rattle.gql_base.specs.declared.parts.trees.Name.{Name};
 ghost use Rattle.schema_model.specs.Numbers.{type_number};
 ghost use Rattle.schema_rules.specs.First.{first_of};
 ghost use Rattle.schema_model.specs.SchemaViews.{schema_data};
-ghost use Rattle.document_rules.specs.VariablePlaces.{Use, input_name, at_items, uses_in, uses_in_items, uses_in_fields, uses_in_field, fits, has_value, is_usable};
+ghost use Rattle.document_rules.specs.VariablePlaces.{Use, input_name, at_items, uses_in, uses_in_items, uses_in_fields, uses_in_field, fits, fits_name, fits_list, is_null, has_value, is_usable};
 ghost use Rattle.document_rules.specs.Rules.{misplaced, misplaced_among, misplaced_in_condition, misplaced_in_directive, misplaced_in_directives, misplaced_in_arguments};
 ghost use Rattle.document_rules.specs.Views.{declared_tree, site_data, use_at};
 
@@ -24,6 +27,7 @@ use gql_base::{Argument, Directive, Name, Indexed, TypeRef, Value};
 use input_values::places::innermost;
 use input_values::{InputDef, Shape, ShapeLevel, TypeId, shape_level};
 use schema_model::Schema;
+use schema_rules::{Literal, opened};
 use std::alloc::{AllocError, Global};
 
 /// Refuses a variable whose type doesn't fit the place where it stands.
@@ -33,25 +37,58 @@ pub struct VariablePlace<'c, 'a> {
     pub variables: &'c Indexed<Declared<'a>>,
 }
 
+fn null_fits(never_null: bool, nullable: bool) -> bool
+    ensures { result ≡ (never_null || nullable) }
+{
+    never_null || nullable
+}
+
+/// Whether a named type fits a place.
+fn fits_name(schema: &Schema, never_null: bool, name: &Name, place: &Shape) -> bool
+    ensures { result ≡ fits_name (λ of. bytes_eq name.now.text (type_at (schema_data schema.now) of).name) never_null (shape_tree place.now) }
+{
+    match shape_level(place) {
+        ShapeLevel::Named { of, nullable } => {
+            null_fits(never_null, nullable)
+                && name.text.as_bytes() == schema.type_name(of).as_bytes()
+        }
+        ShapeLevel::ListOf { .. } => false,
+    }
+}
+
 /// Whether each value of a type may stand at a place. Null may come only where it may stand, or where `never_null` says
 /// that it never comes.
+#[cycle(fits)]
+#[tactic(auto, using(crate::proofs::Opened::fits_levels))]
 fn fits(schema: &Schema, never_null: bool, of: &TypeRef, place: &Shape) -> bool
     ensures { result ≡ fits (schema_data schema.now) never_null (type_tree of.now) (shape_tree place.now) }
 {
     match of {
         TypeRef::NonNull(inner) => fits(schema, true, &**inner, place),
-        TypeRef::Named(name) => match shape_level(place) {
-            ShapeLevel::Named { of, nullable } => {
-                (never_null || nullable) && name.text.as_str() == schema.type_name(of).as_str()
-            }
-            ShapeLevel::ListOf { .. } => false,
-        },
-        TypeRef::ListOf(item) => match shape_level(place) {
-            ShapeLevel::Named { .. } => false,
-            ShapeLevel::ListOf { item: place, nullable } => {
-                (never_null || nullable) && fits(schema, false, &**item, place)
-            }
-        },
+        TypeRef::Named(name) => fits_name(schema, never_null, name, place),
+        TypeRef::ListOf(item) => fits_list(schema, never_null, &**item, place),
+    }
+}
+
+/// Whether a list of items of a type fits a place.
+#[cycle(fits)]
+fn fits_list(schema: &Schema, never_null: bool, item: &TypeRef, place: &Shape) -> bool
+    ensures { result ≡ fits_list (fits (schema_data schema.now) false (type_tree item.now)) never_null (shape_tree place.now) }
+{
+    match shape_level(place) {
+        ShapeLevel::Named { .. } => false,
+        ShapeLevel::ListOf { item: place, nullable } => {
+            null_fits(never_null, nullable) && fits(schema, false, item, place)
+        }
+    }
+}
+
+fn is_null(literal: Literal<'_>) -> bool
+    ensures { result ≡ is_null (literal_tree literal.entry) }
+{
+    match literal {
+        Literal::Null => true,
+        _ => false,
     }
 }
 
@@ -61,8 +98,7 @@ fn has_value(default: &Option<Value>) -> bool
 {
     match default {
         None => false,
-        Some(Value::Null) => false,
-        Some(_) => true,
+        Some(value) => !is_null(opened(value)),
     }
 }
 
@@ -110,41 +146,46 @@ fn misplaced(
 /// The variables of a value that stands at a place.
 #[cycle(places)]
 fn in_value(
+    value: &Value,
     rule: &VariablePlace<'_, '_>,
     place: &Shape,
     has_default: bool,
-    value: &Value,
 ) -> Option<usize>
     ensures { result ≡ misplaced_among (schema_data rule.now.schema.now) (map declared_tree rule.now.variables.now.items.items) (λ s. uses_in s (shape_tree place.now) has_default (value_tree value.now)) }
 {
     match value {
         Value::Var(name) => misplaced(rule, place, has_default, name),
-        Value::List(items) => in_list(rule, place, items.as_slice()),
+        Value::List(items) => in_list(items.as_slice(), rule, place),
         Value::Object(fields) => {
             let inputs = rule.schema.input_fields(innermost(place));
-            in_fields(rule, inputs, fields.as_slice())
+            in_fields(fields.as_slice(), rule, inputs)
         }
-        _ => None,
+        Value::Int(_number) => None,
+        Value::Str(_text) => None,
+        Value::Bool(_truth) => None,
+        Value::Null => None,
+        Value::EnumName(_name) => None,
     }
 }
 
 #[cycle(places)]
-fn in_list(rule: &VariablePlace<'_, '_>, place: &Shape, items: &[Value]) -> Option<usize>
+fn in_list(items: &[Value], rule: &VariablePlace<'_, '_>, place: &Shape) -> Option<usize>
     ensures { result ≡ misplaced_among (schema_data rule.now.schema.now) (map declared_tree rule.now.variables.now.items.items) (λ s. at_items (λ item. uses_in_items s item (values_from (map value_tree items.now))) (shape_tree place.now)) }
 {
     match shape_level(place) {
         ShapeLevel::Named { .. } => None,
-        ShapeLevel::ListOf { item, .. } => in_items(rule, item, items),
+        ShapeLevel::ListOf { item, .. } => in_items(items, rule, item),
     }
 }
 
 #[cycle(places)]
-fn in_items(rule: &VariablePlace<'_, '_>, item: &Shape, items: &[Value]) -> Option<usize>
+fn in_items(items: &[Value], rule: &VariablePlace<'_, '_>, item: &Shape) -> Option<usize>
     ensures { result ≡ misplaced_among (schema_data rule.now.schema.now) (map declared_tree rule.now.variables.now.items.items) (λ s. uses_in_items s (shape_tree item.now) (values_from (map value_tree items.now))) }
 {
     for value in items {
-        if let Some(at) = in_value(rule, item, false, value) {
-            return Some(at);
+        match in_value(value, rule, item, false) {
+            Some(at) => return Some(at),
+            None => {}
         }
     }
     None
@@ -153,15 +194,16 @@ fn in_items(rule: &VariablePlace<'_, '_>, item: &Shape, items: &[Value]) -> Opti
 /// The variables of arguments, or of the fields of an object, where these may stand.
 #[cycle(places)]
 fn in_fields(
+    fields: &[Argument],
     rule: &VariablePlace<'_, '_>,
     inputs: &[InputDef],
-    fields: &[Argument],
 ) -> Option<usize>
     ensures { result ≡ misplaced_among (schema_data rule.now.schema.now) (map declared_tree rule.now.variables.now.items.items) (λ s. uses_in_fields s (map input_data inputs.now) (fields_from (map named_value fields.now))) }
 {
     for field in fields {
-        if let Some(at) = in_field(rule, inputs, field) {
-            return Some(at);
+        match in_field(field, rule, inputs) {
+            Some(at) => return Some(at),
+            None => {}
         }
     }
     None
@@ -169,14 +211,14 @@ fn in_fields(
 
 #[cycle(places)]
 fn in_field(
+    field: &Argument,
     rule: &VariablePlace<'_, '_>,
     inputs: &[InputDef],
-    field: &Argument,
 ) -> Option<usize>
     ensures { result ≡ misplaced_among (schema_data rule.now.schema.now) (map declared_tree rule.now.variables.now.items.items) (λ s. uses_in_field s (map input_data inputs.now) (named_value field.now)) }
 {
     match input_named(inputs, field.name.text.as_str()) {
-        Some(input) => in_value(rule, &input.shape, input.default.is_some(), &field.value),
+        Some(input) => in_value(&field.value, rule, &input.shape, input.default.is_some()),
         None => None,
     }
 }
@@ -188,7 +230,7 @@ fn in_arguments(rule: &VariablePlace<'_, '_>, site: Site<'_>) -> Option<usize>
     match site {
         Site::Field { meaning, field } => match meaning {
             Meaning::Known(known) => {
-                in_fields(rule, rule.schema.arguments(known), field.arguments.as_slice())
+                in_fields(field.arguments.as_slice(), rule, rule.schema.arguments(known))
             }
             Meaning::NoPosition | Meaning::NoSuchField | Meaning::NameOfType => None,
         },
@@ -200,7 +242,7 @@ fn in_arguments(rule: &VariablePlace<'_, '_>, site: Site<'_>) -> Option<usize>
 fn in_condition(rule: &VariablePlace<'_, '_>, place: &Shape, argument: &Argument) -> Option<usize>
     ensures { result ≡ misplaced_in_condition (schema_data rule.now.schema.now) (map declared_tree rule.now.variables.now.items.items) (shape_tree place.now) (named_value argument.now) }
 {
-    in_value(rule, place, false, &argument.value)
+    in_value(&argument.value, rule, place, false)
 }
 
 fn in_conditions(
@@ -233,6 +275,17 @@ fn in_directives_at(
     None
 }
 
+/// The type of a number, where null may not stand.
+#[tactic(auto, using(crate::proofs::Opened::shape_levels))]
+fn never_null(of: TypeId) -> Shape
+    ensures { shape_tree result ≡ named_shape of.number false }
+{
+    Shape::Named {
+        of,
+        nullable: false,
+    }
+}
+
 fn in_directives_of(
     rule: &VariablePlace<'_, '_>,
     boolean: Option<TypeId>,
@@ -241,13 +294,7 @@ fn in_directives_of(
     ensures { result ≡ misplaced_in_directives (schema_data rule.now.schema.now) (map declared_tree rule.now.variables.now.items.items) (option_map type_number boolean) (map directive_tree directives.now) }
 {
     match boolean {
-        Some(of) => {
-            let place = Shape::Named {
-                of,
-                nullable: false,
-            };
-            in_directives_at(rule, &place, directives)
-        }
+        Some(of) => in_directives_at(rule, &never_null(of), directives),
         None => None,
     }
 }

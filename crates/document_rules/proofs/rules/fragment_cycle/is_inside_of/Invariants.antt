@@ -1,4 +1,4 @@
-use Rattle.std.proofs.Common.{◌≡◌, ◌++◌, ◌+◌, ℕ, [], List, length, drop, take, map, false, refl}
+use Rattle.std.proofs.Common.{◌≡◌, ◌++◌, ◌+◌, ℕ, ◌≤◌, [], List, length, drop, take, map, false, refl}
 use Rattle.std.specs.Prelude.{nat_eq, ◌-◌}
 use Rattle.std.specs.List.{list_any}
 use Rattle.document_rules.specs.Met.{outward}
@@ -6,4 +6,4 @@ use Rattle.document_rules.specs.Views.{met_data}
 use Rattle.document_rules.proofs.rules.fragment_cycle.is_inside_of.Given as goal
 
 abbrev pub invariant-loop-step : goal.invariant-loop-step
-invariant-loop-step l = list_any (nat_eq l.number) (outward (length l.met - l.step) (map met_data l.met) l.at) ≡ list_any (nat_eq l.number) (outward (length l.met) (map met_data l.met) l.within)
+invariant-loop-step l = list_any (nat_eq l.number) (outward (length l.met - l._step) (map met_data l.met) l.at) ≡ list_any (nat_eq l.number) (outward (length l.met) (map met_data l.met) l.fn.within)

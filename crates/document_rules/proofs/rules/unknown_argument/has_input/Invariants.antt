@@ -1,4 +1,4 @@
-use Rattle.std.proofs.Common.{◌≡◌, ◌++◌, ◌+◌, ℕ, [], List, length, drop, take, map, false, refl}
+use Rattle.std.proofs.Common.{◌≡◌, ◌++◌, ◌+◌, ℕ, ◌≤◌, [], List, length, drop, take, map, false, refl}
 use Rattle.gql_base.specs.names.Names.{has_name}
 use Rattle.input_values.specs.inputs.Definitions.{input_data}
 use Rattle.document_rules.specs.VariablePlaces.{input_name}
