@@ -5,3 +5,4 @@ pub mod ValueSteps
 pub mod SpreadSteps
 pub mod SiteSteps
 pub mod MisusedSteps
+pub mod InsideSteps

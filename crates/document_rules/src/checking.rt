@@ -1,6 +1,6 @@
 //! The check of an operation: the rules in their order.
 
-ghost use Rattle.std.specs.Prelude.{◌≡◌, map, Some, None, IfOk, IsSome};
+ghost use Rattle.std.specs.Prelude.{◌≡◌, map, option_map, Some, None, IfOk, IsSome};
 ghost use Rattle.document_reader.specs.declared.trees.Operation.{Operation};
 ghost use Rattle.document_reader.specs.Trees.{variable_tree};
 ghost use Rattle.schema_model.specs.SchemaViews.{schema_data};
@@ -308,6 +308,17 @@ fn check_operation<'a>(
     }
 }
 
+/// The operation at a place among definitions.
+fn operation_at(definitions: &[Definition], place: usize) -> Option<&Operation>
+    ensures { option_map (λ o. o.now) result ≡ operation_at definitions.now place }
+{
+    match definitions.get(place) {
+        Some(Definition::Op(operation)) => Some(operation),
+        Some(Definition::Frag(_)) => None,
+        None => None,
+    }
+}
+
 /// Checks the operation at a place among a document's definitions: by the rules in their order, those on the document and
 /// those on the operation and the fragments that it reaches (GraphQL October 2021, 5). The answer is the first rule that
 /// is broken, with the first place at which it is: in the operation, or else in the fragments in the order in which they
@@ -323,8 +334,8 @@ pub fn check<'a>(
     requires { IsSome (operation_at document.now.definitions.items picked) }
     ensures { (o : Operation) → operation_at document.now.definitions.items picked ≡ Some o → Answers (IsCheckOf (schema_data schema.now) document.now.definitions.items o) result (first_broken (schema_data schema.now) document.now.definitions.items o) }
 {
-    match document.definitions.get(picked) {
-        Some(Definition::Op(operation)) => check_operation(alloc, schema, document, operation),
-        _ => unreachable!(),
+    match operation_at(document.definitions.as_slice(), picked) {
+        Some(operation) => check_operation(alloc, schema, document, operation),
+        None => unreachable!(),
     }
 }
