@@ -1,6 +1,5 @@
 -- Sums of capped costs, value after value.
-use Rattle.std.proofs.Common.{ℕ, zero, suc, ◌+◌, ◌*◌, ◌≡◌, ◌<◌, ◌≤◌, Bool, List, [], ◌∷◌, length, map, drop, get_or, Option, None, Some, refl, sym, ap, ◌∙◌, arith}
-use Rattle.std.specs.Prelude.{slice_get, min}
+use Rattle.std.proofs.Common.{ℕ, zero, suc, ◌+◌, ◌*◌, ◌≡◌, ◌<◌, ◌≤◌, List, [], ◌∷◌, length, map, drop, get_or, Option, sym, ap, ◌∙◌, arith}
 use Rattle.std.proofs.lemmas.List.{drop_all}
 use Rattle.cost_num.specs.declared.TheConstants.{CAP}
 use Rattle.cost_num.specs.Capped.{capped}
@@ -10,10 +9,9 @@ use Rattle.input_values.specs.declared.values.coerced.Coerced.{Coerced}
 use Rattle.input_values.specs.declared.values.coerced.CoercedField.{CoercedField}
 use Rattle.input_values.specs.values.Coerced.{CoercedTree, CoercedTrees, CoercedFields, coerced_tree, named_tree, coerced_list, coerced_object, trees_from, named_trees_from, nodes, item_nodes, field_nodes}
 use Rattle.input_values.proofs.CoercedTrees.{field_opened}
-use Rattle.input_values.proofs.Copied.{at_front}
-use Rattle.schema_model.specs.Arguments.{ArgData}
-use Rattle.cost_directives.specs.DeclaredSizes.{no_arg}
-use Rattle.cost_directives.specs.ArgumentCosts.{ObjectInputs, InputWeightData, weighed_name, field_at, value_cost, items_cost, fields_cost, field_cost, argument_cost, arguments_cost, front_value, behind_front}
+use Rattle.gql_base.proofs.Lists.{at_front}
+use Rattle.cost_directives.proofs.FirstsFound.{never}
+use Rattle.cost_directives.specs.ArgumentCosts.{ObjectInputs, InputWeightData, weighed_name, field_at, value_cost, items_cost, fields_cost, field_cost}
 
 abbrev pub items_in : List Coerced → CoercedTrees
 items_in vs = trees_from (map coerced_tree vs)
@@ -61,9 +59,6 @@ unfolding value_cost
 no_field_left objects inputs fs at sum whole end same small = none_left sum (fields_cost objects inputs (fields_in (drop at fs))) whole (ap (λ l. fields_cost objects inputs (fields_in l)) (drop_all at fs end)) same small
 
 -- ---- how much is left to be looked at
-
-never : (n : ℕ) → n < 0 → ⊥
-never n h = omega arith
 
 size_of_item : (vs : List Coerced) (at : ℕ) (v : Coerced) → at < length vs → v ≡ get_or vs at v → nodes (coerced_tree v) ≤ item_nodes (items_in vs)
 size_of_item [] at v within is = absurd (never at within)

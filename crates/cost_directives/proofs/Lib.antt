@@ -5,3 +5,9 @@ pub mod OneReading
 pub mod NamesAgree
 pub mod OpenedShapes
 pub mod NumbersMade
+pub mod LookedUp
+pub mod FirstsFound
+pub mod DraftedFields
+pub mod PlainDrafts
+pub mod Implemented
+pub mod FittingSizes

@@ -1,7 +1,7 @@
 -- What the values of arguments cost (IBM GraphQL Cost Directives Specification, arguments and input fields): a leaf its
 -- weight, a list the sum of its items, an input object its weight and the sum of its fields. Null and what is absent cost
 -- nothing. Costs are in millionths.
-use Rattle.std.specs.Prelude.{ℕ, ◌+◌, Bool, List, [], ◌∷◌, get_or, Option, None, Some}
+use Rattle.std.specs.Prelude.{ℕ, ◌+◌, List, [], ◌∷◌, get_or, Option, None, Some}
 use Rattle.cost_num.specs.declared.TheConstants.{UNIT}
 use Rattle.gql_base.specs.names.Names.{first_of_name}
 use Rattle.input_values.specs.inputs.Shapes.{ShapeTree, named_shape, list_shape}

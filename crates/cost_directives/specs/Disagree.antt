@@ -1,6 +1,6 @@
 -- The interfaces of an object type agree on what its fields take from them: on the weight of a field that has none of its
 -- own, as a number; and likewise on its `@listSize`, by the values of the four arguments, where an absent list is the empty one.
-use Rattle.std.specs.Prelude.{ℕ, ℤ, pos, negsuc, int_le, Bool, true, false, not, nat_eq, ◌&&◌, ◌||◌, ◌==◌, List, [], ◌∷◌, Option, None, Some}
+use Rattle.std.specs.Prelude.{ℕ, ℤ, int_le, Bool, true, false, not, nat_eq, ◌&&◌, List, [], ◌∷◌, Option, None, Some}
 use Rattle.std.specs.Str.{bytes_eq}
 use Rattle.schema_rules.specs.Kinds.{is_object}
 use Rattle.schema_rules.specs.First.{first_of}

@@ -1,6 +1,6 @@
 -- Where fields stand, and what tests of `@listSize` look at.
 use Rattle.std.specs.Prelude.{ℕ, Bool, false, List, Option, None, Some, option_map}
-use Rattle.schema_rules.specs.Places.{PlaceTree, at_field, place_text}
+use Rattle.schema_rules.specs.Places.{at_field, place_text}
 use Rattle.schema_rules.specs.First.{told}
 use Rattle.schema_model.specs.SchemaData.{FieldData, SizeData, SchemaData, type_at, field_at}
 

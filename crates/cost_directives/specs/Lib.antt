@@ -16,6 +16,9 @@ pub mod SizedUnknown
 pub mod NegativeSize
 pub mod Disagree
 pub mod DirectiveFaults
+-- What the laws of these speak of: sizes that fit their fields, and lists of any length.
+pub mod Fitting
+pub mod FreeLists
 -- What serves proofs: what the program's forms of these stand for.
 pub mod WeightViews
 pub mod TestViews

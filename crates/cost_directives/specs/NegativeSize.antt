@@ -1,5 +1,5 @@
 -- An `assumedSize` is 0 or more.
-use Rattle.std.specs.Prelude.{ℕ, ℤ, pos, int_lt, Bool, true, false, List, Option, None, Some}
+use Rattle.std.specs.Prelude.{ℕ, ℤ, pos, int_lt, Bool, false, List, Option, None, Some}
 use Rattle.schema_rules.specs.First.{first_of}
 use Rattle.schema_model.specs.SchemaData.{FieldData, SizeData, SchemaData}
 use Rattle.cost_directives.specs.Weights.{field_numbers}

@@ -1,5 +1,5 @@
 -- Each name in `sizedFields` is that of a list field of the type that the field returns. A union has no fields.
-use Rattle.std.specs.Prelude.{ℕ, Bool, true, false, not, List, Option, None, Some, find}
+use Rattle.std.specs.Prelude.{ℕ, Bool, false, not, List, Option, None, Some, find}
 use Rattle.schema_rules.specs.First.{first_of}
 use Rattle.schema_model.specs.SchemaData.{FieldData, SizeData, SchemaData, field_at, field_named}
 use Rattle.cost_directives.specs.Weighing.{is_list_shape, type_inside}

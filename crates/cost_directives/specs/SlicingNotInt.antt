@@ -1,5 +1,5 @@
 -- Each argument in `slicingArguments` is of the type Int, where null may stand or not.
-use Rattle.std.specs.Prelude.{ℕ, Bool, true, false, not, List, Option, None, Some, find, codes}
+use Rattle.std.specs.Prelude.{ℕ, Bool, false, not, List, Option, None, Some, find, codes}
 use Rattle.std.specs.Str.{bytes_eq}
 use Rattle.gql_base.specs.names.Names.{first_of_name}
 use Rattle.input_values.specs.inputs.Shapes.{ShapeTree, named_shape, list_shape}

@@ -1,5 +1,5 @@
 -- What types and fields weigh, in millionths (IBM GraphQL Cost Directives Specification, `@cost`).
-use Rattle.std.specs.Prelude.{ℕ, Bool, true, false, not, nat_eq, ◌&&◌, List, [], ◌∷◌, map, Option, None, Some, option_map, unwrap_or, if◌then◌else◌}
+use Rattle.std.specs.Prelude.{ℕ, Bool, true, false, nat_eq, ◌&&◌, List, [], ◌∷◌, map, Option, None, Some}
 use Rattle.std.specs.List.{list_all}
 use Rattle.cost_num.specs.declared.TheConstants.{UNIT}
 use Rattle.input_values.specs.inputs.Shapes.{ShapeTree, named_shape, list_shape}

@@ -1,8 +1,7 @@
 -- What the program's forms of weights stand for.
-use Rattle.std.specs.Prelude.{ℕ, List, map, Option, None, Some, if◌then◌else◌}
+use Rattle.std.specs.Prelude.{List, map, Option, None, Some, if◌then◌else◌}
 use Rattle.std.specs.Borrow.{Bor}
 use Rattle.input_values.specs.inputs.Shapes.{shape_tree}
-use Rattle.input_values.specs.values.Coerced.{CoercedTree}
 use Rattle.input_values.specs.declared.inputs.definition.InputDef.{InputDef}
 use Rattle.input_values.specs.inputs.Definitions.{InputData, input_data}
 use Rattle.schema_model.specs.declared.args.Arg.{Arg}

@@ -1,7 +1,6 @@
 -- The weights and sizes of a schema, where lists that declare no size have this one.
-use Rattle.std.specs.Prelude.{ℕ, ℤ, Bool, true, false, nat_eq, List, [], ◌∷◌, ◌++◌, map, length, get_or, Option, None, Some, Result, if◌then◌else◌}
+use Rattle.std.specs.Prelude.{ℕ, Bool, false, nat_eq, List, [], ◌∷◌, ◌++◌, map, length, get_or, Option, None, Some, Result, if◌then◌else◌}
 use Rattle.std.specs.List.{list_any, filter_map, range_with_len}
-use Rattle.cost_num.specs.Capped.{capped}
 use Rattle.gql_base.specs.names.Names.{place_of_name}
 use Rattle.input_values.specs.inputs.Definitions.{InputData}
 use Rattle.schema_rules.specs.Kinds.{is_input_only}

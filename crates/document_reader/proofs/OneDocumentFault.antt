@@ -1,8 +1,8 @@
 -- Each text is a document or has one fault, and not both.
-use Rattle.std.proofs.Common.{ℕ, ◌≡◌, ◌⊎◌, inl, inr, false, List, [], ◌∷◌, Ok, refl, sym, ap, ◌∙◌, subst, arith}
+use Rattle.std.proofs.Common.{ℕ, ◌≡◌, ◌⊎◌, inl, inr, List, [], Ok, refl, sym, ap, ◌∙◌, subst, arith}
 use Rattle.gql_base.proofs.WayLaws.ReadingLaws.{no_symbol}
 use Rattle.gql_base.specs.ways.Symbols.{Symbols}
-use Rattle.gql_base.specs.ways.Reading.{next, is_there}
+use Rattle.gql_base.specs.ways.Reading.{is_there}
 use Rattle.gql_base.specs.ways.FirstFaults.{level_limit}
 use Rattle.gql_base.specs.ways.TextFaults.{TextFault, lexical_fault, unexpected_at, too_deep_at, no_memory, HasTextFault}
 use Rattle.gql_base.proofs.WayLaws.RepeatingLaws.{repeats, one_or_more_ends}

@@ -4,3 +4,4 @@ mod Replies
 mod Exclusions
 mod OneAnswer
 mod Statuses
+mod MisusedDirectives

@@ -9,9 +9,14 @@ use Rattle.schema_model.specs.declared.fault.SchemaFault.TheVariants.{Memory as 
 use Rattle.schema_model.specs.declared.schema.Schema.{Schema}
 use Rattle.schema_model.specs.SchemaViews.{schema_data}
 use Rattle.schema_model.specs.Faults.{Builds}
+use Rattle.cost_directives.specs.declared.fault.DirectiveFault.{DirectiveFault}
+use Rattle.cost_directives.specs.declared.fault.DirectiveFault.TheVariants.{Memory as NoWeights}
+use Rattle.cost_directives.specs.declared.weights.Weights.{Weights}
+use Rattle.cost_directives.specs.DirectiveFaults.{Weighs}
 use Rattle.gateway_run.specs.declared.operation.TheConstants.{SCHEMA_LIMIT}
+use Rattle.gateway_run.specs.declared.checked.TheConstants.{UNDECLARED}
 use Rattle.gateway_run.specs.declared.checked.SchemaRefusal.{SchemaRefusal}
-use Rattle.gateway_run.specs.declared.checked.SchemaRefusal.TheVariants.{TooLarge, NotText, NoSchemaText, Fails}
+use Rattle.gateway_run.specs.declared.checked.SchemaRefusal.TheVariants.{TooLarge, NotText, NoSchemaText, Fails, Misuses}
 use Rattle.gateway_run.specs.declared.checked.CheckFault.{CheckFault}
 use Rattle.gateway_run.specs.declared.checked.CheckFault.TheVariants.{Refused, Memory as CheckMemory}
 use Rattle.gateway_run.specs.declared.outcome.Outcome.{Outcome}
@@ -33,13 +38,22 @@ OfDefinitions bytes P = (definitions : List DefinitionTree) × HoldsDefinitions 
 abbrev pub HoldsChecked : List ℕ → Schema → Type 0
 HoldsChecked bytes schema = OfDefinitions bytes (λ definitions. Builds definitions (Ok schema))
 
+-- Its cost directives pass every test too.
+abbrev pub HoldsWeighed : List ℕ → Schema → Type 0
+HoldsWeighed bytes schema = HoldsChecked bytes schema × ((weights : Weights) × Weighs (schema_data schema) UNDECLARED (Ok weights))
+
+-- It holds a checked schema whose cost directives have this first fault.
+abbrev pub HoldsMisused : List ℕ → DirectiveFault → Type 0
+HoldsMisused bytes fault = (schema : Schema) × HoldsChecked bytes schema × Weighs (schema_data schema) UNDECLARED (Err fault)
+
 -- Why it holds none: it is longer than its limit; it is within, and no text; it is a text with a fault; or it is a schema
--- text, and this is the first test that it doesn't pass.
+-- text, and this is the first test that it doesn't pass, or that its cost directives don't pass.
 abbrev pub IsUnchecked : List ℕ → SchemaRefusal → Type 0
 IsUnchecked bytes TooLarge = SCHEMA_LIMIT < length bytes
 IsUnchecked bytes NotText = (length bytes ≤ SCHEMA_LIMIT) × ¬ IsUtf8 bytes
 IsUnchecked bytes (NoSchemaText fault) = IsText SCHEMA_LIMIT bytes × HasSchemaFault bytes fault
 IsUnchecked bytes (Fails fault) = OfDefinitions bytes (λ definitions. Builds definitions (Err fault)) × (fault ≢ NoMemory)
+IsUnchecked bytes (Misuses fault) = HoldsMisused bytes fault × (fault ≢ NoWeights)
 
 -- where it is a refusal, the file is refused for it
 abbrev pub IfUnchecked : CheckFault → List ℕ → Type 0
@@ -58,11 +72,17 @@ TellsTest fault (Refused (Fails told)) = (told ≡ fault) × (fault ≢ NoMemory
 TellsTest fault (Refused other) = ⊥
 TellsTest fault CheckMemory = fault ≡ NoMemory
 
+-- This test of cost directives is told, and want of memory as such.
+abbrev pub TellsDirective : DirectiveFault → CheckFault → Type 0
+TellsDirective fault (Refused (Misuses told)) = (told ≡ fault) × (fault ≢ NoWeights)
+TellsDirective fault (Refused other) = ⊥
+TellsDirective fault CheckMemory = fault ≡ NoWeights
+
 -- By the bytes that were read: the numbers of the schema's types and fields are the output, or the file is refused, or
 -- there was no memory.
 abbrev pub CheckOf : List ℕ → List ℕ → Outcome → Type 0
 CheckOf name bytes outcome = (outcome ≡ Memory)
-    ⊎ ((schema : Schema) × HoldsChecked bytes schema × IsDone (counts_text (schema_data schema).defined (length (schema_data schema).fields)) outcome)
+    ⊎ ((schema : Schema) × HoldsWeighed bytes schema × IsDone (counts_text (schema_data schema).defined (length (schema_data schema).fields)) outcome)
     ⊎ ((refusal : SchemaRefusal) × IsUnchecked bytes refusal × IsRefusedAs (schema_refusal_text name refusal) outcome)
 
 -- The file was not read, or it was, and came to that.

@@ -4,14 +4,18 @@ ghost use Rattle.std.specs.Prelude.{◌≡◌, IfOk, IfErr};
 ghost use Rattle.schema_reader.specs.SchemaAnswers.{HasSchema};
 ghost use Rattle.schema_reader.specs.Trees.{schema_trees};
 ghost use Rattle.gateway_run.specs.Reading.{IsText};
-ghost use Rattle.gateway_run.specs.Check.{HoldsDefinitions, HoldsChecked, IsUnchecked, IfUnchecked, TellsText, TellsTest};
+ghost use Rattle.gateway_run.specs.Check.{HoldsDefinitions, HoldsChecked, HoldsWeighed, IsUnchecked, IfUnchecked, TellsText, TellsTest, TellsDirective};
 
 use crate::operation::SCHEMA_LIMIT;
+use cost_directives::{DirectiveFault, Weights};
 use gql_base::Text;
 use schema_model::{Schema, SchemaFault};
 use schema_reader::{SchemaText, SchemaTextFault, read_schema_text};
 use std::alloc::Global;
 use thiserror::Error;
+
+/// The size of lists that declare none, where no other is given.
+pub const UNDECLARED: u32 = 10;
 
 /// Why a schema file is refused.
 #[derive(Debug, Drop, Error)]
@@ -28,6 +32,9 @@ pub enum SchemaRefusal {
     /// The schema doesn't pass a test. The fault is not want of memory.
     #[error("the schema doesn't pass a test: {0}")]
     Fails(SchemaFault),
+    /// The cost directives of the schema don't pass a test. The fault is not want of memory.
+    #[error("the cost directives of the schema don't pass a test: {0}")]
+    Misuses(DirectiveFault),
 }
 
 /// Why no schema was checked.
@@ -75,6 +82,16 @@ fn test_fault(fault: SchemaFault) -> CheckFault
     }
 }
 
+// Which test the cost directives of a schema don't pass.
+fn directive_fault(fault: DirectiveFault) -> CheckFault
+    ensures { TellsDirective fault result }
+{
+    match fault {
+        DirectiveFault::Memory => CheckFault::Memory,
+        fault => CheckFault::Refused(SchemaRefusal::Misuses(fault)),
+    }
+}
+
 // The definitions of a text.
 fn definitions_in(alloc: Global, text: &str) -> Result<SchemaText, CheckFault>
     requires text { IsText SCHEMA_LIMIT text.now }
@@ -103,13 +120,29 @@ fn schema_in(alloc: Global, text: &str) -> Result<Schema, CheckFault>
     }
 }
 
-/// The schema that the bytes of a schema file hold, where it passes every test.
+// The same, where its cost directives pass every test too.
+fn weighed_in(alloc: Global, text: &str) -> Result<Schema, CheckFault>
+    requires text { IsText SCHEMA_LIMIT text.now }
+    ensures held { IfOk result (HoldsWeighed text.now) }
+    ensures refused { IfErr result (λ fault. IfUnchecked fault text.now) }
+{
+    let schema = match schema_in(alloc, text) {
+        Ok(schema) => schema,
+        Err(fault) => return Err(fault),
+    };
+    match Weights::build(alloc, &schema, UNDECLARED) {
+        Ok(_) => Ok(schema),
+        Err(fault) => Err(directive_fault(fault)),
+    }
+}
+
+/// The schema that the bytes of a schema file hold, where it and its cost directives pass every test.
 pub fn checked_schema(alloc: Global, read: Vec<u8>) -> Result<Schema, CheckFault>
-    ensures held { IfOk result (HoldsChecked read.items) }
+    ensures held { IfOk result (HoldsWeighed read.items) }
     ensures refused { IfErr result (λ fault. IfUnchecked fault read.items) }
 {
     match schema_text_of(read) {
-        Ok(text) => schema_in(alloc, text.as_str()),
+        Ok(text) => weighed_in(alloc, text.as_str()),
         Err(refusal) => Err(CheckFault::Refused(refusal)),
     }
 }

@@ -11,7 +11,9 @@ use thiserror::Error;
 #[derive(Drop)]
 pub enum Command {
     /// Says how many types and fields a schema has, or which test it doesn't pass.
-    Check { schema: Text },
+    Check {
+        schema: Text,
+    },
     /// Says what an operation costs at most.
     Price {
         schema: Text,

@@ -1,15 +1,20 @@
 //! The texts of why a schema is refused.
 
-ghost use Rattle.gateway_run.specs.SchemaTexts.{schema_text_text, schema_fault_text, schema_refusal_text};
+ghost use Rattle.gateway_run.specs.SchemaTexts.{schema_text_text, schema_fault_text, weight_fault_text, directive_fault_text, schema_refusal_text};
+ghost use Rattle.std.specs.Prelude.{◌≡◌, IfOk, string_bytes};
 ghost use Rattle.gateway_run.specs.Outcomes.{IsRefusedAs};
 
 use crate::checked::SchemaRefusal;
 use crate::outcome::Outcome;
-use crate::texts::{refused_as, refused_at, refused_lexical, refused_naming};
+use crate::texts::{
+    placed, refused_as, refused_at, refused_lexical, refused_naming, refused_naming_both,
+};
+use cost_directives::DirectiveFault;
+use cost_num::WeightFault;
 use gql_base::Text;
 use schema_model::SchemaFault;
 use schema_reader::SchemaTextFault;
-use std::alloc::Global;
+use std::alloc::{AllocError, Global};
 
 // The outcome of a text that is no schema text.
 fn refused_text(alloc: Global, fault: SchemaTextFault) -> Outcome
@@ -49,6 +54,62 @@ fn refused_test(alloc: Global, fault: SchemaFault) -> Outcome
     }
 }
 
+// What is wrong with the text of a weight.
+fn weight_told(alloc: Global, fault: WeightFault) -> Result<Text, AllocError>
+    ensures { IfOk result (λ told. told ≡ weight_fault_text fault) }
+{
+    match fault {
+        WeightFault::Empty => Text::copy_of(alloc, "1 Empty"),
+        WeightFault::Negative => Text::copy_of(alloc, "2 Negative"),
+        WeightFault::Exponent => Text::copy_of(alloc, "3 Exponent"),
+        WeightFault::BadDigit { at } => Ok(Text::from(placed(alloc, "4 BadDigit", at)?)),
+        WeightFault::TooFine { at } => Ok(Text::from(placed(alloc, "5 TooFine", at)?)),
+        WeightFault::TooLarge => Text::copy_of(alloc, "6 TooLarge"),
+    }
+}
+
+// The outcome of a weight at this place that is none.
+fn refused_weight(alloc: Global, place: &Text, fault: WeightFault) -> Outcome
+    ensures { IsRefusedAs (directive_fault_text (DirectiveFault.Weight place.now fault)) result }
+{
+    match weight_told(alloc, fault) {
+        Ok(told) => refused_naming_both(alloc, "directive 1 Weight", place, &told),
+        Err(_) => Outcome::Memory,
+    }
+}
+
+// The outcome of a schema whose cost directives don't pass a test.
+fn refused_directive(alloc: Global, fault: DirectiveFault) -> Outcome
+    ensures { IsRefusedAs (directive_fault_text fault) result }
+{
+    match fault {
+        DirectiveFault::Weight { place, fault } => refused_weight(alloc, &place, fault),
+        DirectiveFault::NotAList { place } => {
+            refused_naming(alloc, "directive 2 NotAList", &place)
+        }
+        DirectiveFault::Dotted { place } => refused_naming(alloc, "directive 3 Dotted", &place),
+        DirectiveFault::SlicingUnknown { place, name } => {
+            refused_naming_both(alloc, "directive 4 SlicingUnknown", &place, &name)
+        }
+        DirectiveFault::SlicingNotInt { place, name } => {
+            refused_naming_both(alloc, "directive 5 SlicingNotInt", &place, &name)
+        }
+        DirectiveFault::SizedOnList { place } => {
+            refused_naming(alloc, "directive 6 SizedOnList", &place)
+        }
+        DirectiveFault::SizedUnknown { place, name } => {
+            refused_naming_both(alloc, "directive 7 SizedUnknown", &place, &name)
+        }
+        DirectiveFault::NegativeSize { place } => {
+            refused_naming(alloc, "directive 8 NegativeSize", &place)
+        }
+        DirectiveFault::Disagree { place } => {
+            refused_naming(alloc, "directive 9 Disagree", &place)
+        }
+        DirectiveFault::Memory => Outcome::Memory,
+    }
+}
+
 /// The outcome of a schema file of this name that is refused.
 pub fn refused_schema(alloc: Global, name: &Text, refusal: SchemaRefusal) -> Outcome
     ensures { IsRefusedAs (schema_refusal_text name.now refusal) result }
@@ -58,5 +119,6 @@ pub fn refused_schema(alloc: Global, name: &Text, refusal: SchemaRefusal) -> Out
         SchemaRefusal::NotText => refused_naming(alloc, "input 2 NotText", name),
         SchemaRefusal::NoSchemaText(fault) => refused_text(alloc, fault),
         SchemaRefusal::Fails(fault) => refused_test(alloc, fault),
+        SchemaRefusal::Misuses(fault) => refused_directive(alloc, fault),
     }
 }

@@ -78,6 +78,24 @@ pub fn refused_naming(alloc: Global, text: &str, name: &Text) -> Outcome
     }
 }
 
+// A text and two names after it.
+fn named_twice(alloc: Global, text: &str, name: &Text, other: &Text) -> Result<String, AllocError>
+    ensures { IfOk result (λ told. string_bytes told ≡ naming (naming text.now name.now) other.now) }
+{
+    let first = named(alloc, text, name)?;
+    named(alloc, first.as_str(), other)
+}
+
+/// The outcome of a refusal with this text, a place and a name.
+pub fn refused_naming_both(alloc: Global, text: &str, place: &Text, name: &Text) -> Outcome
+    ensures { IsRefusedAs (naming (naming text.now place.now) name.now) result }
+{
+    match named_twice(alloc, text, place, name) {
+        Ok(text) => Outcome::Refused(Text::from(text)),
+        Err(_) => Outcome::Memory,
+    }
+}
+
 /// The outcome of a text that isn't made of tokens, in this stage.
 pub fn refused_lexical(alloc: Global, stage: &str, fault: LexFault) -> Outcome
     ensures { IsRefusedAs (stage.now ++ lexical_text fault) result }

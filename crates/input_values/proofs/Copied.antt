@@ -1,15 +1,12 @@
 -- What was copied, and what is left, are the whole.
-use Rattle.std.proofs.Common.{◌≡◌, ◌+◌, ◌<◌, ◌≤◌, ℕ, suc, List, [], ◌∷◌, ◌++◌, length, map, drop, get_or, Vec, Global, sym, ap, ◌∙◌, arith, drop-cons, append_assoc, append-nil}
+use Rattle.std.proofs.Common.{◌≡◌, ◌+◌, ◌<◌, ◌≤◌, ℕ, List, [], ◌∷◌, ◌++◌, length, map, drop, get_or, Vec, Global, sym, ap, ◌∙◌, append_assoc, append-nil}
 use Rattle.std.proofs.lemmas.List.{drop_all, map-append}
+use Rattle.gql_base.proofs.Lists.{at_front}
 use Rattle.input_values.specs.declared.values.coerced.Coerced.{Coerced}
 use Rattle.input_values.specs.declared.values.coerced.CoercedField.{CoercedField}
 use Rattle.input_values.specs.declared.values.coerced.Coerced.TheViews.{List as ListValue, Object as ObjectValue}
 use Rattle.input_values.specs.values.Coerced.{coerced_list, coerced_object, coerced_tree, named_tree, trees_from, named_trees_from}
 use Rattle.input_values.proofs.CoercedTrees.{list_made, object_made}
-
--- the item at a place, and those after it
-pub at_front : {A : Type 0} (xs : List A) (at : ℕ) (x : A) → at < length xs → x ≡ get_or xs at x → drop at xs ≡ x ∷ drop (at + 1) xs
-at_front xs at x within is = let next : suc at ≡ at + 1 = omega arith in drop-cons xs at x within ∙ (ap (λ y. y ∷ drop (suc at) xs) (sym is) ∙ ap (λ n. x ∷ drop n xs) next)
 
 pub one_copied : {A B : Type 0} (view : A → B) (done more xs : List A) (at : ℕ) (x y : A) → at < length xs → x ≡ get_or xs at x → view y ≡ view x → more ≡ done ++ y ∷ []
     → map view done ++ map view (drop at xs) ≡ map view xs → map view more ++ map view (drop (at + 1) xs) ≡ map view xs

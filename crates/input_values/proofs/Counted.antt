@@ -7,7 +7,7 @@ use Rattle.input_values.specs.declared.values.coerced.Coerced.TheViews.{List as 
 use Rattle.input_values.specs.values.Coerced.{coerced_tree, named_tree, trees_from, named_trees_from, nodes, item_nodes, field_nodes}
 use Rattle.input_values.specs.values.Counting.{counted}
 use Rattle.input_values.proofs.CoercedTrees.{list_made, object_made, field_opened}
-use Rattle.input_values.proofs.Copied.{at_front}
+use Rattle.gql_base.proofs.Lists.{at_front}
 
 abbrev nodes_in : List Coerced → ℕ
 nodes_in vs = item_nodes (trees_from (map coerced_tree vs))

@@ -13,3 +13,4 @@ pub mod Kinds
 pub mod Calls
 pub mod Left
 pub mod Sizes
+pub mod Written

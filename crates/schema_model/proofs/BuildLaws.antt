@@ -1,10 +1,10 @@
 -- What a text builds is one thing.
 use Rattle.std.proofs.Common.{◌≡◌, ◌⊎◌, inl, inr, ℕ, List, Option, None, Some, Ok, Err, refl, sym, ap, ◌∙◌, subst}
+use Rattle.std.proofs.lemmas.Option.{none-some, same_Some}
 use Rattle.input_values.specs.coercion.Forms.{InputForm}
 use Rattle.input_values.specs.defaults.Drafts.{AreFilled}
 use Rattle.input_values.proofs.FillingSteps.OneFilling.{one_filling}
 use Rattle.schema_reader.specs.Schemas.{DefinitionTree}
-use Rattle.schema_rules.specs.Places.{PlaceTree}
 use Rattle.schema_rules.specs.Items.{ItemTree, items_of}
 use Rattle.schema_rules.specs.TypeNames.{NamedKind, types_of}
 use Rattle.schema_model.specs.Drafts.{TypeDraft, drafts_of}
@@ -31,14 +31,8 @@ saying (is_empty name) = EmptyType name
 saying (is_not_implemented place) = NotImplemented place
 saying (has_bad_directive place) = BadDirective place
 
-differ : {A : Type 0} (x : A) → None ≡ Some x → ⊥
-differ x e = cc
-
 none_some : {A B : Type 0} (o : Option A) (x : A) → o ≡ None → o ≡ Some x → B
-none_some o x none some = absurd (differ x (sym none ∙ some))
-
-some_same : {A : Type 0} (x y : A) → Some x ≡ Some y → x ≡ y
-some_same x y e = cc
+none_some o x none some = absurd (none-some x (sym none ∙ some))
 
 module _ (types : List NamedKind) (drafts : List TypeDraft) (items : List ItemTree) where
   abbrev HasBad : List ℕ → Type 0
@@ -78,12 +72,12 @@ module _ (types : List NamedKind) (drafts : List TypeDraft) (items : List ItemTr
   same_told : (one other : SchemaFault) → IsTold one → IsTold other → one ≡ other
   same_told one other a b = elim a [
     | inl f ↦ elim b [
-      | inl g ↦ f.2 ∙ (ap saying (some_same f.0 g.0 (sym f.1 ∙ g.1)) ∙ sym g.2)
+      | inl g ↦ f.2 ∙ (ap saying (same_Some f.0 g.0 (sym f.1 ∙ g.1)) ∙ sym g.2)
       | inr g ↦ none_some (fault_with types drafts items) f.0 g.2 f.1
     ]
     | inr f ↦ elim b [
       | inl g ↦ none_some (fault_with types drafts items) g.0 f.2 g.1
-      | inr g ↦ f.1 ∙ (ap BadDefault (some_same f.0 g.0 (sym (f.3).2 ∙ one_place (f.3).0 (f.3).1 g.0 g.3)) ∙ sym g.1)
+      | inr g ↦ f.1 ∙ (ap BadDefault (same_Some f.0 g.0 (sym (f.3).2 ∙ one_place (f.3).0 (f.3).1 g.0 g.3)) ∙ sym g.1)
     ]
   ]
 

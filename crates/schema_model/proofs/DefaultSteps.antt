@@ -1,5 +1,5 @@
 -- The test of defaults, after all others.
-use Rattle.std.proofs.Common.{◌≡◌, ℕ, List, Option, None, Some, Result, Ok, Err}
+use Rattle.std.proofs.Common.{◌≡◌, ℕ, List, None, Result, Ok, Err}
 use Rattle.input_values.specs.coercion.Forms.{InputForm}
 use Rattle.input_values.specs.defaults.Drafts.{AreFilled}
 use Rattle.schema_rules.specs.Items.{ItemTree}
@@ -9,7 +9,7 @@ use Rattle.schema_model.specs.Defaults.{all_asked}
 use Rattle.schema_model.specs.declared.schema.Schema.{Schema}
 use Rattle.schema_model.specs.declared.fault.SchemaFault.{SchemaFault}
 use Rattle.schema_model.specs.declared.fault.SchemaFault.TheVariants.{TooMany, Repeated, Reserved, UnknownType, NoQuery, WrongKind, FloatScalar, NestedList, EmptyType, NotImplemented, BadDirective, BadDefault, Memory}
-use Rattle.schema_model.specs.Faults.{FaultTree, IsFault, fault_with, EndsWith, FailsWith, BuildsWith}
+use Rattle.schema_model.specs.Faults.{IsFault, fault_with, EndsWith, FailsWith, BuildsWith}
 
 -- another test than that of defaults fails
 pub fails : (types : List NamedKind) (drafts : List TypeDraft) (items : List ItemTree) (fault : SchemaFault) → IsFault fault (fault_with types drafts items) → FailsWith types drafts items fault

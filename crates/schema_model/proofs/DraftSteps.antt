@@ -1,5 +1,5 @@
 -- Drafts, one after another, and the numbers of fields.
-use Rattle.std.proofs.Common.{ℕ, suc, ◌≡◌, ◌<◌, ◌≤◌, ◌+◌, ◌-◌, ◌++◌, List, [], ◌∷◌, length, map, drop, refl, sym, ap, ◌∙◌, arith, append_assoc}
+use Rattle.std.proofs.Common.{ℕ, suc, ◌≡◌, ◌<◌, ◌≤◌, ◌+◌, ◌-◌, ◌++◌, List, [], ◌∷◌, length, map, drop, sym, ap, ◌∙◌, arith, append_assoc}
 use Rattle.std.proofs.lemmas.List.{drop_all, append-nil, drop-map, length-map, length-append}
 use Rattle.input_values.specs.coercion.Forms.{InputForm}
 use Rattle.schema_rules.specs.declared.type_names.TypeName.{TypeName}

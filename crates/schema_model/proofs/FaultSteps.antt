@@ -1,5 +1,5 @@
 -- The first fault of several tests.
-use Rattle.std.proofs.Common.{◌≡◌, Option, None, Some, sym, ap, subst, Result, Ok, Err, List}
+use Rattle.std.proofs.Common.{◌≡◌, Option, sym, ap, subst, Result, Ok, Err, List}
 use Rattle.schema_rules.specs.First.{or_else}
 use Rattle.schema_reader.specs.Schemas.{DefinitionTree}
 use Rattle.schema_rules.specs.Items.{ItemTree, items_of}

@@ -5,7 +5,7 @@ use Rattle.std.proofs.lemmas.Option.{slice_get-map}
 use Rattle.gql_base.specs.names.Names.{has_name}
 use Rattle.input_values.specs.declared.inputs.definition.InputDef.{InputDef}
 use Rattle.input_values.specs.inputs.Definitions.{input_data}
-use Rattle.input_values.specs.coercion.Forms.{FieldForm, is_field, field_form}
+use Rattle.input_values.specs.coercion.Forms.{is_field, field_form}
 pub use Rattle.input_values.proofs.FillingSteps.Tables.{no_fields, no_names}
 
 pub has_asked : (inputs : List InputDef) (name : List ℕ) → is_field (map field_form (map input_data inputs)) name ≡ has_name (λ i. i.name) inputs name

@@ -1,5 +1,5 @@
 -- Comparing shapes, level after level.
-use Rattle.std.proofs.Common.{ℕ, Bool, List, ◌≡◌, sym, ap₂, ◌∙◌}
+use Rattle.std.proofs.Common.{Bool, List, ◌≡◌, sym, ap₂, ◌∙◌}
 use Rattle.input_values.specs.inputs.Shapes.{ShapeTree}
 use Rattle.schema_model.specs.Drafts.{TypeDraft}
 use Rattle.schema_model.specs.Implementing.{is_narrower, is_same}

@@ -1,24 +1,24 @@
 -- The types of a schema ask what those of its text ask, with the defaults filled.
-use Rattle.std.proofs.Common.{◌≡◌, ◌+◌, ℕ, zero, suc, Bool, true, false, List, [], ◌∷◌, ◌++◌, map, length, get_or, Option, None, Some, Ok, Err, refl, sym, ap, ap₂, ◌∙◌, subst}
+use Rattle.std.proofs.Common.{◌≡◌, ◌+◌, ℕ, zero, suc, Bool, true, false, true≢false, List, [], ◌∷◌, ◌++◌, map, length, get_or, Option, None, Some, Ok, Err, refl, sym, ap, ap₂, ◌∙◌, subst}
 use Rattle.std.specs.Prelude.{slice_get}
-use Rattle.std.specs.List.{flat_map}
 use Rattle.std.proofs.Math.Path.{fun_ext}
+use Rattle.std.proofs.lemmas.Option.{none-some}
 use Rattle.gql_base.specs.parts.Values.{ValueTree}
 use Rattle.gql_base.specs.parts.Arguments.{DirectiveTree}
 use Rattle.input_values.specs.values.Coerced.{CoercedTree}
 use Rattle.input_values.specs.inputs.Shapes.{ShapeTree}
 use Rattle.input_values.specs.coercion.Answers.{Answer}
-use Rattle.input_values.specs.coercion.Forms.{Absence, absence_at, InputForm, object_form, field_form}
+use Rattle.input_values.specs.coercion.Forms.{absence_at, InputForm, object_form, field_form}
 use Rattle.input_values.specs.defaults.Drafts.{default_value, default_absence, draft_absence, filled_field, filled_form, AreFilled}
 use Rattle.schema_reader.specs.Schemas.{InputDefTree, BodyTree, schema_body, scalar_body, object_body, interface_body, union_body, enum_body, input_body, directive_body, DefinitionTree}
 use Rattle.schema_rules.specs.declared.kind.Kind.{Kind}
 use Rattle.schema_rules.specs.declared.kind.Kind.TheVariants.{Scalar, Object, Interface, Union, Enum, Input}
 use Rattle.schema_rules.specs.Items.{ItemTree, input_field_item, body_items, definition_items, items_of}
 use Rattle.schema_rules.specs.TypeNames.{NamedKind, types_of}
-use Rattle.schema_rules.specs.First.{told, first_of, AreGood}
+use Rattle.schema_rules.specs.First.{told, AreGood}
 use Rattle.schema_rules.proofs.FirstFaults.{none_are_good}
 use Rattle.schema_model.specs.Drafts.{InputDraft, TypeDraft, input_draft, body_draft, definition_draft, scalar_draft, defined_drafts, drafts_of}
-use Rattle.schema_model.specs.Defaults.{asked_field, asked_by, asked_or, all_asked, text_asks, value_in, default_of}
+use Rattle.schema_model.specs.Defaults.{asked_field, asked_by, asked_or, text_asks, value_in, default_of}
 use Rattle.schema_model.specs.BadDefault.{lacks_value, is_bad_draft, bad_default_at, bad_default}
 use Rattle.schema_model.specs.Schemas.{input_of, type_with, types_from, no_type, schema_with}
 use Rattle.schema_model.specs.SchemaViews.{schema_data}
@@ -26,17 +26,8 @@ use Rattle.schema_model.specs.InputForms.{form_by, type_form, input_forms, schem
 use Rattle.schema_model.specs.declared.schema.Schema.{Schema}
 use Rattle.schema_model.specs.Faults.{Builds}
 
-true_false : {B : Type 0} → true ≡ false → B
-true_false e = absurd (differ e)
-  where
-    differ : true ≡ false → ⊥
-    differ h = cc
-
 told_none : {F : Type 0} (b : Bool) (fault : F) → told b fault ≡ None → b ≡ false
-told_none true fault none = absurd (differ fault none)
-  where
-    differ : {G : Type 0} (g : G) → Some g ≡ None → ⊥
-    differ g h = cc
+told_none true fault none = absurd (none-some fault (sym none))
 told_none false fault none = refl
 
 module _ (form : ℕ → InputForm) where
@@ -53,7 +44,7 @@ module _ (form : ℕ → InputForm) where
 
   by_value : (literal : ValueTree) (shape : ShapeTree) (a : Answer CoercedTree) → lacks_value (Some literal) (value_in a) ≡ false → absence_at (value_in a) shape ≡ default_absence a
   by_value literal shape (Ok t) good = refl
-  by_value literal shape (Err path) good = true_false good
+  by_value literal shape (Err path) good = absurd (true≢false good)
 
   absence_alike : (shape : ShapeTree) (default : Option ValueTree) → lacks_value default (default_of form shape default) ≡ false → absence_at (default_of form shape default) shape ≡ draft_absence (default_value form) shape default
   absence_alike shape None good = refl

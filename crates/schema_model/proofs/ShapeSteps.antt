@@ -6,7 +6,7 @@ use Rattle.gql_base.specs.declared.parts.trees.TypeRef.TheBlock.{Named}
 use Rattle.gql_base.specs.declared.parts.trees.TypeRef.TheViews.{ListOf, NonNull}
 use Rattle.gql_base.specs.parts.Trees.{type_tree}
 use Rattle.gql_base.proofs.PartLaws.ValueSteps.{list_type_tree, non_null_tree, named_type_tree}
-use Rattle.input_values.specs.inputs.Shapes.{ShapeTree, named_shape, list_shape}
+use Rattle.input_values.specs.inputs.Shapes.{named_shape, list_shape}
 use Rattle.input_values.proofs.ShapeTrees.{named_made, list_made}
 use Rattle.schema_rules.specs.TypeNames.{NamedKind}
 use Rattle.schema_model.specs.Drafts.{shape_in, number_named}

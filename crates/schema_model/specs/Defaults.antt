@@ -1,6 +1,6 @@
 -- The defaults of a schema text (GraphQL October 2021, 3.6.1 and 3.10): what its types ask of the values that are given for
 -- them, and what the literal of a default comes to beside them.
-use Rattle.std.specs.Prelude.{ℕ, List, map, slice_get, Option, None, Some, Result, Ok, Err}
+use Rattle.std.specs.Prelude.{ℕ, List, map, slice_get, Option, None, Some, Ok, Err}
 use Rattle.gql_base.specs.parts.Values.{ValueTree}
 use Rattle.input_values.specs.values.Coerced.{CoercedTree}
 use Rattle.input_values.specs.inputs.Shapes.{ShapeTree}

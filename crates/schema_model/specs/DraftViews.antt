@@ -1,10 +1,5 @@
 -- What the drafts of the program stand for.
-use Rattle.std.specs.Prelude.{◌≡◌, ℕ, ◌<◌, Bool, true, false, nat_eq, get_or, List, [], ◌∷◌, length, map, Option, None, Some}
-use Rattle.std.specs.List.{list_any}
-use Rattle.std.specs.Borrow.{Bor}
-use Rattle.gql_base.specs.declared.parts.trees.Value.{Value}
-use Rattle.gql_base.specs.parts.Trees.{value_tree, named_value}
-use Rattle.gql_base.specs.parts.Values.{ValueTree}
+use Rattle.std.specs.Prelude.{List, [], ◌∷◌, map, Option, None, Some}
 use Rattle.input_values.specs.inputs.Shapes.{shape_tree}
 use Rattle.input_values.specs.defaults.Filling.{literal_seen}
 use Rattle.schema_rules.specs.Views.{maybe_name, maybe_arguments}

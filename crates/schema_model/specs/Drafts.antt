@@ -5,7 +5,6 @@ use Rattle.std.specs.List.{flat_map}
 use Rattle.gql_base.specs.names.Names.{place_of_name}
 use Rattle.gql_base.specs.parts.Values.{ValueTree, NamedValue}
 use Rattle.gql_base.specs.parts.TypeReferences.{TypeTree, named_type, list_type, non_null_type}
-use Rattle.gql_base.specs.parts.Arguments.{DirectiveTree}
 use Rattle.input_values.specs.inputs.Shapes.{ShapeTree, named_shape, list_shape}
 use Rattle.schema_reader.specs.Schemas.{NameText, InputDefTree, FieldDefTree, EnumValueTree, BodyTree, schema_body, scalar_body, object_body, interface_body, union_body, enum_body, input_body, directive_body, DefinitionTree}
 use Rattle.schema_rules.specs.declared.kind.Kind.{Kind}

@@ -4,7 +4,8 @@ use Rattle.std.specs.Global.{Global}
 use Rattle.std.specs.Borrow.{Bor}
 use Rattle.input_values.specs.declared.inputs.shape.TypeId.{TypeId}
 use Rattle.input_values.specs.inputs.Shapes.{shape_tree}
-use Rattle.input_values.specs.inputs.Definitions.{input_data}
+use Rattle.input_values.specs.declared.inputs.definition.InputDef.{InputDef}
+use Rattle.input_values.specs.inputs.Definitions.{InputData, input_data}
 use Rattle.schema_model.specs.declared.entries.FieldId.{FieldId}
 use Rattle.schema_model.specs.declared.entries.ListSize.{ListSize}
 use Rattle.schema_model.specs.declared.entries.FieldEntry.{FieldEntry}
@@ -26,8 +27,12 @@ abbrev pub maybe_text : Option (Bor (List ℕ)) → Option (List ℕ)
 maybe_text None = None
 maybe_text (Some t) = Some t.now
 
+abbrev pub maybe_input : Option (Bor InputDef) → Option InputData
+maybe_input None = None
+maybe_input (Some i) = Some (input_data i.now)
+
 abbrev pub field_data : FieldEntry → FieldData
-field_data f = record { name = f.name; owner = f.owner.number; shape = shape_tree f.shape; arguments = map input_data f.arguments.items; cost = f.cost; size = option_map size_data f.size }
+field_data f = record { name = f.name; owner = f.owner.number; shape = shape_tree f.shape; arguments = map input_data f.arguments.items.items; cost = f.cost; size = option_map size_data f.size }
 
 abbrev pub type_data : TypeEntry → TypeData
 type_data t = record { name = t.name; kind = t.kind; names = t.names.items.items; fields = map field_number t.fields.items; interfaces = map type_number t.interfaces.items; members = map type_number t.members.items; values = t.values.items.items; inputs = map input_data t.inputs.items.items; cost = t.cost }

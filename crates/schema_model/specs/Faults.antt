@@ -1,6 +1,6 @@
 -- The first fault of a schema text, by the order of the tests, and within a test by the order of the text; and the schema
 -- that a text says.
-use Rattle.std.specs.Prelude.{◌≡◌, ℕ, Bool, List, Option, None, Some, Result, Ok, Err, option_map}
+use Rattle.std.specs.Prelude.{◌≡◌, ℕ, List, Option, None, Some, Result, Ok, Err, option_map}
 use Rattle.schema_reader.specs.Schemas.{DefinitionTree}
 use Rattle.schema_rules.specs.Places.{PlaceTree, place_text}
 use Rattle.schema_rules.specs.Items.{ItemTree, items_of}

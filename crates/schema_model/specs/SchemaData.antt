@@ -1,8 +1,7 @@
 -- A checked schema, as contracts see it. Types and fields stand at their numbers.
 use Rattle.std.specs.Prelude.{ℕ, ◌+◌, ℤ, Bool, true, false, nat_eq, List, [], ◌∷◌, get_or, Option, None, Some, if◌then◌else◌}
 use Rattle.std.specs.List.{list_any}
-use Rattle.std.specs.Str.{bytes_eq}
-use Rattle.gql_base.specs.names.Names.{place_of_name}
+use Rattle.gql_base.specs.names.Names.{first_of_name, place_of_name}
 use Rattle.input_values.specs.inputs.Shapes.{ShapeTree}
 use Rattle.input_values.specs.inputs.Definitions.{InputData}
 use Rattle.schema_rules.specs.declared.kind.Kind.{Kind}
@@ -72,6 +71,16 @@ same_text name = name
 -- the number of the field of this name
 abbrev pub field_named : SchemaData → ℕ → List ℕ → Option ℕ
 field_named s of name = number_at (type_at s of).fields (place_of_name same_text (type_at s of).names name)
+
+abbrev pub input_name : InputData → List ℕ
+input_name i = i.name
+
+-- the argument of this name, and the field of an input object
+abbrev pub argument_named : SchemaData → ℕ → List ℕ → Option InputData
+argument_named s of name = first_of_name input_name (field_at s of).arguments name
+
+abbrev pub input_field_named : SchemaData → ℕ → List ℕ → Option InputData
+input_field_named s of name = first_of_name input_name (type_at s of).inputs name
 
 abbrev pub root_of : SchemaData → Bool → Option ℕ
 root_of s true = s.mutation

@@ -1,5 +1,5 @@
 -- What a schema of the program stands for.
-use Rattle.std.specs.Prelude.{ℕ, List, map, Option, option_map}
+use Rattle.std.specs.Prelude.{map, option_map}
 use Rattle.schema_model.specs.declared.schema.Schema.{Schema}
 use Rattle.schema_model.specs.Numbers.{type_number}
 use Rattle.schema_model.specs.SchemaData.{SchemaData}

@@ -25,7 +25,7 @@ pub struct FieldEntry {
     pub name: Text,
     pub owner: TypeId,
     pub shape: Shape,
-    pub arguments: Vec<InputDef>,
+    pub arguments: Indexed<InputDef>,
     /// The text of the weight of its own `@cost`.
     pub cost: Option<Text>,
     /// Its own `@listSize`.

@@ -68,11 +68,12 @@ fn field_of<T: InputTypes>(
 ) -> Result<FieldEntry, AllocError>
     ensures { IfOk result (λ f. field_data f ≡ field_of (T.forms forms.now) owner (field_view field.now)) }
 {
+    let arguments = inputs_of(alloc, forms, field.arguments.items())?;
     Ok(FieldEntry {
         name: Text::copy_of(alloc, field.name)?,
         owner: TypeId { number: owner },
         shape: copy_shape(alloc, &field.shape)?,
-        arguments: inputs_of(alloc, forms, field.arguments.items())?,
+        arguments: index_owned(alloc, arguments)?,
         cost: maybe_copy(alloc, field.cost)?,
         size: maybe_size(alloc, field.size)?,
     })
@@ -237,7 +238,7 @@ pub fn no_field(alloc: Global) -> Result<FieldEntry, AllocError>
             of: TypeId { number: 0 },
             nullable: true,
         },
-        arguments: Vec::new(alloc),
+        arguments: index_owned(alloc, Vec::new(alloc))?,
         cost: None,
         size: None,
     })

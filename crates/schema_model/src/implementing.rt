@@ -3,7 +3,7 @@
 
 ghost use Rattle.std.specs.Prelude.{◌≡◌, map, nat_eq, IfOk, not};
 ghost use Rattle.std.specs.List.{list_any, list_all};
-ghost use Rattle.input_values.specs.inputs.Shapes.{shape_tree, level_tree, is_nullable};
+ghost use Rattle.input_values.specs.inputs.Shapes.{shape_tree, level_tree};
 ghost use Rattle.schema_rules.specs.First.{first_of};
 ghost use Rattle.schema_rules.specs.Views.{maybe_name, maybe_place};
 ghost use Rattle.schema_model.specs.Implementing.{draft_at, is_kind_of, is_no_looser, is_narrower, agree, is_same, has_argument, may_be_there, is_implemented, has_field, names_all, lacks_interfaces, lacking_at, lacking_of, lacking_field, in_type, lack_at, not_implemented};
@@ -13,6 +13,7 @@ ghost use Rattle.schema_model.specs.DraftViews.{input_view, field_view, type_vie
 use crate::draft_types::{DraftField, DraftInput, DraftType};
 use crate::marks::{Marked, has_number, with_marks};
 use gql_base::Indexed;
+use input_values::places::is_nullable;
 use input_values::{Shape, ShapeLevel, TypeId, shape_level};
 use schema_rules::Place;
 use std::alloc::{AllocError, Global};
@@ -123,15 +124,6 @@ fn has_arguments(own: &Indexed<DraftInput<'_>>, wanted: &[DraftInput<'_>]) -> bo
         }
     }
     true
-}
-
-fn is_nullable(shape: &Shape) -> bool
-    ensures { result ≡ is_nullable (shape_tree shape.now) }
-{
-    match shape_level(shape) {
-        ShapeLevel::Named { of: _, nullable } => nullable,
-        ShapeLevel::ListOf { item: _, nullable } => nullable,
-    }
 }
 
 // Whether an argument is one of those wanted, or may be left out.

@@ -3,18 +3,18 @@
 
 ghost use Rattle.std.specs.Prelude.{◌≡◌, map, option_map, length, get_or};
 ghost use Rattle.std.specs.List.{list_any};
-ghost use Rattle.gql_base.specs.names.Names.{has_name};
+ghost use Rattle.gql_base.specs.names.Names.{first_of_name, has_name};
 ghost use Rattle.input_values.specs.inputs.Shapes.{shape_tree};
 ghost use Rattle.input_values.specs.inputs.Definitions.{input_data};
-ghost use Rattle.schema_model.specs.SchemaData.{type_at, field_at, type_named, field_named, possible, applies, root_of, same_text, number_at};
+ghost use Rattle.schema_model.specs.SchemaData.{type_at, field_at, type_named, field_named, input_name, argument_named, input_field_named, possible, applies, root_of, same_text, number_at};
 ghost use Rattle.schema_model.specs.Numbers.{type_number};
-ghost use Rattle.schema_model.specs.Entries.{type_data, field_data, field_number, maybe_text, maybe_size};
+ghost use Rattle.schema_model.specs.Entries.{type_data, field_data, field_number, maybe_text, maybe_size, maybe_input};
 ghost use Rattle.schema_model.specs.SchemaViews.{schema_data};
 
 use crate::entries::{FieldEntry, FieldId, ListSize, TypeEntry};
 use crate::marks::has_number;
 use crate::schema::Schema;
-use gql_base::Text;
+use gql_base::{Indexed, Text};
 use input_values::{InputDef, Shape, TypeId};
 use schema_rules::Kind;
 
@@ -56,6 +56,20 @@ impl Schema {
             Some(at) => Some(field_at_place(&entry.fields, at)),
             None => None,
         }
+    }
+
+    /// The argument of this name.
+    pub fn argument(&self, of: FieldId, name: &str) -> Option<&InputDef>
+        ensures { maybe_input result ≡ argument_named (schema_data self.now) of.number name.now }
+    {
+        input_named(&self.field_entry(of).arguments, name)
+    }
+
+    /// The field of this name of an input object type.
+    pub fn input_field(&self, of: TypeId, name: &str) -> Option<&InputDef>
+        ensures { maybe_input result ≡ input_field_named (schema_data self.now) of.number name.now }
+    {
+        input_named(&self.entry(of).inputs, name)
     }
 
     /// The object types of a composite type, in the order of the schema.
@@ -182,7 +196,7 @@ impl Schema {
     pub fn arguments(&self, of: FieldId) -> &[InputDef]
         ensures { map input_data result.now ≡ (field_at (schema_data self.now) of.number).arguments }
     {
-        &self.field_entry(of).arguments
+        self.field_entry(of).arguments.items()
     }
 
     /// The text of the weight of a field's own `@cost`.
@@ -205,6 +219,12 @@ impl Schema {
     {
         self.directives.has(name)
     }
+}
+
+fn input_named<'a>(inputs: &'a Indexed<InputDef>, name: &str) -> Option<&'a InputDef>
+    ensures { maybe_input result ≡ first_of_name input_name (map input_data inputs.now.items.items) name.now }
+{
+    inputs.first_named(name)
 }
 
 fn field_at_place(fields: &[FieldId], at: usize) -> FieldId

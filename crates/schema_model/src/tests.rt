@@ -49,6 +49,8 @@ fn a_schema_has_what_its_text_says(rt: HostRuntime) -> Result<(), Fail> {
     assert!(rt; schema.field(query, "a") == Some(field));
     assert!(rt; schema.applies(TypeId { number: 2 }, query));
     assert!(rt; schema.has_field(object, "n"));
+    assert!(rt; schema.argument(field, "f").is_some());
+    assert!(rt; schema.input_field(object, "n").is_some());
     assert_eq!(rt; default_nodes(schema.arguments(field)), 3);
     schemas_are_shared();
     a_text_with_a_schema_has_no_fault();

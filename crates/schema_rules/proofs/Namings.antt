@@ -6,9 +6,8 @@ use Rattle.std.specs.List.{list_any, filter, position_from}
 use Rattle.std.proofs.lemmas.Bool.{cases_Bool}
 use Rattle.gql_base.proofs.PrintingLaws.PrintSteps.{open_argument}
 use Rattle.gql_base.specs.declared.parts.trees.Argument.{Argument}
-use Rattle.gql_base.specs.declared.parts.trees.Value.TheFolds.{fold_out-Argument}
-use Rattle.gql_base.specs.parts.Trees.{value_tree, named_value, value_step, argument_step}
-use Rattle.gql_base.specs.parts.Values.{ValueTree, NamedValue}
+use Rattle.gql_base.specs.parts.Trees.{value_tree, named_value}
+use Rattle.gql_base.specs.parts.Values.{NamedValue}
 use Rattle.schema_rules.specs.DirectiveUses.{argument_name}
 use Rattle.schema_rules.specs.declared.items.Item.{Item}
 use Rattle.schema_rules.specs.Items.{place_of}

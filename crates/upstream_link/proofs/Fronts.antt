@@ -1,16 +1,13 @@
 -- Heads at the front of bytes.
-use Rattle.std.proofs.Common.{◌≡◌, ℕ, ◌≤◌, inl, List, [], ◌∷◌, ◌++◌, length, drop, refl, sym, ap, subst, arith, Bool, false, Option, None, Ok, Err}
-use Rattle.std.proofs.lemmas.Grind.{common_steps}
+use Rattle.std.proofs.Common.{◌≡◌, ℕ, ◌≤◌, inl, List, [], ◌∷◌, ◌++◌, length, refl, sym, ap, subst, arith, Bool, false, Option, None, Ok, Err}
 use Rattle.std.proofs.lemmas.List.{length-append, length-take, drop-append-le}
 use Rattle.http_fields.proofs.Fronts.{take_grows}
-use Rattle.httparse.specs.declared.spans.HeaderSpan.{HeaderSpan}
 use Rattle.httparse.specs.declared.spans.ResponseSpans.{ResponseSpans}
 use Rattle.httparse.specs.declared.Error.{Error}
 use Rattle.httparse.specs.declared.Status.{Status}
 use Rattle.httparse.specs.declared.Status.TheVariants.{Complete, Partial}
 use Rattle.httparse.specs.Outcome.{IfComplete, OnPartial}
-use Rattle.httparse.specs.Grammar.{Field, ResponseHead, print_response, ReadsResponse}
-use Rattle.httparse.specs.Spans.{AreFieldsAt}
+use Rattle.httparse.specs.Grammar.{ResponseHead, print_response, ReadsResponse}
 use Rattle.httparse.proofs.GrammarLemmas.{ReadsResponse-append}
 use Rattle.upstream_link.specs.declared.fault.LinkFault.{LinkFault}
 use Rattle.upstream_link.specs.declared.fault.LinkFault.TheVariants as fault

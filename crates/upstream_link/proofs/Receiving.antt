@@ -10,15 +10,12 @@ use Rattle.outside.proofs.Taking.{took_none, took_more}
 use Rattle.outside.proofs.Dialling.{last_then}
 use Rattle.upstream_link.specs.Received.{receives, Told, Brings, Received}
 
-or_none : (a b : Bool) → ((a || false) || b) ≡ (a || b)
-or_none a b = ap (λ c. c || b) (or-false a)
-
 receives_none : (d : Dial) → d ≡ receives [] false false d
 receives_none d = λ i. record { sent = d.sent; taken = sym (append-nil d.taken) i; ended = sym (or-false d.ended) i; failed = sym (or-false d.failed) i }
 
 receives_then : (first second : List ℕ) (ended failed : Bool) (d : Dial) → receives second ended failed (receives first false false d) ≡ receives (first ++ second) ended failed d
 receives_then first second ended failed d =
-    λ i. record { sent = d.sent; taken = append_assoc d.taken first second i; ended = or_none d.ended ended i; failed = or_none d.failed failed i }
+    λ i. record { sent = d.sent; taken = append_assoc d.taken first second i; ended = ap (λ a. a || ended) (or-false d.ended) i; failed = ap (λ a. a || failed) (or-false d.failed) i }
 
 takes_receives : (bytes : List ℕ) (ended : Bool) (d : Dial) → takes bytes ended d ≡ receives bytes ended false d
 takes_receives bytes ended d = λ i. record { sent = d.sent; taken = d.taken ++ bytes; ended = d.ended || ended; failed = sym (or-false d.failed) i }

@@ -1,7 +1,7 @@
 -- Answers one after another, up to the first that is refused.
 use Rattle.std.proofs.Common.{◌≡◌, ◌+◌, ◌<◌, ◌≤◌, ℕ, List, [], ◌∷◌, ◌++◌, length, map, drop, get_or, Option, Some, None, Result, Ok, Err, refl, sym, ap, ◌∙◌, append_assoc, append-nil}
 use Rattle.std.proofs.lemmas.List.{drop_all, map-append}
-use Rattle.input_values.proofs.Copied.{at_front}
+use Rattle.gql_base.proofs.Lists.{at_front}
 use Rattle.variable_coercion.specs.Refusals.{Refusal, and_then, all_in_order}
 use Rattle.variable_coercion.specs.Calls.{IsTold}
 

@@ -3,6 +3,7 @@ use Rattle.std.proofs.Common.{◌≡◌, ◌+◌, ◌<◌, ◌≤◌, ℕ, zero,
 use Rattle.std.specs.Ordering.{match_ordering}
 use Rattle.std.specs.Cmp.Lexicographic.{slice_cmp}
 use Rattle.std.proofs.lemmas.List.{drop_all}
+use Rattle.std.proofs.lemmas.Option.{none-some}
 use Rattle.std.proofs.lemmas.Cmp.{nat_list_eq_equiv}
 use Rattle.std.proofs.lemmas.Map.Text.{is_eq-slice_cmp}
 use Rattle.serde_json.specs.Data.{Data, unsigned, negative, float, null, boolean, number, string, array, object, Members, no_members, member}
@@ -22,7 +23,7 @@ use Rattle.input_values.specs.coercion.Objects.{Finder, wrong_name, field_at, fi
 use Rattle.input_values.specs.coercion.Coercion.{coerced, items_coerced, find_coerced}
 use Rattle.input_values.specs.coercion.Calls.{Coerces, CoercesField, tree_in}
 use Rattle.input_values.specs.coercion.Left.{ItemsLeft, one_item}
-use Rattle.input_values.proofs.Copied.{at_front}
+use Rattle.gql_base.proofs.Lists.{at_front}
 use Rattle.input_values.proofs.CoercionSteps.Pieces.{item_left, stepped_coerces}
 use Rattle.variable_coercion.specs.Json.{json_given, json_items, json_members}
 use Rattle.variable_coercion.specs.Sizes.{json_size, items_size, members_size}
@@ -127,8 +128,5 @@ smaller_or Equal d e x n is rest = let l = ap size_or is in omega (arith, l)
 smaller_or Greater d e x n is rest = let l = rest is in omega (arith, l)
 
 pub member_smaller : (name : List ℕ) (ms : Members) (d : Data) → Some d ≡ get_member name ms → json_size d < members_size ms
-member_smaller name no_members d is = absurd (differ is)
-  where
-    differ : {A : Type 0} {x : A} → Some x ≡ None → ⊥
-    differ e = cc
+member_smaller name no_members d is = absurd (none-some d (sym is))
 member_smaller name (member other e ms) d is = smaller_or (slice_cmp nat_cmp name other) d e (get_member name ms) (members_size ms) is (member_smaller name ms d)

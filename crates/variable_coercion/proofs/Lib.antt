@@ -3,3 +3,4 @@ pub mod ShapeSteps
 pub mod InOrder
 pub mod Refused
 pub mod Related
+pub mod ValuesByName

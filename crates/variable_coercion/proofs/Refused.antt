@@ -1,14 +1,15 @@
 -- What is told is the first of all that is refused.
-use Rattle.std.proofs.Common.{◌≡◌, ℕ, List, [], ◌∷◌, ◌++◌, map, Bool, true, false, cond, leb, Option, Some, None, Result, Ok, Err, refl, ap, ◌∙◌}
+use Rattle.std.proofs.Common.{◌≡◌, ℕ, List, [], ◌∷◌, ◌++◌, map, Bool, true, false, cond, leb, Option, Some, None, Result, Ok, Err, refl, sym, ap, ◌∙◌}
 use Rattle.std.specs.List.{flat_map}
 use Rattle.std.specs.Option.{option_or}
+use Rattle.std.proofs.lemmas.Option.{none-some, same_Some}
 use Rattle.gql_base.specs.parts.Values.{ValueTree}
 use Rattle.serde_json.specs.Data.{Data}
 use Rattle.serde_json.specs.Find.{get}
 use Rattle.input_values.specs.values.Coerced.{CoercedTree, nodes}
 use Rattle.input_values.specs.inputs.Shapes.{ShapeTree, is_nullable}
 use Rattle.input_values.specs.inputs.Definitions.{InputData}
-use Rattle.input_values.specs.coercion.Answers.{Path, Answer, refusal}
+use Rattle.input_values.specs.coercion.Answers.{Answer, refusal}
 use Rattle.input_values.specs.coercion.Given.{Given, is_nothing}
 use Rattle.input_values.specs.coercion.Forms.{InputForm}
 use Rattle.input_values.specs.coercion.Coercion.{coerced}
@@ -25,20 +26,11 @@ by_size : (why : Unfit → Refusal) (t : CoercedTree) (small : Bool) → first_r
 by_size why t true = refl
 by_size why t false = refl
 
-same_path : (p q : Path) → Some p ≡ Some q → p ≡ q
-same_path p q e = cc
-
 by_place : (why : Unfit → Refusal) (paths : Paths) (a : Answer CoercedTree) → first_path paths ≡ refusal a → first_refusal (map (λ path. why (unfit_at path)) paths ++ size_refusals why a) ≡ refusal_in (given_value why (fitting a))
 by_place why [] (Ok t) e = by_size why t (leb (nodes t) value_limit)
-by_place why [] (Err path) e = absurd (differ path e)
-  where
-    differ : (p : Path) → None ≡ Some p → ⊥
-    differ p h = cc
-by_place why (p ∷ paths) (Ok t) e = absurd (differ p e)
-  where
-    differ : (q : Path) → Some q ≡ None → ⊥
-    differ q h = cc
-by_place why (p ∷ paths) (Err path) e = ap (λ q. Some (why (unfit_at q))) (same_path p path e)
+by_place why [] (Err path) e = absurd (none-some path e)
+by_place why (p ∷ paths) (Ok t) e = absurd (none-some p (sym e))
+by_place why (p ∷ paths) (Err path) e = ap (λ q. Some (why (unfit_at q))) (same_Some p path e)
 
 fitting_first : (why : Unfit → Refusal) (form : ℕ → InputForm) (g : Given) (s : ShapeTree) → first_refusal (fitting_refusals why form g s) ≡ refusal_in (given_value why (fitting (coerced form g s)))
 fitting_first why form g s = by_place why (all_refusals form g s) (coerced form g s) (first_place form g s)
@@ -47,7 +39,7 @@ without_first : (name : List ℕ) (nullable : Bool) → first_refusal (without_r
 without_first name true = refl
 without_first name false = refl
 
-default_first : (form : ℕ → InputForm) (v : Declared) (o : Option ValueTree) → first_refusal (default_refusals form v o) ≡ refusal_in (default_answer form v o)
+default_first : (form : ℕ → InputForm) (v : Declared) (o : Option ValueTree) → first_refusal (default_refusals form v o) ≡ refusal_in (default_answer form v.name v.shape o)
 default_first form v (Some literal) = fitting_first (variable_refusal v.name) form (literal_given no_variables literal) v.shape
 default_first form v None = without_first v.name (is_nullable v.shape)
 

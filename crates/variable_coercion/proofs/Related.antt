@@ -1,6 +1,8 @@
 -- What variables and arguments come to is what the relations say, and nothing else.
 use Rattle.std.proofs.Common.{◌≡◌, ℕ, List, [], ◌∷◌, Bool, true, false, true≢false, cond, leb, Option, Some, None, Result, Ok, Err, refl, sym, ap, ap₂, ◌∙◌}
+use Rattle.std.proofs.lemmas.Option.{none-some, same_Some}
 use Rattle.gql_base.specs.parts.Values.{ValueTree}
+use Rattle.gql_base.proofs.WayLaws.AlikeSymbols.{first_same}
 use Rattle.serde_json.specs.Data.{Data}
 use Rattle.serde_json.specs.Find.{get}
 use Rattle.input_values.specs.values.Coerced.{CoercedTree, nodes}
@@ -29,15 +31,6 @@ value_or d (Err e) = d
 ok_same : {A : Type 0} (x y : A) → okay x ≡ okay y → x ≡ y
 ok_same x y e = ap (value_or x) e
 
-some_same : {A : Type 0} (x y : A) → Some x ≡ Some y → x ≡ y
-some_same x y e = cc
-
-no_some : {A B : Type 0} (x : A) → Some x ≡ None → B
-no_some x e = absurd (differ x e)
-  where
-    differ : {A : Type 0} (x : A) → Some x ≡ None → ⊥
-    differ x e = cc
-
 no_ok : {A B : Type 0} (r : Refusal) (x : A) → Err r ≡ okay x → B
 no_ok r x e = absurd (differ r x e)
   where
@@ -55,9 +48,9 @@ same_tree u t a e f = ap (value_or u) (sym e ∙ f)
 
 sized_iff : (why : Unfit → Refusal) (form : ℕ → InputForm) (g : Given) (s : ShapeTree) (u : CoercedTree) (small : Bool) → coerced form g s ≡ Ok u → leb (nodes u) value_limit ≡ small → (o : Option CoercedTree)
     → Iff (given_value why (cond small (Ok u) (Err unfit_size)) ≡ Ok o) (IsFitting form g s o)
-sized_iff why form g s u true is e None = (λ h. no_some u (ok_same (Some u) None h), λ h. absurd h)
+sized_iff why form g s u true is e None = (λ h. absurd (none-some u (sym (ok_same (Some u) None h))), λ h. absurd h)
 sized_iff why form g s u true is e (Some t) = (
-  λ h. let k = some_same u t (ok_same (Some u) (Some t) h) in ((coerced_iff form g s t).0 (is ∙ ap Ok k), ap (λ x. leb (nodes x) value_limit) (sym k) ∙ e),
+  λ h. let k = same_Some u t (ok_same (Some u) (Some t) h) in ((coerced_iff form g s t).0 (is ∙ ap Ok k), ap (λ x. leb (nodes x) value_limit) (sym k) ∙ e),
   λ h. ap (λ x. Ok (Some x)) (same_tree u t (coerced form g s) is ((coerced_iff form g s t).1 h.0)),
 )
 sized_iff why form g s u false is e None = (λ h. no_ok (why unfit_size) None h, λ h. absurd h)
@@ -80,7 +73,7 @@ without_iff name false o = (λ h. no_ok (missing name) o h, λ h. absurd (true�
 
 -- ## Variables
 
-default_iff : (form : ℕ → InputForm) (v : Declared) (d : Option ValueTree) (o : Option CoercedTree) → Iff (default_answer form v d ≡ Ok o) (IsDefault form v d o)
+default_iff : (form : ℕ → InputForm) (v : Declared) (d : Option ValueTree) (o : Option CoercedTree) → Iff (default_answer form v.name v.shape d ≡ Ok o) (IsDefault form v d o)
 default_iff form v (Some literal) o = fitting_iff (variable_refusal v.name) form (literal_given no_variables literal) v.shape o
 default_iff form v None o = without_iff v.name (is_nullable v.shape) o
 
@@ -131,12 +124,9 @@ no_others = []
 nothing_in_front : {A : Type 0} (x : A) (xs : List A) → no_others ≡ x ∷ xs → ⊥
 nothing_in_front x xs e = cc
 
-front_same : {A : Type 0} (x y : A) (xs ys : List A) → x ∷ xs ≡ y ∷ ys → (x ≡ y) × (xs ≡ ys)
-front_same x y xs ys e = (cc, cc)
-
 both_ok : {A : Type 0} (a : Result A Refusal) (b : Result (List A) Refusal) (y : A) (ys : List A) → Iff (and_then a b ≡ Ok (y ∷ ys)) ((a ≡ Ok y) × (b ≡ Ok ys))
 both_ok (Ok x) (Ok xs) y ys = (
-  λ h. let e = front_same x y xs ys (ok_same (x ∷ xs) (y ∷ ys) h) in (ap Ok e.0, ap Ok e.1),
+  λ h. let e = first_same x y xs ys (ok_same (x ∷ xs) (y ∷ ys) h) in (ap Ok e.0, ap Ok e.1),
   λ h. ap₂ (λ p ps. Ok (p ∷ ps)) (ok_same x y h.0) (ok_same xs ys h.1),
 )
 both_ok (Ok x) (Err r) y ys = (λ h. no_ok r (y ∷ ys) h, λ h. no_ok r ys h.1)

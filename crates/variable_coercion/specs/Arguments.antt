@@ -33,12 +33,16 @@ abbrev pub marked : Bool → Result (Option CoercedTree) Refusal → Result ArgD
 marked supplied (Ok value) = Ok record { value = value; supplied = supplied }
 marked supplied (Err refusal) = Err refusal
 
+abbrev pub supplied_answer : (ℕ → InputForm) → InputData → Given → Result ArgData Refusal
+supplied_answer form i given = marked true (given_value (argument_refusal i.name) (fitting (coerced form given i.shape)))
+
+abbrev pub unsupplied_answer : InputData → Result ArgData Refusal
+unsupplied_answer i = marked false (default_or_none i i.default)
+
 -- An argument that is written is supplied, but for a variable without a value.
 abbrev pub argument_answer : (ℕ → InputForm) → InputData → Option Given → Result ArgData Refusal
-argument_answer form i None = marked false (default_or_none i i.default)
-argument_answer form i (Some given) =
-    if is_nothing given then marked false (default_or_none i i.default)
-    else marked true (given_value (argument_refusal i.name) (fitting (coerced form given i.shape)))
+argument_answer form i None = unsupplied_answer i
+argument_answer form i (Some given) = if is_nothing given then unsupplied_answer i else supplied_answer form i given
 
 -- the arguments that are defined, in their order, where these are written
 abbrev pub defined_answer : SchemaData → List InputData → List Argument → Environment → Result (List ArgData) Refusal

@@ -5,5 +5,6 @@ pub mod Variables
 pub mod Arguments
 pub mod Relation
 pub mod Calls
--- What serves proofs: how large JSON is.
+-- What serves proofs: objects of JSON under way, and how large JSON is.
+pub mod Members
 pub mod Sizes

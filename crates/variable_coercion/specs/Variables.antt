@@ -1,5 +1,6 @@
 -- The values of an operation's variables (GraphQL October 2021, 6.1.2).
 use Rattle.std.specs.Prelude.{ℕ, List, ◌++◌, Bool, true, false, map, Option, Some, None, Result, Ok, Err}
+use Rattle.gql_base.specs.names.Names.{first_of_name}
 use Rattle.gql_base.specs.parts.Values.{ValueTree}
 use Rattle.gql_base.specs.parts.Trees.{type_tree, maybe_value}
 use Rattle.gql_base.specs.parts.TypeReferences.{TypeTree, named_type, list_type, non_null_type}
@@ -10,7 +11,7 @@ use Rattle.input_values.specs.values.Coerced.{CoercedTree}
 use Rattle.input_values.specs.inputs.Shapes.{ShapeTree, named_shape, list_shape, is_nullable}
 use Rattle.input_values.specs.coercion.Coercion.{coerced}
 use Rattle.input_values.specs.coercion.Forms.{InputForm}
-use Rattle.input_values.specs.coercion.Literals.{no_variables, literal_given}
+use Rattle.input_values.specs.coercion.Literals.{Environment, no_variables, literal_given}
 use Rattle.schema_model.specs.SchemaData.{SchemaData, type_named}
 use Rattle.schema_model.specs.InputForms.{input_forms}
 use Rattle.variable_coercion.specs.Json.{json_given}
@@ -46,15 +47,23 @@ abbrev pub variable_refusal : List ℕ → Unfit → Refusal
 variable_refusal name (unfit_at path) = bad_value (name ++ path)
 variable_refusal name unfit_size = too_large name
 
--- its default, which is a literal without variables
-abbrev pub default_answer : (ℕ → InputForm) → Declared → Option ValueTree → Result (Option CoercedTree) Refusal
-default_answer form v (Some literal) = given_value (variable_refusal v.name) (fitting (coerced form (literal_given no_variables literal) v.shape))
-default_answer form v None = no_value v.name (is_nullable v.shape)
+-- a default is a literal without variables
+abbrev pub default_answer : (ℕ → InputForm) → List ℕ → ShapeTree → Option ValueTree → Result (Option CoercedTree) Refusal
+default_answer form name shape (Some literal) = given_value (variable_refusal name) (fitting (coerced form (literal_given no_variables literal) shape))
+default_answer form name shape None = no_value name (is_nullable shape)
 
 -- The value that is given is coerced, null too. Where none is given the default is.
 abbrev pub value_answer : (ℕ → InputForm) → Declared → Option Data → Result (Option CoercedTree) Refusal
 value_answer form v (Some json) = given_value (variable_refusal v.name) (fitting (coerced form (json_given json) v.shape))
-value_answer form v None = default_answer form v v.default
+value_answer form v None = default_answer form v.name v.shape v.default
+
+abbrev pub value_held : Option VariableData → Option CoercedTree
+value_held None = None
+value_held (Some v) = v.value
+
+-- the value of each variable, by its name
+abbrev pub values_by_name : List VariableData → Environment
+values_by_name values name = value_held (first_of_name (λ v. v.name) values name)
 
 abbrev pub named_answer : List ℕ → Result (Option CoercedTree) Refusal → Result VariableData Refusal
 named_answer name (Ok value) = Ok record { name = name; value = value }

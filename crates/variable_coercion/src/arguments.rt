@@ -1,17 +1,15 @@
 //! The arguments of a field (GraphQL October 2021, 6.4.1).
 
-ghost use Rattle.std.specs.Prelude.{Some, true, false, Result, map};
+ghost use Rattle.std.specs.Prelude.{Some, Result, map};
 ghost use Rattle.gql_base.specs.parts.Trees.{value_tree};
 ghost use Rattle.input_values.specs.values.Coerced.{CoercedTree, coerced_tree};
-ghost use Rattle.input_values.specs.inputs.Shapes.{shape_tree};
 ghost use Rattle.input_values.specs.inputs.Definitions.{input_data};
-ghost use Rattle.input_values.specs.coercion.Coercion.{coerced};
 ghost use Rattle.input_values.specs.coercion.Literals.{literal_given};
 ghost use Rattle.schema_model.specs.SchemaViews.{schema_data};
 ghost use Rattle.schema_model.specs.InputForms.{schema_forms};
 ghost use Rattle.schema_model.specs.Arguments.{arg_data, args_data};
-ghost use Rattle.variable_coercion.specs.Refusals.{Unfit, fitting, given_value, no_value};
-ghost use Rattle.variable_coercion.specs.Arguments.{argument_given, argument_refusal, default_or_none, marked, argument_answer, defined_answer, arguments_answer};
+ghost use Rattle.variable_coercion.specs.Refusals.{Unfit, given_value, no_value};
+ghost use Rattle.variable_coercion.specs.Arguments.{argument_given, argument_refusal, default_or_none, supplied_answer, unsupplied_answer, argument_answer, defined_answer, arguments_answer};
 ghost use Rattle.variable_coercion.specs.Calls.{Answers, unfit_told, argument_told, value_data, environment};
 
 use crate::faults::ArgFault;
@@ -106,7 +104,7 @@ fn supplied_argument(
     value: &Value,
     variables: &Variables,
 ) -> Result<Arg, ArgFault>
-    ensures { Answers arg_data argument_told result (marked true (given_value (argument_refusal input.now.name) (fitting (coerced (schema_forms schema.now) (literal_given (environment variables.now) (value_tree value.now)) (shape_tree input.now.shape))))) }
+    ensures { Answers arg_data argument_told result (supplied_answer (schema_forms schema.now) (input_data input.now) (literal_given (environment variables.now) (value_tree value.now))) }
 {
     let value = coerced_literal(alloc, schema, &variables.values, &input.shape, value);
     match told(alloc, input.name.as_str(), value) {
@@ -120,7 +118,7 @@ fn supplied_argument(
 
 /// An argument that isn't supplied.
 fn unsupplied_argument(alloc: Global, input: &InputDef) -> Result<Arg, ArgFault>
-    ensures { Answers arg_data argument_told result (marked false (default_or_none (input_data input.now) (input_data input.now).default)) }
+    ensures { Answers arg_data argument_told result (unsupplied_answer (input_data input.now)) }
 {
     match default_or_none(alloc, input) {
         Ok(value) => Ok(Arg {

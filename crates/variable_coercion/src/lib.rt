@@ -14,7 +14,7 @@ mod variables;
 
 pub use arguments::coerce_arguments;
 pub use faults::{ArgFault, CoerceFault};
-pub use laws::{what_arguments_are, what_is_refused_first, what_variables_are};
+pub use laws::{what_arguments_are, what_arguments_see, what_is_refused_first, what_variables_are};
 pub use sharing::variables_are_shared;
 pub use values::VALUE_LIMIT;
 pub use variables::{Variables, coerce_variables};

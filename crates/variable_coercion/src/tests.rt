@@ -8,155 +8,158 @@ use schema_model::{FieldId, Schema};
 use schema_reader::read_schema_text;
 use serde_json::Value;
 use std::alloc::Global;
+use std::process::Abort;
 use std::test::Fail;
 
 const SCHEMA: &str =
-    "type Query { users(first: Int): Int kids(n: Int = 2): Int one(n: Int! = 5, m: Int!): Int all(c: Color, x: Any, l: [Int], f: Filter, i: ID): Int } scalar Any enum Color { RED GREEN } input Filter { tag: String = \"t\" sub: Filter n: Int! }";
+    "type Query { none: Int kids(n: Int = 2): Int one(n: Int! = 5, m: Int!): Int all(c: Color, x: Any, l: [Int], f: Filter, i: ID): Int deep(l: [[Int]]): Int } scalar Any enum Color { RED GREEN } input Filter { tag: String = \"t\" sub: Filter n: Int! }";
 
-// An operation, its variables, and what they come to; then its field's arguments, where `~` marks those that take their
-// default.
-const ROWS: &[(&str, &str, &str)] = &[
+// A type, a value for it in JSON and as a literal (or nothing), and what both come to; after a `!` the path that is refused.
+const VALUES: &[(&str, &str, &str, &str)] = &[
+    ("Int", "-2147483648", "-2147483648", "-2147483648"),
+    ("Int", "2147483647", "2147483647", "2147483647"),
+    ("Int", "-2147483649", "-2147483649", "!v"),
+    ("Int", "2147483648", "2147483648", "!v"),
+    ("Int", "1.0", "\"1\"", "!v"),
+    ("Int", "null", "null", "null"),
+    ("Int!", "null", "null", "!v"),
+    ("String", "\"x\"", "\"x\"", "\"x\""),
+    ("String", "1", "x", "!v"),
+    ("Boolean", "true", "true", "true"),
+    ("Boolean", "\"true\"", "1", "!v"),
+    ("ID", "\"x\"", "\"x\"", "\"x\""),
+    ("ID", "-7", "-7", "\"-7\""),
+    ("ID", "1e2", "RED", "!v"),
+    ("Color", "\"RED\"", "RED", "RED"),
+    ("Color", "\"BLUE\"", "BLUE", "!v"),
+    ("Color", "1", "\"RED\"", "!v"),
     (
-        "($v: Int!) { users }",
+        "Any",
+        "{\"b\":[1,null],\"a\":\"x\"}",
+        "",
+        "{ a \"x\" b [ 1 null ] }",
+    ),
+    (
+        "Any",
+        "",
+        "{b: [1, null], a: RED}",
+        "{ b [ 1 null ] a RED }",
+    ),
+    ("Any", "{\"a\":[1.5]}", "{a: [{b: 1, b: 2}]}", "!v"),
+    ("Filter", "{\"n\":1}", "{n: 1}", "{ tag \"t\" n 1 }"),
+    (
+        "Filter",
+        "{\"n\":1,\"tag\":null,\"sub\":{\"n\":2}}",
+        "{n: 1, tag: null, sub: {n: 2}}",
+        "{ tag null sub { tag \"t\" n 2 } n 1 }",
+    ),
+    (
+        "Filter",
+        "{\"zz\":1,\"aa\":1,\"n\":true}",
+        "{n: true, aa: 1, zz: 1}",
+        "!v.aa",
+    ),
+    ("Filter", "", "{n: 1, n: 2, zz: 1}", "!v.n"),
+    ("Filter", "{\"tag\":5}", "{tag: 5}", "!v.tag"),
+    ("Filter", "{\"sub\":{}}", "{sub: {}}", "!v.sub.n"),
+    ("Filter", "\"x\"", "[{n: 1}]", "!v"),
+    ("[ID]", "7", "7", "[ \"7\" ]"),
+    ("[Int]", "[1,null]", "[1, null]", "[ 1 null ]"),
+    ("[Int]", "null", "null", "null"),
+    ("[Int!]", "[1,null]", "[1, null]", "!v.1"),
+    ("[[Int]]", "3", "3", "[ [ 3 ] ]"),
+    (
+        "[[Int]]",
+        "[1,[2,3],null]",
+        "[1, [2, 3], null]",
+        "[ [ 1 ] [ 2 3 ] null ]",
+    ),
+    ("[[Int]]", "[1,[2,true]]", "[1, [2, true]]", "!v.1.1"),
+    ("[[Filter]]", "{\"n\":true}", "{n: true}", "!v.n"),
+];
+
+// An operation, its variables, and what they come to; then its field's arguments, where `~` marks those that aren't supplied.
+const OPERATIONS: &[(&str, &str, &str)] = &[
+    (
+        "query ($v: Int!) { none }",
         "{}",
         "the variable 'v' must have a value, and has neither one nor a default",
     ),
     (
-        "($v: Int!) { users }",
-        "{\"v\":null}",
-        "the value of a variable doesn't coerce at 'v'",
-    ),
-    (
-        "($a: Int!, $b: Int) { users }",
+        "query ($a: Int!, $b: Int) { none }",
         "{\"b\":\"x\"}",
         "the variable 'a' must have a value, and has neither one nor a default",
     ),
     (
-        "($v: Int, $w: Int) { users }",
-        "{\"v\":-2147483648,\"w\":2147483647}",
-        "v -2147483648 w 2147483647 (first ~)",
-    ),
-    (
-        "($v: Int) { users }",
-        "{\"v\":2147483648}",
-        "the value of a variable doesn't coerce at 'v'",
-    ),
-    (
-        "($v: Int) { users }",
-        "{\"v\":1.0}",
-        "the value of a variable doesn't coerce at 'v'",
-    ),
-    (
-        "($v: Int = 3, $w: Int = 3) { users }",
-        "{\"v\":null}",
-        "v null w 3 (first ~)",
-    ),
-    (
-        "($v: [ID], $w: [[Int]], $x: [[Int]]) { users }",
-        "{\"v\":7,\"w\":[1,2],\"x\":3}",
-        "v [ \"7\" ] w [ [ 1 ] [ 2 ] ] x [ [ 3 ] ] (first ~)",
-    ),
-    (
-        "($v: [Int!]) { users }",
-        "{\"v\":[1,null]}",
-        "the value of a variable doesn't coerce at 'v.1'",
-    ),
-    (
-        "($v: [Int], $b: Boolean) { users }",
-        "{\"v\":[1,null],\"b\":true,\"other\":1}",
-        "v [ 1 null ] b true (first ~)",
-    ),
-    (
-        "($v: Color, $w: Color = GREEN) { users }",
-        "{\"v\":\"RED\"}",
-        "v RED w GREEN (first ~)",
-    ),
-    (
-        "($v: Color = \"RED\") { users }",
-        "{}",
-        "the value of a variable doesn't coerce at 'v'",
-    ),
-    (
-        "($v: Any) { users }",
-        "{\"v\":{\"b\":[1,null],\"a\":\"x\"}}",
-        "v { a \"x\" b [ 1 null ] } (first ~)",
-    ),
-    (
-        "($v: Any) { users }",
-        "{\"v\":{\"a\":[1.5]}}",
-        "the value of a variable doesn't coerce at 'v'",
-    ),
-    (
-        "($f: Filter) { users }",
-        "{\"f\":{\"zz\":1}}",
-        "the value of a variable doesn't coerce at 'f.zz'",
-    ),
-    (
-        "($f: Filter) { users }",
-        "{\"f\":{\"sub\":{\"tag\":5}}}",
-        "the value of a variable doesn't coerce at 'f.sub.tag'",
-    ),
-    (
-        "($f: Filter) { users }",
-        "{\"f\":{}}",
-        "the value of a variable doesn't coerce at 'f.n'",
-    ),
-    (
-        "($f: Filter) { all(f: $f) }",
-        "{\"f\":{\"n\":1}}",
-        "f { tag \"t\" n 1 } (c ~ x ~ l ~ f { tag \"t\" n 1 } i ~)",
-    ),
-    (
-        "{ users(first: \"x\") }",
-        "{}",
-        "the value of the argument 'first' doesn't coerce",
+        "query ($v: Int = 3, $w: Int! = 3, $x: Int) { none }",
+        "{\"v\":null,\"other\":1}",
+        "v null w 3 x ()",
     ),
     ("{ kids }", "{}", "(n ~2)"),
     ("{ kids(n: null) }", "{}", "(n null)"),
-    ("($v: Int) { kids(n: $v) }", "{}", "v (n ~2)"),
     (
-        "($v: Int) { kids(n: $v) }",
+        "{ kids(n: \"x\") }",
+        "{}",
+        "the value of the argument 'n' doesn't coerce",
+    ),
+    ("query ($v: Int) { kids(n: $v) }", "{}", "v (n ~2)"),
+    (
+        "query ($v: Int) { kids(n: $v) }",
         "{\"v\":null}",
         "v null (n null)",
     ),
     (
-        "($v: Int) { one(n: $v, m: 1) }",
+        "query ($v: Int) { one(n: $v, m: 1) }",
         "{\"v\":null}",
         "the value of the argument 'n' doesn't coerce",
     ),
     (
-        "($v: Int) { one(m: $v) }",
+        "query ($v: Int) { one(m: $v) }",
         "{}",
         "the argument 'm' must have a value, and has neither one nor a default",
     ),
     (
-        "($v: Int, $w: Int) { all(c: RED, x: {b: RED, a: [1]}, l: [$v, $w], f: {n: 1, tag: $w}, i: 7) }",
+        "query ($v: Int, $w: Int) { all(c: RED, x: {b: RED}, l: [$v, $w], f: {n: 1, tag: $w}, i: 7) }",
         "{\"v\":4}",
-        "v 4 w (c RED x { b RED a [ 1 ] } l [ 4 null ] f { tag \"t\" n 1 } i \"7\")",
+        "v 4 w (c RED x { b RED } l [ 4 null ] f { tag \"t\" n 1 } i \"7\")",
     ),
     (
-        "{ all(c: \"RED\") }",
-        "{}",
-        "the value of the argument 'c' doesn't coerce",
+        "query ($v: Any) { all(x: $v, f: {n: $v}) }",
+        "{\"v\":null}",
+        "the value of the argument 'f' doesn't coerce",
     ),
     (
-        "{ all(x: {a: 1, a: 2}) }",
-        "{}",
+        "query ($v: Int) { all(x: [$v], f: 1) }",
+        "{\"v\":4}",
         "the value of the argument 'x' doesn't coerce",
     ),
 ];
 
-// How many items of a list, the last item, and what they come to.
-const SIZES: &[(usize, &str, &str)] = &[
-    (19_999, "0", ""),
+// How many items a list has, its last item, a further variable, and what these begin to come to.
+const SIZES: &[(usize, &str, &str, &str)] = &[
+    (19_998, "0", "1", "v [ 0 0 "),
+    (
+        19_999,
+        "0",
+        "\"x\"",
+        "the value of a variable doesn't coerce at 'w'",
+    ),
+    (
+        19_999,
+        "0",
+        "1",
+        "the value of the argument 'l' has more than 20000 nodes",
+    ),
     (
         20_000,
         "0",
+        "\"x\"",
         "the value of the variable 'v' has more than 20000 nodes",
     ),
     (
         20_000,
         "true",
+        "1",
         "the value of a variable doesn't coerce at 'v.19999'",
     ),
 ];
@@ -272,6 +275,47 @@ fn come_to(alloc: Global, schema: &Schema, text: &str, given: &str) -> Result<St
     }
 }
 
+// Each value in both of its forms, as the value of a variable and as its default.
+fn each_value(rt: &impl Abort, alloc: Global, schema: &Schema) -> Result<(), Fail> {
+    for (of, json, literal, outcome) in VALUES {
+        let want = match outcome.strip_prefix("!") {
+            Some(path) => format!(in alloc; "the value of a variable doesn't coerce at '{path}'")?,
+            None => format!(in alloc; "v {outcome} ()")?,
+        };
+        if !json.is_empty() {
+            let text = format!(in alloc; "query ($v: {of}) {{ none }}")?;
+            let given = format!(in alloc; "{{\"v\":{json}}}")?;
+            let found = come_to(alloc, schema, text.as_str(), given.as_str())?;
+            assert_eq!(rt; found.as_str(), want.as_str(), "{of} {json}");
+        }
+        if !literal.is_empty() {
+            let text = format!(in alloc; "query ($v: {of} = {literal}) {{ none }}")?;
+            let found = come_to(alloc, schema, text.as_str(), "{}")?;
+            assert_eq!(rt; found.as_str(), want.as_str(), "{of} {literal}");
+        }
+    }
+    Ok(())
+}
+
+// A list at the limit, as a variable and in a list of an argument.
+fn each_size(rt: &impl Abort, alloc: Global, schema: &Schema) -> Result<(), Fail> {
+    for (count, last, other, outcome) in SIZES {
+        let mut given = format!(in alloc; "{{\"w\":{other},\"v\":[")?;
+        for _ in 1..*count {
+            given.push_str("0,")?;
+        }
+        given.push_str(last)?;
+        given.push_str("]}")?;
+        let text = "query ($v: [Int], $w: Int) { deep(l: [$v]) }";
+        let found = come_to(alloc, schema, text, given.as_str())?;
+        assert!(rt;
+            found.as_str().starts_with(outcome),
+            "{count} {last} {other}"
+        );
+    }
+    Ok(())
+}
+
 #[test]
 fn values_and_first_refusals(rt: HostRuntime) -> Result<(), Fail> {
     let alloc = rt.alloc();
@@ -279,40 +323,12 @@ fn values_and_first_refusals(rt: HostRuntime) -> Result<(), Fail> {
         assert!(rt; false, "the schema has a fault");
         return Ok(());
     };
-    for row in ROWS {
-        let text = if row.0.starts_with("(") {
-            format!(in alloc; "query {}", row.0)?
-        } else {
-            String::from_str(alloc, row.0)?
-        };
-        let found = come_to(alloc, &schema, text.as_str(), row.1)?;
-        assert_eq!(rt; found.as_str(), row.2, "{}", row.0);
+    each_value(&rt, alloc, &schema)?;
+    for (text, given, outcome) in OPERATIONS {
+        let found = come_to(alloc, &schema, text, given)?;
+        assert_eq!(rt; found.as_str(), *outcome, "{text}");
     }
+    each_size(&rt, alloc, &schema)?;
     variables_are_shared();
-    Ok(())
-}
-
-#[test]
-fn values_at_the_limit(rt: HostRuntime) -> Result<(), Fail> {
-    let alloc = rt.alloc();
-    let Some(schema) = schema_of(alloc, SCHEMA) else {
-        assert!(rt; false, "the schema has a fault");
-        return Ok(());
-    };
-    for row in SIZES {
-        let mut given = String::from_str(alloc, "{\"v\":[")?;
-        for _ in 1..row.0 {
-            given.push_str("0,")?;
-        }
-        given.push_str(row.1)?;
-        given.push_str("]}")?;
-        let found = come_to(
-            alloc,
-            &schema,
-            "query ($v: [Int]) { other }",
-            given.as_str(),
-        )?;
-        assert_eq!(rt; found.as_str(), row.2);
-    }
     Ok(())
 }

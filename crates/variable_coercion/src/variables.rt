@@ -1,13 +1,13 @@
 //! The values of an operation's variables (GraphQL October 2021, 6.1.2).
 
 ghost use Rattle.std.specs.Prelude.{◌≡◌, ◌++◌, map, option_map, Result, IfOk};
-ghost use Rattle.serde_json.specs.Find.{get};
+ghost use Rattle.gql_base.specs.parts.Trees.{maybe_value};
 ghost use Rattle.serde_json.specs.View.{view};
 ghost use Rattle.input_values.specs.values.Coerced.{CoercedTree, coerced_tree};
 ghost use Rattle.input_values.specs.inputs.Shapes.{shape_tree};
 ghost use Rattle.schema_model.specs.SchemaViews.{schema_data};
 ghost use Rattle.schema_model.specs.InputForms.{schema_forms};
-ghost use Rattle.variable_coercion.specs.Refusals.{Unfit, given_value, no_value, all_in_order};
+ghost use Rattle.variable_coercion.specs.Refusals.{Unfit, given_value, no_value};
 ghost use Rattle.variable_coercion.specs.Variables.{declared_of, variable_refusal, default_answer, value_answer, variable_answer, variables_answer};
 ghost use Rattle.variable_coercion.specs.Calls.{Answers, unfit_told, variable_told, value_data, variable_data, variables_data, environment};
 
@@ -15,7 +15,7 @@ use crate::faults::CoerceFault;
 use crate::shapes::shape_in;
 use crate::values::{ValueFault, coerced_default, coerced_json};
 use document_reader::{Operation, VariableDef};
-use gql_base::{Indexed, Text, index_owned};
+use gql_base::{Indexed, Text, Value as Literal, index_owned};
 use input_values::places::is_nullable;
 use input_values::{Coerced, Shape, VariableValue};
 use schema_model::Schema;
@@ -118,25 +118,26 @@ fn coerce_value(
             let value = coerced_json(alloc, schema, &shape, json);
             told(alloc, variable.name.text.as_str(), value)
         }
-        None => default_value(alloc, schema, variable, &shape),
+        None => {
+            let name = variable.name.text.as_str();
+            default_value(alloc, schema, name, &shape, &variable.default)
+        }
     }
 }
 
-/// The default of a variable, or none.
+/// The default of a variable of this name and shape, or none.
 fn default_value(
     alloc: Global,
     schema: &Schema,
-    variable: &VariableDef,
+    name: &str,
     shape: &Shape,
+    default: &Option<Literal>,
 ) -> Result<Option<Coerced>, CoerceFault>
-    ensures { shape_tree shape.now ≡ (declared_of (schema_data schema.now) variable.now).shape → Answers value_data variable_told result (default_answer (schema_forms schema.now) (declared_of (schema_data schema.now) variable.now) (declared_of (schema_data schema.now) variable.now).default) }
+    ensures { Answers value_data variable_told result (default_answer (schema_forms schema.now) name.now (shape_tree shape.now) (maybe_value default.now)) }
 {
-    match &variable.default {
-        Some(literal) => {
-            let value = coerced_default(alloc, schema, shape, literal);
-            told(alloc, variable.name.text.as_str(), value)
-        }
-        None => no_value(alloc, variable.name.text.as_str(), is_nullable(shape)),
+    match default {
+        Some(literal) => told(alloc, name, coerced_default(alloc, schema, shape, literal)),
+        None => no_value(alloc, name, is_nullable(shape)),
     }
 }
 

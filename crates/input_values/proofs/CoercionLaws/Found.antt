@@ -1,6 +1,7 @@
 -- What a given value comes to is what the relation says, and nothing else.
 use Rattle.std.proofs.Common.{◌≡◌, ◌+◌, ℕ, suc, List, [], ◌∷◌, ◌++◌, Bool, true, false, true≢false, not, ◌&&◌, ◌||◌, cond, bytes_eq, Option, Some, None, Ok, Err, refl, sym, ap, ◌∙◌}
 use Rattle.std.specs.List.{list_any, list_all}
+use Rattle.std.proofs.lemmas.Option.{none-some, same_Some}
 use Rattle.gql_base.specs.names.Names.{are_distinct, repeated_from, first_repeated}
 use Rattle.gql_base.proofs.NameLaws.RepeatedLaws.{distinct_none, none_distinct}
 use Rattle.input_values.specs.values.Coerced.{CoercedTree, coerced_null, coerced_list, coerced_object, CoercedTrees, no_coerced, coerced_then, CoercedFields, no_coerced_field, is_coerced_null}
@@ -21,24 +22,21 @@ Iff A B = (A → B) × (B → A)
 self_iff : {A : Type 0} → Iff A A
 self_iff = (λ a. a, λ a. a)
 
-abbrev okay : {A : Type 0} → A → Answer A
+abbrev pub okay : {A : Type 0} → A → Answer A
 okay x = Ok x
 
 abbrev value_or : {A : Type 0} → A → Answer A → A
 value_or d (Ok x) = x
 value_or d (Err path) = d
 
-ok_same : {A : Type 0} (x y : A) → okay x ≡ okay y → x ≡ y
+pub ok_same : {A : Type 0} (x y : A) → okay x ≡ okay y → x ≡ y
 ok_same x y e = ap (value_or x) e
 
 differ_ok : {A : Type 0} (path : Path) (x : A) → Err path ≡ okay x → ⊥
 differ_ok path x e = cc
 
-no_ok : {A B : Type 0} (path : Path) (x : A) → Err path ≡ okay x → B
+pub no_ok : {A B : Type 0} (path : Path) (x : A) → Err path ≡ okay x → B
 no_ok path x e = absurd (differ_ok path x e)
-
-some_none : {A : Type 0} (x : A) → Some x ≡ None → ⊥
-some_none x e = cc
 
 same_iff : {A : Type 0} (x t : A) → Iff (okay x ≡ okay t) (t ≡ x)
 same_iff x t = (λ e. sym (ok_same x t e), λ e. ap Ok (sym e))
@@ -88,11 +86,8 @@ absent_iff stays_absent t = same_iff None t
 absent_iff is_required t = no_iff [] t
 
 there_iff : (a : Answer CoercedTree) (Is : CoercedTree → Type 0) → ((t : CoercedTree) → Iff (a ≡ Ok t) (Is t)) → (o : Option CoercedTree) → Iff (mapped Some a ≡ Ok o) (IsThere Is o)
-there_iff a Is each None = (λ e. let m = mapped_ok Some a None e in absurd (some_none m.0 (sym m.2)), λ e. absurd e)
-there_iff a Is each (Some t) = (λ e. let m = mapped_ok Some a (Some t) e in (each t).0 (m.1 ∙ ap Ok (inner m.0 t (sym m.2))), λ e. ap (mapped Some) ((each t).1 e))
-  where
-    inner : (x u : CoercedTree) → Some x ≡ Some u → x ≡ u
-    inner x u e = cc
+there_iff a Is each None = (λ e. let m = mapped_ok Some a None e in absurd (none-some m.0 m.2), λ e. absurd e)
+there_iff a Is each (Some t) = (λ e. let m = mapped_ok Some a (Some t) e in (each t).0 (m.1 ∙ ap Ok (same_Some m.0 t (sym m.2))), λ e. ap (mapped Some) ((each t).1 e))
 
 found_iff : (here nothing : Bool) (f : FieldForm) (coerce : ShapeTree → Answer CoercedTree) (Is : CoercedTree → Type 0) (later : Option (ShapeTree → Answer CoercedTree)) (Later : Type 0) (t : Option CoercedTree) → ((u : CoercedTree) → Iff (coerce f.shape ≡ Ok u) (Is u)) → Iff (field_at f later ≡ Ok t) Later
     → Iff (field_at f (cond here (cond nothing None (Some coerce)) later) ≡ Ok t) (Either here (Either nothing (IsAbsent f.absence t) (IsThere Is t)) Later)
@@ -117,10 +112,10 @@ Unless false A = A
 
 right_step : (distinct is again : Bool) (name : List ℕ) (n : ℕ) (wrong : Option (List ℕ)) (more : Bool) (later : Option ℕ) → Iff (wrong ≡ None) ((more ≡ true) × Unless distinct (later ≡ None))
     → Iff (cond (not is || (not distinct && again)) (Some name) wrong ≡ None) (((is && more) ≡ true) × Unless distinct (cond again (Some n) later ≡ None))
-right_step distinct false again name n wrong more later rest = (λ e. absurd (some_none name e), λ e. absurd (true≢false (sym e.0)))
+right_step distinct false again name n wrong more later rest = (λ e. absurd (none-some name (sym e)), λ e. absurd (true≢false (sym e.0)))
 right_step true true true name n wrong more later rest = rest
 right_step true true false name n wrong more later rest = rest
-right_step false true true name n wrong more later rest = (λ e. absurd (some_none name e), λ e. absurd (some_none n e.1))
+right_step false true true name n wrong more later rest = (λ e. absurd (none-some name (sym e)), λ e. absurd (none-some n (sym e.1)))
 right_step false true false name n wrong more later rest = rest
 
 right_iff : (distinct : Bool) (fs : List FieldForm) (seen : List (List ℕ)) (n : ℕ) (names : List (List ℕ)) → Iff (wrong_name distinct fs seen names ≡ None) ((list_all (is_field fs) names ≡ true) × Unless distinct (repeated_from seen n names ≡ None))
@@ -143,7 +138,7 @@ names_iff distinct fs names =
 
 object_of_iff : (wrong : Option (List ℕ)) (Right : Type 0) (a : Answer CoercedFields) (Are : CoercedFields → Type 0) (t : CoercedTree) → Iff (wrong ≡ None) Right → ((cs : CoercedFields) → Iff (a ≡ Ok cs) (Are cs)) → Iff (object_of wrong a ≡ Ok t) (Right × (cs : CoercedFields) × (t ≡ coerced_object cs) × Are cs)
 object_of_iff None Right a Are t right each = (λ e. let m = mapped_ok coerced_object a t e in (right.0 refl, m.0, m.2, (each m.0).0 m.1), λ e. ap (mapped coerced_object) ((each e.1).1 e.3) ∙ ap Ok (sym e.2))
-object_of_iff (Some name) Right a Are t right each = (λ e. no_ok (key_step name) t e, λ e. absurd (some_none name (right.1 e.0)))
+object_of_iff (Some name) Right a Are t right each = (λ e. no_ok (key_step name) t e, λ e. absurd (none-some name (sym (right.1 e.0))))
 
 object_iff : (form : InputForm) (fields : List FieldForm → Answer CoercedTree) (Is : List FieldForm → CoercedTree → Type 0) (any : Answer CoercedTree) (t : CoercedTree) → ((fs : List FieldForm) → Iff (fields fs ≡ Ok t) (Is fs t)) → Iff (object_by form fields any ≡ Ok t) (IsObject form Is any t)
 object_iff integer_form fields Is any t each = no_iff [] t

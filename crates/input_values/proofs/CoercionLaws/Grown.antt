@@ -1,20 +1,19 @@
 -- What has a value keeps it where fields that had to be given take defaults. A value is larger than the defaults that it is
 -- filled with, so only smaller defaults need to stay.
-use Rattle.std.proofs.Common.{◌≡◌, ◌<◌, ◌≤◌, ◌+◌, ℕ, suc, List, [], ◌∷◌, Bool, true, false, not, ◌&&◌, ◌||◌, bytes_eq, Option, Some, None, Result, Ok, Err, refl, sym, ap, ap₂, ◌∙◌, subst, arith}
+use Rattle.std.proofs.Common.{◌≡◌, ◌<◌, ◌≤◌, ◌+◌, ℕ, suc, List, [], ◌∷◌, Bool, true, false, ◌&&◌, ◌||◌, bytes_eq, Option, Some, None, Ok, Err, refl, sym, ap, ap₂, ◌∙◌, subst, arith}
 use Rattle.std.specs.List.{list_all}
-use Rattle.input_values.specs.values.Coerced.{CoercedTree, CoercedTrees, coerced_list, coerced_then, coerced_object, CoercedFields, is_coerced_null, nodes, item_nodes, field_nodes}
-use Rattle.input_values.specs.inputs.Shapes.{ShapeTree, named_shape, list_shape, is_nullable}
-use Rattle.input_values.specs.coercion.Answers.{Path, Answer}
+use Rattle.input_values.specs.values.Coerced.{CoercedTree, CoercedTrees, coerced_object, CoercedFields, nodes, item_nodes, field_nodes}
+use Rattle.input_values.specs.inputs.Shapes.{ShapeTree, named_shape, list_shape}
+use Rattle.input_values.specs.coercion.Answers.{Answer}
 use Rattle.input_values.specs.coercion.Given.{Given, given_null, given_integer, given_fraction, given_string, given_text, given_name, given_boolean, given_list, given_object, given_variable, given_nothing, GivenItems, no_given, given_then, GivenFields, no_given_field, given_field_then, given_names, is_nothing}
 use Rattle.input_values.specs.coercion.Forms.{Absence, takes_default, stays_absent, is_required, FieldForm, is_field, InputForm, integer_form, string_form, boolean_form, id_form, custom_form, enum_form, object_form, no_form}
 use Rattle.input_values.specs.coercion.Leaves.{integer_at, string_at, text_at, name_at, boolean_at, custom_at}
 use Rattle.input_values.specs.coercion.Customs.{any_value}
 use Rattle.input_values.specs.coercion.Calls.{nodes_in}
-use Rattle.input_values.specs.coercion.Places.{list_of_one}
 use Rattle.input_values.specs.coercion.Objects.{with_field}
 use Rattle.input_values.specs.coercion.Coercion.{coerced}
 use Rattle.input_values.specs.coercion.Relation.{IsSingle, IsList, IsAbsent, IsThere, Either, AreFields, NamesAreRight, IsObject, IsCoerced, AreCoerced, IsField}
-use Rattle.input_values.proofs.CoercionLaws.Found.{coerced_iff}
+use Rattle.input_values.proofs.CoercionLaws.Found.{no_ok, coerced_iff}
 
 -- defaults of fewer nodes than this stay
 abbrev pub AbsenceGrows : ℕ → Absence → Absence → Type 0
@@ -42,15 +41,6 @@ FormGrows n id_form form = form ≡ id_form
 FormGrows n custom_form form = form ≡ custom_form
 FormGrows n (enum_form names) form = form ≡ enum_form names
 FormGrows n no_form form = form ≡ no_form
-
-abbrev okay : CoercedTree → Answer CoercedTree
-okay t = Ok t
-
-no_ok : {B : Type 0} (path : Path) (t : CoercedTree) → Err path ≡ okay t → B
-no_ok path t e = absurd (differ path t e)
-  where
-    differ : (p : Path) (u : CoercedTree) → Err p ≡ okay u → ⊥
-    differ p u h = cc
 
 -- a leaf is refused at an input object
 leaf_grows : (n : ℕ) (leaf : InputForm → Answer CoercedTree) (less more : InputForm) (t : CoercedTree) → ((fs : List FieldForm) → leaf (object_form fs) ≡ Err []) → FormGrows n less more → leaf less ≡ Ok t → leaf more ≡ Ok t

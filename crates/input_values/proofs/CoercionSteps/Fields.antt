@@ -1,9 +1,9 @@
 -- Fields of input objects, as they are written.
-use Rattle.std.proofs.Common.{◌≡◌, ◌+◌, ◌<◌, ℕ, suc, Bool, true, false, cond, bytes_eq, List, [], ◌∷◌, ◌++◌, length, drop, inl, inr, Option, Some, None, Result, Ok, refl, sym, ap, ◌∙◌, subst, arith}
+use Rattle.std.proofs.Common.{◌≡◌, ◌+◌, ◌<◌, ℕ, suc, Bool, true, false, cond, bytes_eq, List, [], ◌∷◌, ◌++◌, length, drop, get_or, inl, inr, Option, Some, None, Result, Ok, refl, sym, ap, ◌∙◌, subst, arith}
 use Rattle.std.specs.Prelude.{slice_get}
 use Rattle.std.proofs.lemmas.Bool.{cases_lt}
 use Rattle.std.proofs.lemmas.List.{drop_all}
-use Rattle.std.proofs.lemmas.Option.{slice_get_within, get_or_from_slice_get, slice_get-get_or}
+use Rattle.std.proofs.lemmas.Option.{none-some, slice_get_within, get_or_from_slice_get, slice_get-get_or}
 use Rattle.gql_base.specs.names.Names.{first_of_name}
 use Rattle.gql_base.specs.declared.parts.trees.Argument.{Argument}
 use Rattle.gql_base.specs.parts.Trees.{value_tree}
@@ -20,9 +20,9 @@ use Rattle.input_values.specs.coercion.Literals.{Environment, literal_given, lit
 use Rattle.input_values.specs.coercion.Sizes.{fields_written, tree_size, fields_size}
 use Rattle.input_values.specs.coercion.Calls.{Tells, TellsAfter, CoercesField, tree_in}
 use Rattle.input_values.specs.coercion.Left.{FieldsLeft, one_field}
-use Rattle.input_values.proofs.Copied.{at_front}
+use Rattle.gql_base.proofs.Lists.{at_front}
 use Rattle.input_values.proofs.CoercionSteps.Pieces.{field_left, field_put, field_refused, stepped_coerces_field, stepped_tells}
-use Rattle.input_values.proofs.CoercionSteps.Literals.{argument_opened}
+use Rattle.gql_base.proofs.PrintingLaws.PrintSteps.{open_argument}
 
 -- ## The value under a name
 
@@ -37,7 +37,7 @@ found_or form env false f x later same = same
 pub find_written : (form : ℕ → InputForm) (env : Environment) (name : List ℕ) (fs : List Argument) → find_coerced form name (literal_fields env (fields_written fs)) ≡ found_answer form env (first_of_name (λ f. f.name.text) fs name)
 find_written form env name [] = refl
 find_written form env name (f ∷ fs) =
-    ap (λ p. cond (bytes_eq p.0.0 name) (present (literal_given env p.1) (λ s. coerced form (literal_given env p.1) s)) (find_coerced form name (literal_fields env (fields_written fs)))) (argument_opened f)
+    ap (λ p. cond (bytes_eq p.0.0 name) (present (literal_given env p.1) (λ s. coerced form (literal_given env p.1) s)) (find_coerced form name (literal_fields env (fields_written fs)))) (open_argument f)
     ∙ found_or form env (bytes_eq f.name.text name) f (find_coerced form name (literal_fields env (fields_written fs))) (first_of_name (λ g. g.name.text) fs name) (find_written form env name fs)
 
 pub field_written : (limit : ℕ) (form : ℕ → InputForm) (env : Environment) (i : FieldForm) (name : List ℕ) (fs : List Argument) (found : Option Argument) (before after : ℕ) (r : Result (Option Coerced) CoercionFault) → name ≡ i.name → found ≡ first_of_name (λ f. f.name.text) fs name
@@ -59,12 +59,9 @@ inner_smaller true f a later n is rest = let e = ap size_or is in omega (arith, 
 inner_smaller false f a later n is rest = let l = rest is in omega (arith, l)
 
 pub found_smaller : (name : List ℕ) (fs : List Argument) (a : Argument) → Some a ≡ first_of_name (λ f. f.name.text) fs name → tree_size (value_tree a.value) < fields_size (fields_written fs)
-found_smaller name [] a is = absurd (differ is)
-  where
-    differ : {A : Type 0} {x : A} → Some x ≡ None → ⊥
-    differ e = cc
+found_smaller name [] a is = absurd (none-some a (sym is))
 found_smaller name (f ∷ fs) a is =
-    let o = ap (λ p. tree_size p.1) (argument_opened f) in
+    let o = ap (λ p. tree_size p.1) (open_argument f) in
     let h = inner_smaller (bytes_eq f.name.text name) f a (first_of_name (λ g. g.name.text) fs name) (fields_size (fields_written fs)) is (found_smaller name fs a) in
     omega (arith, o, h)
 
@@ -76,12 +73,9 @@ rest_at fields find at = fields_at (drop at fields) find
 none_there : {A : Type 0} (xs : List A) (at : ℕ) → None ≡ slice_get xs at → drop at xs ≡ drop (at + 1) xs
 none_there [] at e = drop_all at [] (omega arith) ∙ sym (drop_all (at + 1) [] (omega arith))
 none_there (y ∷ xs) at e = elim (cases_lt at (length (y ∷ xs))) [
-  | inl within ↦ absurd (differ (e ∙ slice_get-get_or (y ∷ xs) at y within))
+  | inl within ↦ absurd (none-some (get_or (y ∷ xs) at y) (e ∙ slice_get-get_or (y ∷ xs) at y within))
   | inr past ↦ drop_all at (y ∷ xs) past ∙ sym (drop_all (at + 1) (y ∷ xs) (omega (arith, past)))
 ]
-  where
-    differ : {A : Type 0} {x : A} → None ≡ Some x → ⊥
-    differ h = cc
 
 some_there : (xs : List FieldForm) (at : ℕ) (x : FieldForm) → Some x ≡ slice_get xs at → drop at xs ≡ x ∷ drop (at + 1) xs
 some_there xs at x e = at_front xs at x (slice_get_within xs at x (sym e)) (sym (get_or_from_slice_get xs at x x (sym e)))

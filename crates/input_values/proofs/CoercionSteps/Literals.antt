@@ -3,9 +3,9 @@ use Rattle.std.proofs.Common.{◌≡◌, ◌+◌, ◌<◌, ℕ, zero, suc, Bool,
 use Rattle.gql_base.specs.names.Names.{are_distinct}
 use Rattle.gql_base.specs.declared.parts.trees.Value.{Value}
 use Rattle.gql_base.specs.declared.parts.trees.Argument.{Argument}
-use Rattle.gql_base.specs.declared.parts.trees.Value.TheFolds.{fold_out-Argument}
-use Rattle.gql_base.specs.parts.Trees.{value_tree, named_value, value_step, argument_step}
-use Rattle.gql_base.specs.parts.Values.{ValueTree, NamedValue, variable_value, integer_value, string_value, boolean_value, null_value, enum_value, list_value, object_value, ValueTrees, no_value, value_then, FieldTrees, no_field, field_then}
+use Rattle.gql_base.specs.parts.Trees.{value_tree, named_value}
+use Rattle.gql_base.specs.parts.Values.{ValueTree, variable_value, integer_value, string_value, boolean_value, null_value, enum_value, list_value, object_value, ValueTrees, no_value, value_then, FieldTrees, no_field, field_then}
+use Rattle.gql_base.proofs.PrintingLaws.PrintSteps.{open_argument}
 use Rattle.gql_base.proofs.PartLaws.ValueSteps.{variable_tree, integer_tree, string_tree, boolean_tree, null_tree, enum_tree, list_tree, object_tree}
 use Rattle.input_values.specs.values.Coerced.{CoercedTree, coerced_list, CoercedTrees, CoercedFields, coerced_field_then, NamedTree}
 use Rattle.input_values.specs.declared.values.coerced.Coerced.{Coerced}
@@ -17,14 +17,10 @@ use Rattle.input_values.specs.coercion.Given.{given_then, given_object, given_fi
 use Rattle.input_values.specs.coercion.Customs.{any_object, any_value, any_items, any_fields}
 use Rattle.input_values.specs.coercion.Literals.{Environment, no_variables, variable_given, literal_given, literal_items, literal_fields}
 use Rattle.input_values.specs.coercion.Sizes.{items_written, fields_written, names_written, tree_size, items_size, fields_size}
-use Rattle.input_values.proofs.Copied.{at_front}
+use Rattle.gql_base.proofs.Lists.{at_front}
 use Rattle.input_values.proofs.CoercionSteps.Pieces.{item_left, member_left, item_refused, field_refused}
 
 pub ruleset literal_trees = (variable_tree, integer_tree, string_tree, boolean_tree, null_tree, enum_tree, list_tree, object_tree)
-
-pub argument_opened : (a : Argument) → named_value a ≡ ((a.name.text, a.name.at), value_tree a.value)
-unfolding named_value value_tree
-argument_opened a = fold_out-Argument ValueTree NamedValue value_step argument_step a
 
 -- ## What is in front
 
@@ -35,11 +31,11 @@ pub fields_front : (env : Environment) (fs : List Argument) (at : ℕ) (f : Argu
     → literal_fields env (fields_written (drop at fs)) ≡ given_field_then f.name.text (literal_given env (value_tree f.value)) (literal_fields env (fields_written (drop (at + 1) fs)))
 fields_front env fs at f within is =
     ap (λ l. literal_fields env (fields_written l)) (at_front fs at f within is)
-    ∙ ap (λ p. given_field_then p.0.0 (literal_given env p.1) (literal_fields env (fields_written (drop (at + 1) fs)))) (argument_opened f)
+    ∙ ap (λ p. given_field_then p.0.0 (literal_given env p.1) (literal_fields env (fields_written (drop (at + 1) fs)))) (open_argument f)
 
 pub names_given : (env : Environment) (fs : List Argument) → given_names (literal_fields env (fields_written fs)) ≡ names_written fs
 names_given env [] = refl
-names_given env (f ∷ fs) = ap₂ (λ p names. p.0.0 ∷ names) (argument_opened f) (names_given env fs)
+names_given env (f ∷ fs) = ap₂ (λ p names. p.0.0 ∷ names) (open_argument f) (names_given env fs)
 
 -- ## What is inside is smaller
 
@@ -50,7 +46,7 @@ item_smaller (w ∷ vs) (suc at) v within is = let h = item_smaller vs at v (ome
 
 pub field_smaller : (fs : List Argument) (at : ℕ) (f : Argument) → at < length fs → f ≡ get_or fs at f → tree_size (value_tree f.value) < fields_size (fields_written fs)
 field_smaller [] at f within is = absurd (omega (arith, within))
-field_smaller (g ∷ fs) zero f within is = let e = ap (λ x. tree_size (named_value x).1) is ∙ refl in let o = ap (λ p. tree_size p.1) (argument_opened f) in omega (arith, e, o)
+field_smaller (g ∷ fs) zero f within is = let e = ap (λ x. tree_size (named_value x).1) is ∙ refl in let o = ap (λ p. tree_size p.1) (open_argument f) in omega (arith, e, o)
 field_smaller (g ∷ fs) (suc at) f within is = let h = field_smaller fs at f (omega (arith, within)) is in omega (arith, h)
 
 -- ## Custom scalars, one more

@@ -1,7 +1,7 @@
 -- Values of defaults that are found, one after another.
-use Rattle.std.proofs.Common.{◌≡◌, ◌+◌, ◌<◌, ◌≤◌, ◌⊎◌, inl, inr, ℕ, zero, suc, Bool, true, false, cond, leb, List, [], ◌∷◌, ◌++◌, length, map, drop, Option, Some, None, option_map, Result, Ok, Err, refl, sym, ap, ap₂, ◌∙◌, subst, arith}
+use Rattle.std.proofs.Common.{◌≡◌, ◌+◌, ◌<◌, ◌≤◌, ◌⊎◌, inl, inr, ℕ, zero, suc, Bool, true, false, true≢false, cond, leb, List, [], ◌∷◌, ◌++◌, length, map, drop, Option, Some, None, option_map, Result, Ok, Err, refl, sym, ap, ap₂, ◌∙◌, subst, arith}
 use Rattle.std.specs.Prelude.{slice_get, slice_index_or, is_some, IfOk, OnOk}
-use Rattle.std.proofs.lemmas.Option.{slice_get_past}
+use Rattle.std.proofs.lemmas.Option.{none-some, same_Some, slice_get_past}
 use Rattle.input_values.specs.declared.defaults.drafts.DraftType.{DraftType}
 use Rattle.std.specs.BTreeMap.{BTreeMap, get, Updates}
 use Rattle.std.specs.List.{Contains}
@@ -17,13 +17,14 @@ use Rattle.gql_base.specs.parts.Values.{ValueTree}
 use Rattle.input_values.specs.values.Coerced.{CoercedTree, coerced_tree, nodes}
 use Rattle.input_values.specs.inputs.Shapes.{ShapeTree}
 use Rattle.input_values.specs.declared.values.coerced.Coerced.{Coerced}
-use Rattle.input_values.specs.coercion.Answers.{Path, Answer, refused}
+use Rattle.input_values.specs.coercion.Answers.{Answer, refused}
 use Rattle.input_values.specs.coercion.Forms.{Absence, takes_default, stays_absent, is_required, absence_of, FieldForm, InputForm, integer_form, string_form, boolean_form, id_form, custom_form, enum_form, object_form, no_form}
 use Rattle.input_values.specs.coercion.Coercion.{coerced}
 use Rattle.input_values.specs.coercion.Literals.{no_variables, literal_given}
 use Rattle.input_values.specs.defaults.Drafts.{FieldDraft, Draft, settled, drafted, most_nodes, small_enough, default_value, default_absence, draft_absence, filled_field, filled_form, AreFilled}
 use Rattle.input_values.specs.defaults.Filling.{Table, table_absence, table_fields, table_form, table_forms, pair_cmp, table_of, drafts, draft_or}
 use Rattle.input_values.specs.defaults.Rounds.{draft_fields, literal_value, field_value, place_value, IsFound, AreFound, Keeps, HasNone, Fills, Covers, RoundLeft}
+use Rattle.input_values.proofs.CoercionLaws.Found.{ok_same, no_ok}
 use Rattle.input_values.proofs.CoercionLaws.Grown.{AbsenceGrows, FieldsGrow, FormGrows, grown}
 
 -- ## Forms grow with the table
@@ -62,28 +63,13 @@ form_more k (drafted fs) less more keeps = (table_fields more 0 fs, refl, fields
 
 -- ## Values stay what literals come to
 
-some_same : (x y : CoercedTree) → Some x ≡ Some y → x ≡ y
-some_same x y e = cc
-
-none_some : (x : CoercedTree) → None ≡ Some x → ⊥
-none_some x e = cc
-
-err_ok : (path : Path) (t : CoercedTree) → Err path ≡ Ok t → ⊥
-err_ok path t e = cc
-
-abbrev okay : CoercedTree → Answer CoercedTree
-okay t = Ok t
-
-ok_same : (x y : CoercedTree) → okay x ≡ okay y → x ≡ y
-ok_same x y e = cc
-
 cond_ok : (b : Bool) (u t : CoercedTree) → cond b (Ok u) refused ≡ Ok t → u ≡ t
 cond_ok true u t e = ok_same u t e
-cond_ok false u t e = absurd (err_ok [] t e)
+cond_ok false u t e = no_ok [] t e
 
 small_ok : (a : Answer CoercedTree) (t : CoercedTree) → small_enough a ≡ Ok t → a ≡ Ok t
 small_ok (Ok u) t e = ap Ok (cond_ok (leb (nodes u) most_nodes) u t e)
-small_ok (Err path) t e = absurd (err_ok [] t e)
+small_ok (Err path) t e = no_ok [] t e
 
 pub default_more : (k : ℕ) (less more : ℕ → InputForm) (s : ShapeTree) (l : ValueTree) (t : CoercedTree) → nodes t ≤ k → ((of : ℕ) → FormGrows k (less of) (more of)) → default_value less s l ≡ Ok t → default_value more s l ≡ Ok t
 default_more k less more s l t few grows e =
@@ -117,14 +103,14 @@ here_or_there m n of at o a v false e = ap (option_map coerced_tree) e
 pub put_value : (draft : ℕ → Draft) (m n : BTreeMap (ℕ × ℕ) Coerced) (of at : ℕ) (v : Coerced) → Updates pair_cmp m n (of, at) (Some v) → table_of m of at ≡ None → place_value draft (table_of m) of at ≡ Ok (coerced_tree v) → Fills draft (table_of m) (table_of n) of at true
 put_value draft m n of at v puts none value =
     let keeps : Keeps (table_of m) (table_of n) = λ o a t is. elim (cases_Bool (eq_by_cmp pair_cmp (of, at) (o, a))) [
-      | inl e ↦ absurd (none_some t (sym none ∙ (ap (seen_at m) (same_place of at o a e) ∙ is)))
+      | inl e ↦ absurd (none-some t (sym none ∙ (ap (seen_at m) (same_place of at o a e) ∙ is)))
       | inr e ↦ here_or_there m n of at o a v false (subst (λ b. get pair_cmp n (o, a) ≡ cond b (Some v) (get pair_cmp m (o, a))) e (puts.0 (o, a))) ∙ is
     ] in
     record {
       found = λ found o a t is. elim (cases_Bool (eq_by_cmp pair_cmp (of, at) (o, a))) [
         | inl e ↦
             let new = here_or_there m n of at o a v true (subst (λ b. get pair_cmp n (o, a) ≡ cond b (Some v) (get pair_cmp m (o, a))) e (puts.0 (o, a))) in
-            let same = some_same (coerced_tree v) t (sym new ∙ is) in
+            let same = same_Some (coerced_tree v) t (sym new ∙ is) in
             place_more draft (table_of m) (table_of n) o a t keeps (ap (λ p. place_value draft (table_of m) p.0 p.1) (sym (same_place of at o a e)) ∙ (value ∙ ap Ok same))
         | inr e ↦
             let old = here_or_there m n of at o a v false (subst (λ b. get pair_cmp n (o, a) ≡ cond b (Some v) (get pair_cmp m (o, a))) e (puts.0 (o, a))) in
@@ -138,7 +124,7 @@ pub found_before : (draft : ℕ → Draft) (table : Table) (of at : ℕ) (t : Co
 found_before draft table of at t is = record { found = λ f. f; keeps = λ o a u e. e; place = (t, is) }
 
 pub none_found : (draft : ℕ → Draft) (table : Table) (of at : ℕ) → place_value draft table of at ≡ refused → Fills draft table table of at false
-none_found draft table of at is = record { found = λ f. f; keeps = λ o a u e. e; place = (refl, λ none t e. err_ok [] t (sym is ∙ e)) }
+none_found draft table of at is = record { found = λ f. f; keeps = λ o a u e. e; place = (refl, λ none t e. no_ok [] t (sym is ∙ e)) }
 
 -- ## One place more of a round
 
@@ -271,34 +257,25 @@ all_filled draft table found none = λ of. by (draft of) (table of) (λ at t e. 
 
 pub none_left : (draft : ℕ → Draft) (start now : Table) (missing still : List (ℕ × ℕ)) → RoundLeft draft start now missing still (length missing) → length still ≡ length missing → Covers draft now still → (of at : ℕ) → HasNone draft now of at
 none_left draft start now missing still left same covers = λ of at none t e. elim (covers of at) [
-  | inl nothing ↦ err_ok [] t (sym (ap (field_value (table_forms draft now)) nothing) ∙ e)
+  | inl nothing ↦ no_ok [] t (sym (ap (field_value (table_forms draft now)) nothing) ∙ e)
   | inr r ↦ elim r [
-    | inl f ↦ none_some f.0 (sym none ∙ f.1)
+    | inl f ↦ none-some f.0 (sym none ∙ f.1)
     | inr c ↦ left.none same of at c none t e
   ]
 ]
 
 pub some_there : {A B : Type 0} (f : A → B) (o : Option A) → is_some o ≡ true → (b : B) × (option_map f o ≡ Some b)
-some_there f None e = absurd (differ e)
-  where
-    differ : false ≡ true → ⊥
-    differ h = cc
+some_there f None e = absurd (true≢false (sym e))
 some_there f (Some a) e = (f a, refl)
 
 pub none_there : {A B : Type 0} (f : A → B) (o : Option A) → is_some o ≡ false → option_map f o ≡ None
 none_there f None e = refl
-none_there f (Some a) e = absurd (differ e)
-  where
-    differ : true ≡ false → ⊥
-    differ h = cc
+none_there f (Some a) e = absurd (true≢false e)
 
 pub put_result : {E : Type 0} (r : Result Bool E) (draft : ℕ → Draft) (m n : BTreeMap (ℕ × ℕ) Coerced) (of at : ℕ) (v : Coerced) → IfOk r (λ done. done ≡ true) → OnOk r (Updates pair_cmp m n (of, at) (Some v)) → table_of m of at ≡ None → place_value draft (table_of m) of at ≡ Ok (coerced_tree v)
     → IfOk r (λ done. Fills draft (table_of m) (table_of n) of at done)
 put_result (Ok true) draft m n of at v done puts none value = put_value draft m n of at v puts none value
-put_result (Ok false) draft m n of at v done puts none value = absurd (differ done)
-  where
-    differ : false ≡ true → ⊥
-    differ h = cc
+put_result (Ok false) draft m n of at v done puts none value = absurd (true≢false (sym done))
 put_result (Err e) draft m n of at v done puts none value = tt
 
 pub no_type : (types : List DraftType) (of at : ℕ) → length types ≤ of → at < length (draft_fields (drafts types of)) → ⊥

@@ -1,5 +1,5 @@
 -- Defaults are filled in one way: what a default is filled with is smaller than its value, so smaller ones agree first.
-use Rattle.std.proofs.Common.{◌≡◌, ◌<◌, ◌⊎◌, inl, inr, ℕ, zero, suc, true, false, cond, leb, List, [], ◌∷◌, map, Option, Some, None, Ok, Err, refl, sym, ap, ◌∙◌, subst, arith}
+use Rattle.std.proofs.Common.{◌≡◌, ◌<◌, ◌⊎◌, inl, inr, ℕ, zero, suc, cond, leb, List, [], ◌∷◌, map, Option, Some, None, Ok, Err, refl, sym, ap, ◌∙◌, subst, arith}
 use Rattle.std.proofs.Math.Path.{fun_ext}
 use Rattle.std.proofs.lemmas.Bool.{cases_Bool}
 use Rattle.gql_base.specs.parts.Values.{ValueTree}
@@ -36,11 +36,8 @@ form_alike : (k : ℕ) (v w : Values) (d : Draft) → AgreeBelow k v w → FormG
 form_alike k v w (settled form) each = form_self k form
 form_alike k v w (drafted fs) each = (map (filled_field w) fs, refl, fields_alike k v w fs each)
 
-never : (n : ℕ) → n < 0 → ⊥
-never n h = omega arith
-
 values_alike : (k : ℕ) (draft : ℕ → Draft) (a b : ℕ → InputForm) → AreFilled draft a → AreFilled draft b → AgreeBelow k (default_value a) (default_value b)
-values_alike zero draft a b one other s l t few e = absurd (never (nodes t) few)
+values_alike zero draft a b one other s l t few e = absurd (omega (arith, few))
 values_alike (suc k) draft a b one other s l t few e =
     default_more k a b s l t (omega (arith, few))
     (λ of. subst (λ x. FormGrows k x (b of)) (sym (one of)) (subst (FormGrows k (filled_form (default_value a) (draft of))) (sym (other of)) (form_alike k (default_value a) (default_value b) (draft of) (values_alike k draft a b one other)))) e

@@ -5,7 +5,9 @@ use Rattle.input_values.specs.declared.coercion.faults.CoercionFault.{CoercionFa
 use Rattle.input_values.specs.declared.coercion.faults.CoercionFault.TheVariants.{BadValue, Memory}
 use Rattle.input_values.specs.values.Coerced.{CoercedTree, coerced_tree, nodes}
 use Rattle.input_values.specs.values.Counting.{counted}
+use Rattle.input_values.specs.inputs.Shapes.{ShapeTree}
 use Rattle.input_values.specs.coercion.Answers.{Path, Answer}
+use Rattle.input_values.specs.coercion.Places.{single_at, innermost}
 
 -- a fault tells the first place that is refused; want of memory is free
 abbrev pub Tells : {A : Type 0} → CoercionFault → Answer A → Type 0
@@ -46,3 +48,7 @@ Coerces limit before after (Err fault) answer = Tells fault answer
 abbrev pub CoercesField : ℕ → ℕ → ℕ → Result (Option Coerced) CoercionFault → Answer (Option CoercedTree) → Type 0
 CoercesField limit before after (Ok built) answer = (t : Option CoercedTree) × (answer ≡ Ok t) × Builds limit before after built t
 CoercesField limit before after (Err fault) answer = Tells fault answer
+
+-- A value that came to this at the innermost type is in a list of one for each list of the shape.
+abbrev pub Wraps : ℕ → ℕ → ℕ → ShapeTree → Result (Option Coerced) CoercionFault → Result (Option Coerced) CoercionFault → Type 0
+Wraps limit now after shape inner result = (before : ℕ) (named : ℕ → Answer CoercedTree) → Coerces limit before now inner (named (innermost shape)) → Coerces limit before after result (single_at named shape)

@@ -1,15 +1,12 @@
 -- Lists and objects that are being built: what was coerced so far and what is left come to the whole.
-use Rattle.std.specs.Prelude.{ℕ, suc, ◌+◌, ◌≤◌, ◌≡◌, List, [], ◌∷◌, Option, Some, None, Result, Ok, Err, drop}
-use Rattle.gql_base.specs.parts.Values.{FieldTrees}
+use Rattle.std.specs.Prelude.{ℕ, suc, ◌+◌, ◌≤◌, ◌≡◌, List, [], ◌∷◌, map, Option, Some, None, Result, Ok, Err}
 use Rattle.input_values.specs.declared.coercion.faults.CoercionFault.{CoercionFault}
-use Rattle.input_values.specs.values.Coerced.{CoercedTree, CoercedTrees, coerced_then, CoercedFields, coerced_field_then, NamedTree, trees_from, named_trees_from, item_nodes, field_nodes}
+use Rattle.input_values.specs.declared.values.coerced.Coerced.{Coerced}
+use Rattle.input_values.specs.declared.values.coerced.CoercedField.{CoercedField}
+use Rattle.input_values.specs.values.Coerced.{CoercedTree, coerced_tree, coerced_list, coerced_object, CoercedTrees, no_coerced, coerced_then, CoercedFields, no_coerced_field, coerced_field_then, NamedTree, named_tree, trees_from, named_trees_from, item_nodes, field_nodes}
 use Rattle.input_values.specs.values.Counting.{counted}
 use Rattle.input_values.specs.coercion.Answers.{Answer, mapped}
-use Rattle.input_values.specs.coercion.Forms.{InputForm, fields_of}
-use Rattle.input_values.specs.coercion.Objects.{fields_at}
-use Rattle.input_values.specs.coercion.Coercion.{find_coerced}
-use Rattle.input_values.specs.coercion.Literals.{Environment, literal_fields}
-use Rattle.input_values.specs.coercion.Calls.{Tells}
+use Rattle.input_values.specs.coercion.Calls.{Tells, Coerces}
 
 -- these in front of others
 abbrev pub in_front : {T X : Type 0} → (T → X → X) → List T → X → X
@@ -41,11 +38,18 @@ pub record FieldsLeft (limit : ℕ) (built : List NamedTree) (before now : ℕ) 
   pub count : now ≡ counted limit (before + suc (field_nodes (named_trees_from done)))
   pub complete : now ≤ limit → built ≡ done
 
--- the fields of an input object from a place on, where these fields of a literal are given
-abbrev pub fields_from : ℕ → (ℕ → InputForm) → ℕ → Environment → FieldTrees → Answer CoercedFields
-fields_from at form of env written = fields_at (drop at (fields_of (form of))) (λ name. find_coerced form name (literal_fields env written))
-
 -- Whatever was done before, one piece more leads from what was left to what is left, or tells the fault.
 abbrev pub FieldsGoOn : ℕ → List NamedTree → List NamedTree → ℕ → ℕ → Answer CoercedFields → Answer CoercedFields → Result (Unit {0}) CoercionFault → Type 0
 FieldsGoOn limit built more before now rest left (Ok u) = (start : ℕ) (whole : Answer CoercedFields) → FieldsLeft limit built start before rest whole → FieldsLeft limit more start now left whole
 FieldsGoOn limit built more before now rest left (Err fault) = (start : ℕ) (whole : Answer CoercedFields) → FieldsLeft limit built start before rest whole → Tells fault whole
+
+-- The same for the fields of an input object, where `rest` says what the fields from a place on come to.
+abbrev pub PushesField : ℕ → List CoercedField → List CoercedField → ℕ → ℕ → (ℕ → Answer CoercedFields) → ℕ → Result (Unit {0}) CoercionFault → Type 0
+PushesField limit built more before now rest at result = FieldsGoOn limit (map named_tree built) (map named_tree more) before now (rest at) (rest (at + 1)) result
+
+-- Where nothing is left, the list or object that was built is the whole, as long as the count is within the limit.
+abbrev pub EndsList : ℕ → List Coerced → ℕ → Option Coerced → Type 0
+EndsList limit built count list = (before : ℕ) (whole : Answer CoercedTrees) → ItemsLeft limit (map coerced_tree built) before count (Ok no_coerced) whole → Coerces limit before count (Ok list) (mapped coerced_list whole)
+
+abbrev pub EndsObject : ℕ → List CoercedField → ℕ → Option Coerced → Type 0
+EndsObject limit built count object = (before : ℕ) (whole : Answer CoercedFields) → FieldsLeft limit (map named_tree built) before count (Ok no_coerced_field) whole → Coerces limit before count (Ok object) (mapped coerced_object whole)

@@ -1,10 +1,9 @@
 //! Lists and objects that are being built.
 
-ghost use Rattle.std.specs.Prelude.{ℕ, ◌≡◌, ◌++◌, Ok, IfOk, map};
-ghost use Rattle.input_values.specs.values.Coerced.{CoercedTrees, CoercedFields, coerced_tree, named_tree, no_coerced, no_coerced_field, coerced_list, coerced_object};
-ghost use Rattle.input_values.specs.coercion.Answers.{Answer, mapped};
-ghost use Rattle.input_values.specs.coercion.Calls.{Coerces, tree_in};
-ghost use Rattle.input_values.specs.coercion.Left.{ItemsLeft, FieldsLeft, one_item, one_field};
+ghost use Rattle.std.specs.Prelude.{◌≡◌, ◌++◌, IfOk, map};
+ghost use Rattle.input_values.specs.values.Coerced.{coerced_tree, named_tree};
+ghost use Rattle.input_values.specs.coercion.Calls.{tree_in};
+ghost use Rattle.input_values.specs.coercion.Left.{one_item, one_field, EndsList, EndsObject};
 
 use crate::values::coerced::{Coerced, CoercedField};
 use crate::values::made;
@@ -44,7 +43,7 @@ pub fn push_field(
 
 /// The whole list, where the count is within the limit.
 pub fn list_within(built: Vec<Coerced>, limit: u32, count: u64) -> Option<Coerced>
-    ensures { (before : ℕ) (whole : Answer CoercedTrees) → ItemsLeft limit (map coerced_tree built.items) before count (Ok no_coerced) whole → Coerces limit before count (Ok result) (mapped coerced_list whole) }
+    ensures { EndsList limit built.items count result }
 {
     if count > u64::from(limit) {
         return None;
@@ -54,7 +53,7 @@ pub fn list_within(built: Vec<Coerced>, limit: u32, count: u64) -> Option<Coerce
 
 /// The whole object, where the count is within the limit.
 pub fn object_within(built: Vec<CoercedField>, limit: u32, count: u64) -> Option<Coerced>
-    ensures { (before : ℕ) (whole : Answer CoercedFields) → FieldsLeft limit (map named_tree built.items) before count (Ok no_coerced_field) whole → Coerces limit before count (Ok result) (mapped coerced_object whole) }
+    ensures { EndsObject limit built.items count result }
 {
     if count > u64::from(limit) {
         return None;

@@ -1,21 +1,21 @@
 //! Coercion of literals (GraphQL October 2021, 3.5 to 3.12), beside the values of variables.
 
-ghost use Rattle.std.specs.Prelude.{◌≡◌, ◌+◌, [], false, map, option_map, IfOk};
-ghost use Rattle.gql_base.specs.parts.Trees.{value_tree};
-ghost use Rattle.input_values.specs.values.Coerced.{coerced_list, coerced_object, named_tree};
+ghost use Rattle.std.specs.Prelude.{◌≡◌, [], false, option_map, IfOk};
+ghost use Rattle.input_values.specs.values.Coerced.{coerced_object};
 ghost use Rattle.input_values.specs.inputs.Shapes.{shape_tree};
 ghost use Rattle.input_values.specs.coercion.Answers.{mapped};
-ghost use Rattle.input_values.specs.coercion.Given.{given_integer, given_string, given_name, given_boolean, given_list, given_object, is_nothing, present};
+ghost use Rattle.input_values.specs.coercion.Given.{given_integer, given_string, given_name, given_boolean, given_list, is_nothing};
 ghost use Rattle.input_values.specs.coercion.Forms.{fields_of};
 ghost use Rattle.input_values.specs.coercion.Kinds.{field_seen, absence_seen};
 ghost use Rattle.input_values.specs.coercion.Leaves.{custom_at};
 ghost use Rattle.input_values.specs.coercion.Customs.{any_value};
-ghost use Rattle.input_values.specs.coercion.Objects.{absent_at, field_at, fields_at, wrong_name, object_of, object_at};
-ghost use Rattle.input_values.specs.coercion.Coercion.{coerced, items_coerced, find_coerced};
-ghost use Rattle.input_values.specs.coercion.Literals.{no_variables, values_of, variable_given, literal_given, literal_items, literal_fields};
-ghost use Rattle.input_values.specs.coercion.Sizes.{items_written, fields_written, names_written};
+ghost use Rattle.input_values.specs.coercion.Objects.{absent_at, wrong_name};
+ghost use Rattle.input_values.specs.coercion.Coercion.{coerced};
+ghost use Rattle.input_values.specs.coercion.Literals.{no_variables, values_of, variable_given, literal_items};
+ghost use Rattle.input_values.specs.coercion.Sizes.{items_written, names_written};
+ghost use Rattle.input_values.specs.coercion.Written.{value_given, written_value, written_list, written_items, written_object, written_at_type, written_input, written_fields, written_field, written_as};
 ghost use Rattle.input_values.specs.coercion.Calls.{Coerces, CoercesField};
-ghost use Rattle.input_values.specs.coercion.Left.{FieldsGoOn, fields_from};
+ghost use Rattle.input_values.specs.coercion.Left.{PushesField};
 
 use crate::coercion::building::{list_within, object_within, push_field, push_item};
 use crate::coercion::customs::{any_list, any_object};
@@ -42,7 +42,7 @@ pub fn coerce_literal<T: InputTypes>(
     value: &Value,
     count: &mut u64,
 ) -> Result<Option<Coerced>, CoercionFault>
-    ensures { Coerces scope.now.limit count.old count.new result (coerced (T.forms scope.now.types.now) (literal_given (values_of scope.now.variables.now.items.items) (value_tree value.now)) (shape_tree shape.now)) }
+    ensures { Coerces scope.now.limit count.old count.new result (written_value (T.forms scope.now.types.now) scope.now.variables.now.items.items value.now shape.now) }
 {
     match value {
         Value::Var(name) => coerce_variable(alloc, scope, shape, name.text.as_str(), count),
@@ -165,7 +165,7 @@ fn coerce_list<T: InputTypes>(
     items: &[Value],
     count: &mut u64,
 ) -> Result<Option<Coerced>, CoercionFault>
-    ensures { Coerces scope.now.limit count.old count.new result (coerced (T.forms scope.now.types.now) (given_list (literal_items (values_of scope.now.variables.now.items.items) (items_written items.now))) (shape_tree shape.now)) }
+    ensures { Coerces scope.now.limit count.old count.new result (written_list (T.forms scope.now.types.now) scope.now.variables.now.items.items items.now shape.now) }
 {
     match shape {
         Shape::Named { of, .. } => custom_list(alloc, scope, *of, items, count),
@@ -204,7 +204,7 @@ fn coerce_items<T: InputTypes>(
     items: &[Value],
     count: &mut u64,
 ) -> Result<Option<Coerced>, CoercionFault>
-    ensures { Coerces scope.now.limit count.old count.new result (mapped coerced_list (items_coerced (T.forms scope.now.types.now) 0 (literal_items (values_of scope.now.variables.now.items.items) (items_written items.now)) (shape_tree item_shape.now))) }
+    ensures { Coerces scope.now.limit count.old count.new result (written_items (T.forms scope.now.types.now) scope.now.variables.now.items.items items.now item_shape.now) }
 {
     count_node(scope.limit, count);
     let mut built = Vec::new(alloc);
@@ -228,7 +228,7 @@ fn coerce_object<T: InputTypes>(
     fields: &[Argument],
     count: &mut u64,
 ) -> Result<Option<Coerced>, CoercionFault>
-    ensures { Coerces scope.now.limit count.old count.new result (coerced (T.forms scope.now.types.now) (given_object false (literal_fields (values_of scope.now.variables.now.items.items) (fields_written fields.now))) (shape_tree shape.now)) }
+    ensures { Coerces scope.now.limit count.old count.new result (written_object (T.forms scope.now.types.now) scope.now.variables.now.items.items fields.now shape.now) }
 {
     let inner = object_at(alloc, scope, innermost(shape), fields, count);
     wrapped(alloc, shape, inner, scope.limit, count)
@@ -243,7 +243,7 @@ fn object_at<T: InputTypes>(
     fields: &[Argument],
     count: &mut u64,
 ) -> Result<Option<Coerced>, CoercionFault>
-    ensures { Coerces scope.now.limit count.old count.new result (object_at (T.forms scope.now.types.now of.number) false (literal_fields (values_of scope.now.variables.now.items.items) (fields_written fields.now)) (λ name. find_coerced (T.forms scope.now.types.now) name (literal_fields (values_of scope.now.variables.now.items.items) (fields_written fields.now)))) }
+    ensures { Coerces scope.now.limit count.old count.new result (written_at_type (T.forms scope.now.types.now) scope.now.variables.now.items.items of.number fields.now) }
 {
     match scope.types.kind(of) {
         InputKind::Object => input_object(alloc, scope, of, fields, count),
@@ -266,7 +266,7 @@ fn input_object<T: InputTypes>(
     fields: &[Argument],
     count: &mut u64,
 ) -> Result<Option<Coerced>, CoercionFault>
-    ensures { Coerces scope.now.limit count.old count.new result (object_of (wrong_name false (fields_of (T.forms scope.now.types.now of.number)) [] (names_written fields.now)) (fields_at (fields_of (T.forms scope.now.types.now of.number)) (λ name. find_coerced (T.forms scope.now.types.now) name (literal_fields (values_of scope.now.variables.now.items.items) (fields_written fields.now))))) }
+    ensures { Coerces scope.now.limit count.old count.new result (written_input (T.forms scope.now.types.now) scope.now.variables.now.items.items of.number fields.now) }
 {
     match wrong_name(alloc, scope.types, of, fields)? {
         Some(name) => Err(bad_value(alloc).at_key(alloc, name)),
@@ -305,7 +305,7 @@ fn coerce_fields<T: InputTypes>(
     given: &NameIndex<'_, Argument>,
     count: &mut u64,
 ) -> Result<Option<Coerced>, CoercionFault>
-    ensures { Coerces scope.now.limit count.old count.new result (mapped coerced_object (fields_at (fields_of (T.forms scope.now.types.now of.number)) (λ name. find_coerced (T.forms scope.now.types.now) name (literal_fields (values_of scope.now.variables.now.items.items) (fields_written given.now.items.now))))) }
+    ensures { Coerces scope.now.limit count.old count.new result (mapped coerced_object (written_fields (T.forms scope.now.types.now) scope.now.variables.now.items.items of.number given.now.items.now 0)) }
 {
     count_node(scope.limit, count);
     let mut built = Vec::new(alloc);
@@ -329,7 +329,7 @@ fn push_field_at<T: InputTypes>(
     built: &mut Vec<CoercedField>,
     count: &mut u64,
 ) -> Result<(), CoercionFault>
-    ensures { FieldsGoOn scope.now.limit (map named_tree built.old.items) (map named_tree built.new.items) count.old count.new (fields_from at (T.forms scope.now.types.now) of.number (values_of scope.now.variables.now.items.items) (fields_written given.now.items.now)) (fields_from (at + 1) (T.forms scope.now.types.now) of.number (values_of scope.now.variables.now.items.items) (fields_written given.now.items.now)) result }
+    ensures { PushesField scope.now.limit built.old.items built.new.items count.old count.new (written_fields (T.forms scope.now.types.now) scope.now.variables.now.items.items of.number given.now.items.now) at result }
 {
     match scope.types.field(of, at) {
         Some(input) => match coerce_field(alloc, scope, &input, given, count) {
@@ -349,7 +349,7 @@ fn coerce_field<T: InputTypes>(
     given: &NameIndex<'_, Argument>,
     count: &mut u64,
 ) -> Result<Option<Coerced>, CoercionFault>
-    ensures { CoercesField scope.now.limit count.old count.new result (field_at (field_seen input.now) (find_coerced (T.forms scope.now.types.now) input.now.name.now (literal_fields (values_of scope.now.variables.now.items.items) (fields_written given.now.items.now)))) }
+    ensures { CoercesField scope.now.limit count.old count.new result (written_field (T.forms scope.now.types.now) scope.now.variables.now.items.items (field_seen input.now) given.now.items.now) }
 {
     match given.first_named(input.name) {
         Some(field) => written_field(alloc, scope, input, &field.value, count),
@@ -366,7 +366,7 @@ fn written_field<T: InputTypes>(
     value: &Value,
     count: &mut u64,
 ) -> Result<Option<Coerced>, CoercionFault>
-    ensures { CoercesField scope.now.limit count.old count.new result (field_at (field_seen input.now) (present (literal_given (values_of scope.now.variables.now.items.items) (value_tree value.now)) (λ shape. coerced (T.forms scope.now.types.now) (literal_given (values_of scope.now.variables.now.items.items) (value_tree value.now)) shape))) }
+    ensures { CoercesField scope.now.limit count.old count.new result (written_as (T.forms scope.now.types.now) scope.now.variables.now.items.items (field_seen input.now) value.now) }
 {
     if is_nothing(scope, value) {
         return absent_field(alloc, input.absence, scope.limit, count);
@@ -377,7 +377,7 @@ fn written_field<T: InputTypes>(
 /// Whether a literal is a variable without a value.
 #[tactic(auto, using(crate::proofs::CoercionSteps::Literals::literal_trees))]
 pub fn is_nothing<T: InputTypes>(scope: &Scope<'_, T>, value: &Value) -> bool
-    ensures { result ≡ is_nothing (literal_given (values_of scope.now.variables.now.items.items) (value_tree value.now)) }
+    ensures { result ≡ is_nothing (value_given scope.now.variables.now.items.items value.now) }
 {
     match value {
         Value::Var(name) => value_of(scope.variables, name.text.as_str()).is_none(),

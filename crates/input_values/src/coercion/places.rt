@@ -5,8 +5,8 @@ ghost use Rattle.std.specs.Prelude.{ℕ, ◌≡◌, ◌≤◌, Ok, Some, IfOk};
 ghost use Rattle.input_values.specs.values.Coerced.{CoercedTree, coerced_tree};
 ghost use Rattle.input_values.specs.inputs.Shapes.{shape_tree, is_nullable};
 ghost use Rattle.input_values.specs.coercion.Answers.{Answer, mapped};
-ghost use Rattle.input_values.specs.coercion.Places.{single_at, list_of_one, innermost};
-ghost use Rattle.input_values.specs.coercion.Calls.{Coerces, tree_in};
+ghost use Rattle.input_values.specs.coercion.Places.{list_of_one, innermost};
+ghost use Rattle.input_values.specs.coercion.Calls.{Coerces, Wraps, tree_in};
 
 use crate::coercion::faults::CoercionFault;
 use crate::inputs::shape::{Shape, ShapeLevel, TypeId, shape_level};
@@ -44,7 +44,7 @@ pub fn wrapped(
     limit: u32,
     count: &mut u64,
 ) -> Result<Option<Coerced>, CoercionFault>
-    ensures { (before : ℕ) (named : ℕ → Answer CoercedTree) → Coerces limit before count.old inner (named (innermost (shape_tree shape.now))) → Coerces limit before count.new result (single_at named (shape_tree shape.now)) }
+    ensures { Wraps limit count.old count.new (shape_tree shape.now) inner result }
 {
     match shape {
         Shape::Named { .. } => inner,

@@ -1,12 +1,9 @@
 //! The members of JSON objects, by their names.
 
-ghost use Rattle.std.specs.Prelude.{◌≡◌, [], true, option_map};
+ghost use Rattle.std.specs.Prelude.{◌≡◌, option_map};
 ghost use Rattle.serde_json.specs.Find.{get_member};
 ghost use Rattle.serde_json.specs.View.{view, members_view};
-ghost use Rattle.input_values.specs.coercion.Forms.{fields_of};
-ghost use Rattle.input_values.specs.coercion.Given.{given_names};
-ghost use Rattle.input_values.specs.coercion.Objects.{wrong_name};
-ghost use Rattle.variable_coercion.specs.Json.{json_members};
+ghost use Rattle.variable_coercion.specs.Members.{unknown_member};
 
 use input_values::{InputTypes, TypeId};
 use serde_json::{Map, Value};
@@ -24,7 +21,7 @@ pub(crate) fn unknown_name<'a, T: InputTypes>(
     of: TypeId,
     members: &'a Map<String, Value>,
 ) -> Option<&'a str>
-    ensures { option_map (λ n. n.now) result ≡ wrong_name true (fields_of (T.forms types.now of.number)) [] (given_names (json_members (members_view members.now.entries))) }
+    ensures { option_map (λ n. n.now) result ≡ unknown_member (T.forms types.now) (members_view members.now.entries) of.number }
 {
     'names: for (name, _value) in members.iter() {
         if !types.has_field(of, name.as_str()) {

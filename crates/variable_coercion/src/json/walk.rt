@@ -1,22 +1,20 @@
 //! Coercion of JSON at places of shapes. Past the limit nothing more is built, and the walk goes on for what is refused.
 
-ghost use Rattle.std.specs.Prelude.{◌≡◌, ◌+◌, [], true, map};
+ghost use Rattle.std.specs.Prelude.{true};
 ghost use Rattle.serde_json.specs.Find.{as_integer};
 ghost use Rattle.serde_json.specs.View.{view, number_view, items_view, members_view};
-ghost use Rattle.input_values.specs.values.Coerced.{coerced_list, coerced_object, named_tree};
+ghost use Rattle.input_values.specs.values.Coerced.{coerced_list, coerced_object};
 ghost use Rattle.input_values.specs.inputs.Shapes.{shape_tree};
 ghost use Rattle.input_values.specs.coercion.Answers.{mapped};
-ghost use Rattle.input_values.specs.coercion.Given.{given_integer, given_text, given_boolean, given_list, given_object, given_names};
-ghost use Rattle.input_values.specs.coercion.Forms.{fields_of};
+ghost use Rattle.input_values.specs.coercion.Given.{given_integer, given_text, given_boolean, given_list, given_object};
 ghost use Rattle.input_values.specs.coercion.Kinds.{field_seen};
 ghost use Rattle.input_values.specs.coercion.Leaves.{custom_at};
 ghost use Rattle.input_values.specs.coercion.Customs.{any_value};
-ghost use Rattle.input_values.specs.coercion.Objects.{field_at, fields_at, wrong_name, object_of, object_at};
-ghost use Rattle.input_values.specs.coercion.Coercion.{coerced, items_coerced, find_coerced};
+ghost use Rattle.input_values.specs.coercion.Coercion.{coerced, items_coerced};
 ghost use Rattle.input_values.specs.coercion.Calls.{Coerces, CoercesField};
-ghost use Rattle.input_values.specs.coercion.Left.{FieldsGoOn};
+ghost use Rattle.input_values.specs.coercion.Left.{PushesField};
 ghost use Rattle.variable_coercion.specs.Json.{number_given, json_given, json_items, json_members};
-ghost use Rattle.variable_coercion.specs.Sizes.{members_from};
+ghost use Rattle.variable_coercion.specs.Members.{members_at_type, members_from, members_as_input, member_field};
 
 use crate::json::customs::{any_array, any_members};
 use crate::json::members::{member, unknown_name};
@@ -200,7 +198,7 @@ fn object_at<T: InputTypes>(
     members: &Map<String, Value>,
     count: &mut u64,
 ) -> Result<Option<Coerced>, CoercionFault>
-    ensures { Coerces scope.now.limit count.old count.new result (object_at (T.forms scope.now.types.now of.number) true (json_members (members_view members.now.entries)) (λ name. find_coerced (T.forms scope.now.types.now) name (json_members (members_view members.now.entries)))) }
+    ensures { Coerces scope.now.limit count.old count.new result (members_at_type (T.forms scope.now.types.now) (members_view members.now.entries) of.number) }
 {
     match scope.types.kind(of) {
         InputKind::Object => input_object(alloc, scope, of, members, count),
@@ -223,7 +221,7 @@ fn input_object<T: InputTypes>(
     members: &Map<String, Value>,
     count: &mut u64,
 ) -> Result<Option<Coerced>, CoercionFault>
-    ensures { Coerces scope.now.limit count.old count.new result (object_of (wrong_name true (fields_of (T.forms scope.now.types.now of.number)) [] (given_names (json_members (members_view members.now.entries)))) (members_from 0 (T.forms scope.now.types.now) of.number (members_view members.now.entries))) }
+    ensures { Coerces scope.now.limit count.old count.new result (members_as_input (T.forms scope.now.types.now) (members_view members.now.entries) of.number) }
 {
     match unknown_name(scope.types, of, members) {
         Some(name) => Err(bad_value(alloc).at_key(alloc, name)),
@@ -240,7 +238,7 @@ fn coerce_fields<T: InputTypes>(
     members: &Map<String, Value>,
     count: &mut u64,
 ) -> Result<Option<Coerced>, CoercionFault>
-    ensures { Coerces scope.now.limit count.old count.new result (mapped coerced_object (members_from 0 (T.forms scope.now.types.now) of.number (members_view members.now.entries))) }
+    ensures { Coerces scope.now.limit count.old count.new result (mapped coerced_object (members_from (T.forms scope.now.types.now) (members_view members.now.entries) of.number 0)) }
 {
     count_node(scope.limit, count);
     let mut built = Vec::new(alloc);
@@ -264,7 +262,7 @@ fn push_field_at<T: InputTypes>(
     built: &mut Vec<CoercedField>,
     count: &mut u64,
 ) -> Result<(), CoercionFault>
-    ensures { FieldsGoOn scope.now.limit (map named_tree built.old.items) (map named_tree built.new.items) count.old count.new (members_from at (T.forms scope.now.types.now) of.number (members_view members.now.entries)) (members_from (at + 1) (T.forms scope.now.types.now) of.number (members_view members.now.entries)) result }
+    ensures { PushesField scope.now.limit built.old.items built.new.items count.old count.new (members_from (T.forms scope.now.types.now) (members_view members.now.entries) of.number) at result }
 {
     match scope.types.field(of, at) {
         Some(input) => match coerce_field(alloc, scope, &input, members, count) {
@@ -284,7 +282,7 @@ fn coerce_field<T: InputTypes>(
     members: &Map<String, Value>,
     count: &mut u64,
 ) -> Result<Option<Coerced>, CoercionFault>
-    ensures { CoercesField scope.now.limit count.old count.new result (field_at (field_seen input.now) (find_coerced (T.forms scope.now.types.now) input.now.name.now (json_members (members_view members.now.entries)))) }
+    ensures { CoercesField scope.now.limit count.old count.new result (member_field (T.forms scope.now.types.now) (members_view members.now.entries) (field_seen input.now)) }
 {
     match member(members, input.name) {
         Some(value) => coerce_json(alloc, scope, input.shape, value, count),

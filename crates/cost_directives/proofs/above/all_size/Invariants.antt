@@ -1,9 +1,9 @@
-use Rattle.std.proofs.Common.{◌≡◌, drop, map, nat_eq}
+use Rattle.std.proofs.Common.{◌≡◌, drop, map}
 use Rattle.std.specs.List.{list_all}
 use Rattle.schema_model.specs.SchemaViews.{schema_data}
 use Rattle.schema_model.specs.Numbers.{type_number}
 use Rattle.schema_model.specs.Entries.{size_data}
-use Rattle.cost_directives.specs.Weighing.{own_weight, own_size, carried_in, carries_like, first_carried}
+use Rattle.cost_directives.specs.Weighing.{own_size, carried_in, carries_like}
 use Rattle.cost_directives.specs.Disagree.{same_size}
 use Rattle.cost_directives.proofs.above.all_size.Given as goal
 

@@ -2,9 +2,7 @@ use Rattle.std.proofs.Common.{◌≡◌, drop, map, nat_eq}
 use Rattle.std.specs.List.{list_all}
 use Rattle.schema_model.specs.SchemaViews.{schema_data}
 use Rattle.schema_model.specs.Numbers.{type_number}
-use Rattle.schema_model.specs.Entries.{size_data}
-use Rattle.cost_directives.specs.Weighing.{own_weight, own_size, carried_in, carries_like, first_carried}
-use Rattle.cost_directives.specs.Disagree.{same_size}
+use Rattle.cost_directives.specs.Weighing.{own_weight, carried_in, carries_like}
 use Rattle.cost_directives.proofs.above.all_weigh.Given as goal
 
 -- What is left answers as the whole.

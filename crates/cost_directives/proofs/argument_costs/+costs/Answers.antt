@@ -1,9 +1,9 @@
-use Rattle.std.proofs.Common.{rules, arith, None, map, refl, sym, ap, ◌∙◌}
+use Rattle.std.proofs.Common.{rules, arith, None, map, refl, ap, ◌∙◌}
 use Rattle.cost_num.specs.Capped.{capped}
 use Rattle.input_values.specs.inputs.Shapes.{shape_tree}
-use Rattle.input_values.specs.values.Coerced.{coerced_tree, named_tree, coerced_null, coerced_integer, coerced_string, coerced_boolean, coerced_enum, coerced_list, coerced_object}
-use Rattle.input_values.proofs.CoercedTrees.{null_made, integer_made, string_made, boolean_made, enum_made, list_made, object_made, field_opened}
-use Rattle.cost_directives.specs.ArgumentCosts.{value_cost, items_cost, fields_cost, list_cost, record_cost, field_cost, field_at, weighed_name}
+use Rattle.input_values.specs.values.Coerced.{coerced_tree, coerced_null, coerced_integer, coerced_string, coerced_boolean, coerced_enum, coerced_list, coerced_object}
+use Rattle.input_values.proofs.CoercedTrees.{null_made, integer_made, string_made, boolean_made, enum_made, list_made, object_made}
+use Rattle.cost_directives.specs.ArgumentCosts.{value_cost, list_cost, record_cost}
 use Rattle.cost_directives.specs.WeightViews.{type_inputs, input_weight, maybe_input}
 use Rattle.cost_directives.proofs.CostSteps.{items_in, fields_in, one_item, one_field, no_item_left, no_field_left, list_falls, object_falls, item_falls, field_falls, value_falls, cost_is, field_cost_is}
 use Rattle.cost_directives.proofs.argument_costs.+costs.Goals as goal

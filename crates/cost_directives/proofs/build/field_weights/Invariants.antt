@@ -1,9 +1,8 @@
 use Rattle.std.proofs.Common.{◌≡◌, ◌++◌, drop, map}
 use Rattle.schema_model.specs.SchemaViews.{schema_data}
-use Rattle.schema_model.specs.Numbers.{type_number}
 use Rattle.schema_model.specs.Entries.{field_number}
-use Rattle.cost_directives.specs.Weights.{type_weight_at, field_weight_at}
-use Rattle.cost_directives.specs.WeightViews.{type_weight, field_weight}
+use Rattle.cost_directives.specs.Weights.{field_weight_at}
+use Rattle.cost_directives.specs.WeightViews.{field_weight}
 use Rattle.cost_directives.proofs.build.field_weights.Given as goal
 
 -- Those so far, and then those of what is left.

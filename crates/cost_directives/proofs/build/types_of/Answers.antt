@@ -1,4 +1,4 @@
-use Rattle.std.proofs.Common.{map, ap, ◌∙◌, ◌∷◌, []}
+use Rattle.std.proofs.Common.{map, ap, ◌∙◌}
 use Rattle.std.proofs.lemmas.List.{map-append}
 use Rattle.schema_model.specs.Numbers.{type_number}
 use Rattle.cost_directives.proofs.NumbersMade.{next_number}

@@ -1,7 +1,6 @@
-use Rattle.std.proofs.Common.{◌≡◌, map, length}
+use Rattle.std.proofs.Common.{◌≡◌, map}
 use Rattle.std.specs.List.{range_with_len}
 use Rattle.schema_model.specs.Numbers.{type_number}
-use Rattle.schema_model.specs.Entries.{field_number}
 use Rattle.cost_directives.proofs.build.types_of.Given as goal
 
 -- The numbers so far.

@@ -1,7 +1,7 @@
 use Rattle.std.proofs.Common.{◌≡◌, ◌≤◌, ◌+◌, drop, map, length}
-use Rattle.std.specs.List.{list_any, filter}
+use Rattle.std.specs.List.{filter}
 use Rattle.schema_model.specs.Arguments.{arg_data}
-use Rattle.cost_directives.specs.DeclaredSizes.{slicing_args, is_supplied, has_value, is_given, negative_slice, slices_of, greatest_of}
+use Rattle.cost_directives.specs.DeclaredSizes.{slicing_args, has_value}
 use Rattle.cost_directives.proofs.sizes.count_values.Given as goal
 
 -- Those so far and those of what is left are all.

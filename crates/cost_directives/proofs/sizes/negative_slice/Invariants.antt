@@ -1,7 +1,6 @@
-use Rattle.std.proofs.Common.{◌≡◌, ◌≤◌, ◌+◌, drop, map, length}
-use Rattle.std.specs.List.{list_any, filter}
+use Rattle.std.proofs.Common.{◌≡◌, drop, map}
 use Rattle.schema_model.specs.Arguments.{arg_data}
-use Rattle.cost_directives.specs.DeclaredSizes.{slicing_args, is_supplied, has_value, is_given, negative_slice, slices_of, greatest_of}
+use Rattle.cost_directives.specs.DeclaredSizes.{slicing_args, negative_slice}
 use Rattle.cost_directives.proofs.sizes.negative_slice.Given as goal
 
 -- What is left answers as the whole.

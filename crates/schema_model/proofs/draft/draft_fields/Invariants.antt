@@ -1,12 +1,8 @@
-use Rattle.std.proofs.Common.{◌≡◌, ◌≤◌, ◌+◌, ◌++◌, drop, map, length, codes, nat_eq, not}
-use Rattle.schema_model.specs.Numbers.{type_number}
-use Rattle.schema_model.specs.Entries.{type_data}
-use Rattle.schema_model.specs.DraftViews.{input_view, field_view, type_view}
-use Rattle.std.specs.List.{list_any, list_all, flat_map}
+use Rattle.std.proofs.Common.{◌≡◌, ◌++◌, drop, map}
+use Rattle.schema_model.specs.DraftViews.{field_view}
 use Rattle.schema_rules.specs.Views.{named_kind}
-use Rattle.schema_rules.specs.First.{first_of}
-use Rattle.schema_model.specs.Drafts.{input_draft, field_draft, number_named, definition_draft, scalar_draft}
-use Rattle.schema_reader.specs.Trees.{input_tree, field_tree, definition_tree}
+use Rattle.schema_model.specs.Drafts.{field_draft}
+use Rattle.schema_reader.specs.Trees.{field_tree}
 use Rattle.schema_model.proofs.draft.draft_fields.Given as goal
 
 -- Those so far, and then those of what is left.

@@ -1,13 +1,7 @@
-use Rattle.std.proofs.Common.{◌≡◌, ◌≤◌, ◌+◌, ◌++◌, ◌-◌, drop, map, length, codes, nat_eq, not}
-use Rattle.schema_model.specs.DraftViews.{input_view, field_view, type_view}
-use Rattle.schema_model.specs.Entries.{size_data, field_data, type_data, field_number}
-use Rattle.schema_model.specs.Numbers.{type_number}
-use Rattle.schema_model.specs.Schemas.{value_named, texts_of, input_of, field_of, field_name, numbers, types_from, fields_from}
-use Rattle.schema_model.specs.Drafts.{value_name}
-use Rattle.schema_reader.specs.Trees.{enum_value_tree}
-use Rattle.input_values.specs.inputs.Definitions.{input_data}
-use Rattle.gql_base.specs.parts.Trees.{named_value, value_tree}
-use Rattle.gql_base.specs.parts.Values.{values_from}
+use Rattle.std.proofs.Common.{◌≡◌, ◌++◌, drop, map}
+use Rattle.schema_model.specs.DraftViews.{field_view}
+use Rattle.schema_model.specs.Entries.{field_data}
+use Rattle.schema_model.specs.Schemas.{field_of}
 use Rattle.schema_model.proofs.finish.add_fields.Given as goal
 
 -- Those so far, and then those of what is left.

@@ -1,4 +1,4 @@
-use Rattle.std.proofs.Common.{refl, sym, ap, ap₂, ◌∙◌, map, nat_eq}
+use Rattle.std.proofs.Common.{refl, sym, ap, ap₂, ◌∙◌, map}
 use Rattle.std.specs.Prelude.{◌&&◌}
 use Rattle.input_values.specs.inputs.Shapes.{shape_tree, level_tree, named_shape, list_shape}
 use Rattle.input_values.proofs.ShapeTrees.{named_made, list_made}

@@ -1,8 +1,7 @@
-use Rattle.std.proofs.Common.{refl, sym, ap, ap₂, ◌∙◌, map, nat_eq}
+use Rattle.std.proofs.Common.{refl, sym, ap, ap₂, ◌∙◌, nat_eq}
 use Rattle.std.specs.Prelude.{◌&&◌}
 use Rattle.input_values.specs.inputs.Shapes.{shape_tree, level_tree, named_shape, list_shape}
 use Rattle.input_values.proofs.ShapeTrees.{named_made, list_made}
-use Rattle.schema_model.specs.DraftViews.{type_view}
 use Rattle.schema_model.specs.Implementing.{is_same}
 use Rattle.schema_model.proofs.Narrowing.{same}
 use Rattle.schema_model.proofs.implementing.+is_same.Goals as goal

@@ -1,5 +1,5 @@
-use Rattle.std.proofs.Common.{◌≡◌, ◌≤◌, ◌+◌, ◌++◌, drop, map, length, codes, nat_eq, not}
-use Rattle.schema_model.specs.DraftViews.{input_view, field_view, type_view}
+use Rattle.std.proofs.Common.{◌≡◌, drop, map}
+use Rattle.schema_model.specs.DraftViews.{field_view, type_view}
 use Rattle.schema_rules.specs.First.{first_of}
 use Rattle.schema_model.specs.Implementing.{lacking_at}
 use Rattle.schema_model.proofs.implementing.lacking_among.Given as goal

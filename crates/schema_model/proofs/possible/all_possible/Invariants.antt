@@ -1,10 +1,5 @@
-use Rattle.std.proofs.Common.{◌≡◌, ◌≤◌, ◌+◌, ◌++◌, drop, map, length, codes, nat_eq, not}
-use Rattle.schema_model.specs.Numbers.{type_number}
+use Rattle.std.proofs.Common.{◌≡◌, ◌++◌, drop, map}
 use Rattle.schema_model.specs.Entries.{type_data, numbers_in}
-use Rattle.schema_model.specs.DraftViews.{input_view, field_view, type_view}
-use Rattle.std.specs.List.{list_any, list_all, flat_map}
-use Rattle.schema_rules.specs.Views.{named_kind}
-use Rattle.schema_rules.specs.First.{first_of}
 use Rattle.schema_model.specs.SchemaData.{all_possible}
 use Rattle.schema_model.proofs.possible.all_possible.Given as goal
 

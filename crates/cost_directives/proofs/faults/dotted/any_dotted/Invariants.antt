@@ -1,6 +1,5 @@
 use Rattle.std.proofs.Common.{◌≡◌, drop}
-use Rattle.std.specs.List.{list_any}
-use Rattle.cost_directives.specs.Dotted.{is_dot, any_dotted}
+use Rattle.cost_directives.specs.Dotted.{any_dotted}
 use Rattle.cost_directives.proofs.faults.dotted.any_dotted.Given as goal
 
 -- What is left answers as the whole.

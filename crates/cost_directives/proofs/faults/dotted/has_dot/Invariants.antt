@@ -1,6 +1,6 @@
 use Rattle.std.proofs.Common.{◌≡◌, drop}
 use Rattle.std.specs.List.{list_any}
-use Rattle.cost_directives.specs.Dotted.{is_dot, any_dotted}
+use Rattle.cost_directives.specs.Dotted.{is_dot}
 use Rattle.cost_directives.proofs.faults.dotted.has_dot.Given as goal
 
 -- What is left answers as the whole.

@@ -1,5 +1,4 @@
-use Rattle.std.proofs.Common.{◌≡◌, drop, map, find}
-use Rattle.input_values.specs.inputs.Definitions.{input_data}
+use Rattle.std.proofs.Common.{◌≡◌, drop, find}
 use Rattle.schema_model.specs.SchemaViews.{schema_data}
 use Rattle.cost_directives.specs.SizedUnknown.{is_no_list_field}
 use Rattle.cost_directives.proofs.faults.sized_unknown.first_of_none.Given as goal

@@ -1,6 +1,5 @@
 use Rattle.std.proofs.Common.{◌≡◌, drop, map, find}
 use Rattle.input_values.specs.inputs.Definitions.{input_data}
-use Rattle.schema_model.specs.SchemaViews.{schema_data}
 use Rattle.cost_directives.specs.SlicingUnknown.{is_no_argument}
 use Rattle.cost_directives.proofs.faults.slicing_unknown.first_of_none.Given as goal
 

@@ -5,7 +5,8 @@ use Rattle.input_values.specs.inputs.Shapes.{shape_tree}
 use Rattle.input_values.specs.coercion.Coercion.{items_coerced}
 use Rattle.input_values.specs.coercion.Literals.{values_of, literal_items}
 use Rattle.input_values.specs.coercion.Sizes.{items_written, fields_written, tree_size, items_size, fields_size}
-use Rattle.input_values.specs.coercion.Left.{ItemsLeft, FieldsLeft, fields_from}
+use Rattle.input_values.specs.coercion.Left.{ItemsLeft, FieldsLeft}
+use Rattle.input_values.specs.coercion.Written.{written_fields}
 use Rattle.input_values.proofs.coercion.literals.+literals.Given as goal
 
 abbrev pub invariant-coerce_items-items : goal.invariant-coerce_items-items
@@ -15,8 +16,8 @@ invariant-coerce_items-items g l = (l.index ≡ l.item-index) × ItemsLeft l.sco
 
 abbrev pub invariant-coerce_fields-inputs : goal.invariant-coerce_fields-inputs
 invariant-coerce_fields-inputs g l = FieldsLeft l.scope.limit (map named_tree l.built.items) l.fn.count l.count
-    (fields_from l.at (g.T.InputTypes.forms l.scope.types.now) l.of.number (values_of l.scope.variables.now.items.items) (fields_written l.given.items.now))
-    (fields_from 0 (g.T.InputTypes.forms l.scope.types.now) l.of.number (values_of l.scope.variables.now.items.items) (fields_written l.given.items.now))
+    (written_fields (g.T.InputTypes.forms l.scope.types.now) l.scope.variables.now.items.items l.of.number l.given.items.now l.at)
+    (written_fields (g.T.InputTypes.forms l.scope.types.now) l.scope.variables.now.items.items l.of.number l.given.items.now 0)
 
 abbrev pub decreases-coerce_literal : goal.decreases-coerce_literal
 decreases-coerce_literal g l = 8 * tree_size (value_tree l.value.now)

@@ -1,4 +1,4 @@
-use Rattle.std.proofs.Common.{sym, ap, ◌∙◌, map}
+use Rattle.std.proofs.Common.{sym, ◌∙◌}
 use Rattle.std.specs.Str.{bytes_eq}
 use Rattle.schema_model.specs.Entries.{type_data}
 use Rattle.schema_model.proofs.NamedDrafts.{position_view}

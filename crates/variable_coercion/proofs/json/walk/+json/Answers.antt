@@ -4,14 +4,15 @@ use Rattle.input_values.specs.values.Coerced.{coerced_tree, named_tree, coerced_
 use Rattle.input_values.specs.inputs.Shapes.{shape_tree}
 use Rattle.input_values.specs.coercion.Forms.{fields_of}
 use Rattle.input_values.specs.coercion.Kinds.{field_seen}
-use Rattle.input_values.specs.coercion.Coercion.{items_coerced, find_coerced}
+use Rattle.input_values.specs.coercion.Coercion.{items_coerced}
 use Rattle.input_values.specs.coercion.Left.{ItemsLeft}
 use Rattle.input_values.proofs.CoercionSteps.Pieces.{items_start}
 use Rattle.input_values.proofs.CoercionSteps.Places.{mapped_tells}
 use Rattle.input_values.proofs.CoercionSteps.Lists.{same_answer, no_field_left}
 use Rattle.input_values.proofs.CoercionSteps.Fields.{one_field_more, no_field_more, one_field_refused}
-use Rattle.variable_coercion.specs.Json.{json_items, json_members}
-use Rattle.variable_coercion.specs.Sizes.{json_size, items_size, members_size, members_from}
+use Rattle.variable_coercion.specs.Json.{json_items}
+use Rattle.variable_coercion.specs.Sizes.{json_size, items_size, members_size}
+use Rattle.variable_coercion.specs.Members.{member_under, members_from}
 use Rattle.variable_coercion.proofs.JsonSteps.{json_item_left, no_json_left, field_given, field_absent, json_object, json_custom, json_item_smaller, member_smaller}
 use Rattle.variable_coercion.proofs.json.walk.+json.Goals as goal
 
@@ -58,19 +59,19 @@ coerce_field-returns-in-None g t c =
 pub push_field_at-returns-in_ok-push_field-in-Ok : goal.push_field_at-returns-in_ok-push_field-in-Ok
 push_field_at-returns-in_ok-push_field-in-Ok g t c =
     let form = g.T.InputTypes.forms c.args.scope.now.types.now in
-    one_field_more c.args.scope.now.limit (fields_of (form c.args.of.number)) (λ name. find_coerced form name (json_members (members_view c.args.members.now.entries))) c.args.at (field_seen c.in-Some.input) c.in-Some.input.name.now
+    one_field_more c.args.scope.now.limit (fields_of (form c.args.of.number)) (member_under form (members_view c.args.members.now.entries)) c.args.at (field_seen c.in-Some.input) c.in-Some.input.name.now
     (map named_tree c.args.built.now.items) _ c.args.count.now c.coerce_field.new.count c.in-Ok.value c.in-Some.ensures refl c.in-Ok.ensures c.in_ok-push_field-in-Ok.ensures
 
 pub push_field_at-returns-in-Err : goal.push_field_at-returns-in-Err
 push_field_at-returns-in-Err g t c =
     let form = g.T.InputTypes.forms c.args.scope.now.types.now in
-    one_field_refused c.args.scope.now.limit (fields_of (form c.args.of.number)) (λ name. find_coerced form name (json_members (members_view c.args.members.now.entries))) c.args.at (field_seen c.in-Some.input) c.in-Some.input.name.now
+    one_field_refused c.args.scope.now.limit (fields_of (form c.args.of.number)) (member_under form (members_view c.args.members.now.entries)) c.args.at (field_seen c.in-Some.input) c.in-Some.input.name.now
     (map named_tree c.args.built.now.items) c.args.count.now c.in-Err.fault c.at_key.result c.in-Some.ensures refl c.in-Err.ensures c.at_key.ensures
 
 pub push_field_at-returns-in-None : goal.push_field_at-returns-in-None
 push_field_at-returns-in-None g t c =
     let form = g.T.InputTypes.forms c.args.scope.now.types.now in
-    no_field_more c.args.scope.now.limit (fields_of (form c.args.of.number)) (λ name. find_coerced form name (json_members (members_view c.args.members.now.entries))) c.args.at (map named_tree c.args.built.now.items) c.args.count.now c.in-None.ensures
+    no_field_more c.args.scope.now.limit (fields_of (form c.args.of.number)) (member_under form (members_view c.args.members.now.entries)) c.args.at (map named_tree c.args.built.now.items) c.args.count.now c.in-None.ensures
 
 pub coerce_fields-returns-in-Err : goal.coerce_fields-returns-in-Err
 coerce_fields-returns-in-Err g t c = mapped_tells coerced_object c.in-Err.fault _ (c.in-Err.ensures c.args.count.now _ c.inputs.invariant)
@@ -79,18 +80,18 @@ pub coerce_fields-returns : goal.coerce_fields-returns
 coerce_fields-returns g t c =
     let form = g.T.InputTypes.forms c.args.scope.now.types.now in
     let fields = fields_of (form c.args.of.number) in
-    c.object_within.ensures c.args.count.now (members_from 0 form c.args.of.number (members_view c.args.members.now.entries))
-    (no_field_left c.args.scope.now.limit fields (λ name. find_coerced form name (json_members (members_view c.args.members.now.entries))) c.inputs.at (map named_tree c.inputs.built.items) c.args.count.now c.inputs.count _
+    c.object_within.ensures c.args.count.now (members_from form (members_view c.args.members.now.entries) c.args.of.number 0)
+    (no_field_left c.args.scope.now.limit fields (member_under form (members_view c.args.members.now.entries)) c.inputs.at (map named_tree c.inputs.built.items) c.args.count.now c.inputs.count _
     (let n = c.field_count-at-end.ensures in let e = c.inputs-test.false in omega (arith, n, e)) c.inputs.invariant)
 
 pub object_at-returns-in-Object : goal.object_at-returns-in-Object
 object_at-returns-in-Object g t c =
     let form = g.T.InputTypes.forms c.args.scope.now.types.now in
     let ms = members_view c.args.members.now.entries in
-    same_answer c.args.scope.now.limit c.args.count.now c.input_object.new.count c.input_object.result _ _ (json_object (form c.args.of.number) (λ name. find_coerced form name (json_members ms)) ms c.in-Object.ensures) c.input_object.ensures
+    same_answer c.args.scope.now.limit c.args.count.now c.input_object.new.count c.input_object.result _ _ (json_object (form c.args.of.number) (member_under form ms) ms c.in-Object.ensures) c.input_object.ensures
 
 pub object_at-returns-in-Custom : goal.object_at-returns-in-Custom
 object_at-returns-in-Custom g t c =
     let form = g.T.InputTypes.forms c.args.scope.now.types.now in
     let ms = members_view c.args.members.now.entries in
-    same_answer c.args.scope.now.limit c.args.count.now c.any_members.new.count c.any_members.result _ _ (json_custom (form c.args.of.number) (λ name. find_coerced form name (json_members ms)) ms c.in-Custom.ensures) c.any_members.ensures
+    same_answer c.args.scope.now.limit c.args.count.now c.any_members.new.count c.any_members.result _ _ (json_custom (form c.args.of.number) (member_under form ms) ms c.in-Custom.ensures) c.any_members.ensures

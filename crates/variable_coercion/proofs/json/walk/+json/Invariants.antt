@@ -5,7 +5,8 @@ use Rattle.input_values.specs.inputs.Shapes.{shape_tree}
 use Rattle.input_values.specs.coercion.Coercion.{items_coerced}
 use Rattle.input_values.specs.coercion.Left.{ItemsLeft, FieldsLeft}
 use Rattle.variable_coercion.specs.Json.{json_items}
-use Rattle.variable_coercion.specs.Sizes.{json_size, items_size, members_size, members_from}
+use Rattle.variable_coercion.specs.Sizes.{json_size, items_size, members_size}
+use Rattle.variable_coercion.specs.Members.{members_from}
 use Rattle.variable_coercion.proofs.json.walk.+json.Given as goal
 
 abbrev pub invariant-coerce_items-items : goal.invariant-coerce_items-items
@@ -15,7 +16,7 @@ invariant-coerce_items-items g l = (l.index ≡ l.item-index) × ItemsLeft l.sco
 
 abbrev pub invariant-coerce_fields-inputs : goal.invariant-coerce_fields-inputs
 invariant-coerce_fields-inputs g l = FieldsLeft l.scope.limit (map named_tree l.built.items) l.fn.count l.count
-    (members_from l.at (g.T.InputTypes.forms l.scope.types.now) l.of.number (members_view l.members.entries)) (members_from 0 (g.T.InputTypes.forms l.scope.types.now) l.of.number (members_view l.members.entries))
+    (members_from (g.T.InputTypes.forms l.scope.types.now) (members_view l.members.entries) l.of.number l.at) (members_from (g.T.InputTypes.forms l.scope.types.now) (members_view l.members.entries) l.of.number 0)
 
 abbrev pub decreases-coerce_json : goal.decreases-coerce_json
 decreases-coerce_json g l = 8 * json_size (view l.value.now)
