@@ -2,7 +2,6 @@
 use Rattle.std.proofs.Common.{◌≡◌, ◌+◌, ◌<◌, ◌≤◌, ℕ, ℤ, Bool, false, List, [], ◌∷◌, ◌++◌, map, drop, length, get_or, Option, None, Some, refl, sym, ap, ◌∙◌}
 use Rattle.std.proofs.lemmas.List.{drop_all}
 use Rattle.std.specs.Prelude.{is_some, option_map}
-use Rattle.gql_base.specs.names.Names.{first_of_name}
 use Rattle.gql_base.proofs.Lists.{at_front}
 use Rattle.gql_base.proofs.PrintingLaws.PrintSteps.{open_argument}
 use Rattle.gql_base.specs.declared.parts.trees.Value.{Value}
@@ -14,8 +13,8 @@ use Rattle.input_values.specs.inputs.Shapes.{ShapeTree}
 use Rattle.input_values.specs.inputs.Definitions.{InputData}
 use Rattle.input_values.specs.coercion.Places.{innermost}
 use Rattle.schema_rules.specs.First.{or_else, first_of}
-use Rattle.schema_model.specs.SchemaData.{SchemaData, type_at}
-use Rattle.document_rules.specs.VariablePlaces.{variables_in, variables_in_items, variables_in_fields, Use, input_name, at_input, at_items, uses_in, uses_in_items, uses_in_fields, uses_in_field}
+use Rattle.schema_model.specs.SchemaData.{SchemaData, input_field_named}
+use Rattle.document_rules.specs.VariablePlaces.{variables_in, variables_in_items, variables_in_fields, Use, at_input, at_items, uses_in, uses_in_items, uses_in_fields, uses_in_field}
 use Rattle.document_rules.proofs.Lists.{or_else_none, first_of_append}
 
 -- ---- variables
@@ -94,7 +93,7 @@ module _ (s : SchemaData) (test : Use → Option ℕ) where
   unfolding uses_in
   uses_of_list place d t vs ws is same = ap (λ us. first_of test (at_items (λ item. uses_in_items s item us) place)) same ∙ ap (λ v. first_of test (uses_in s place d v)) (sym is)
 
-  pub uses_of_object : (place : ShapeTree) (d : Bool) (t : ValueTree) (fs gs : FieldTrees) (inputs : List InputData) → t ≡ object_value fs → gs ≡ fs → inputs ≡ (type_at s (innermost place)).inputs
+  pub uses_of_object : (place : ShapeTree) (d : Bool) (t : ValueTree) (fs gs : FieldTrees) (inputs : List ℕ → Option InputData) → t ≡ object_value fs → gs ≡ fs → inputs ≡ input_field_named s (innermost place)
       → first_of test (uses_in_fields s inputs gs) ≡ first_of test (uses_in s place d t)
   unfolding uses_in
   uses_of_object place d t fs gs inputs is same known = ap (λ us. first_of test (uses_in_fields s inputs us)) same ∙ (ap (λ is. first_of test (uses_in_fields s is fs)) known ∙ ap (λ v. first_of test (uses_in s place d v)) (sym is))
@@ -112,13 +111,13 @@ module _ (s : SchemaData) (test : Use → Option ℕ) where
   unfolding uses_in
   use_items_end item vs at past = ap (λ l. first_of test (uses_in_items s item (values_from (map value_tree l)))) (drop_all at vs past)
 
-  pub use_fields_next : (inputs : List InputData) (fs : List Argument) (at : ℕ) (f : Argument) → at < length fs → f ≡ get_or fs at f
+  pub use_fields_next : (inputs : List ℕ → Option InputData) (fs : List Argument) (at : ℕ) (f : Argument) → at < length fs → f ≡ get_or fs at f
       → first_of test (uses_in_fields s inputs (fields_from (map named_value (drop at fs)))) ≡ or_else (first_of test (uses_in_field s inputs (named_value f))) (first_of test (uses_in_fields s inputs (fields_from (map named_value (drop (at + 1) fs)))))
   unfolding uses_in
   use_fields_next inputs fs at f within is = ap (λ l. first_of test (uses_in_fields s inputs (fields_from (map named_value l)))) (at_front fs at f within is)
       ∙ first_of_append test (uses_in_field s inputs (named_value f)) (uses_in_fields s inputs (fields_from (map named_value (drop (at + 1) fs))))
 
-  pub use_fields_end : (inputs : List InputData) (fs : List Argument) (at : ℕ) → length fs ≤ at → first_of test (uses_in_fields s inputs (fields_from (map named_value (drop at fs)))) ≡ None
+  pub use_fields_end : (inputs : List ℕ → Option InputData) (fs : List Argument) (at : ℕ) → length fs ≤ at → first_of test (uses_in_fields s inputs (fields_from (map named_value (drop at fs)))) ≡ None
   unfolding uses_in
   use_fields_end inputs fs at past = ap (λ l. first_of test (uses_in_fields s inputs (fields_from (map named_value l)))) (drop_all at fs past)
 
@@ -148,10 +147,10 @@ defaults_seen f None = refl
 defaults_seen f (Some a) = refl
 
 -- what a field of an object has, by the input field of its name
-pub in_input : (s : SchemaData) (test : Use → Option ℕ) (inputs : List InputData) (f : Argument) (name : List ℕ) (found : Option InputData) → name ≡ f.name.text → found ≡ first_of_name input_name inputs name
+pub in_input : (s : SchemaData) (test : Use → Option ℕ) (inputs : List ℕ → Option InputData) (f : Argument) (name : List ℕ) (found : Option InputData) → name ≡ f.name.text → found ≡ inputs name
     → first_of test (at_input (λ place d. uses_in s place d (value_tree f.value)) found) ≡ first_of test (uses_in_field s inputs (named_value f))
 in_input s test inputs f name found named is =
-    ap (λ o. first_of test (at_input (λ place d. uses_in s place d (value_tree f.value)) o)) (is ∙ ap (first_of_name input_name inputs) named)
+    ap (λ o. first_of test (at_input (λ place d. uses_in s place d (value_tree f.value)) o)) (is ∙ ap inputs named)
     ∙ ap (λ (v : NamedValue). first_of test (uses_in_field s inputs v)) (sym (open_argument f))
 
 pub in_condition_at : (s : SchemaData) (test : Use → Option ℕ) (place : ShapeTree) (a : Argument) → first_of test (uses_in s place false (value_tree a.value)) ≡ first_of test (uses_in s place false (named_value a).1)

@@ -20,11 +20,11 @@ use Rattle.input_values.specs.inputs.Shapes.{ShapeTree, named_shape}
 use Rattle.schema_rules.specs.First.{or_else, told, first_of}
 use Rattle.schema_rules.specs.Reserved.{begins_reserved}
 use Rattle.schema_rules.specs.Kinds.{is_output_only}
-use Rattle.schema_model.specs.SchemaData.{SchemaData, type_at, field_at, type_named, same_text}
+use Rattle.schema_model.specs.SchemaData.{SchemaData, type_at, type_named, argument_named, same_text}
 use Rattle.document_rules.specs.Parts.{FragmentData, fragment_name, operations_of, fragments_of, repeated_at}
 use Rattle.document_rules.specs.Met.{Met, inside_at}
 use Rattle.document_rules.specs.Sites.{Meaning, no_position, no_such_field, name_of_type, known_field, Site, variable_site, operation_site, fragment_site, field_site, spread_site, inline_site, typename, is_composite, composite_named, type_of_field, type_of_kind, directives_at, arguments_at}
-use Rattle.document_rules.specs.VariablePlaces.{variables_in_fields, Use, input_name, uses_in, uses_in_fields, is_usable}
+use Rattle.document_rules.specs.VariablePlaces.{variables_in_fields, Use, uses_in, uses_in_fields, is_usable}
 
 -- ---- 1, 2: the whole document
 
@@ -259,7 +259,7 @@ abbrev pub is_unknown_argument : SchemaData → Meaning → List ℕ → Bool
 is_unknown_argument s no_position name = false
 is_unknown_argument s no_such_field name = false
 is_unknown_argument s name_of_type name = true
-is_unknown_argument s (known_field field) name = not (has_name input_name (field_at s field).arguments name)
+is_unknown_argument s (known_field field) name = not (is_some (argument_named s field name))
 
 abbrev pub unknown_argument_at : SchemaData → Meaning → NamedValue → Option ℕ
 unknown_argument_at s meaning a = told (is_unknown_argument s meaning a.0.0) a.0.1
@@ -292,7 +292,7 @@ abbrev pub uses_in_arguments : SchemaData → Meaning → List NamedValue → Li
 uses_in_arguments s no_position arguments = []
 uses_in_arguments s no_such_field arguments = []
 uses_in_arguments s name_of_type arguments = []
-uses_in_arguments s (known_field field) arguments = uses_in_fields s (field_at s field).arguments (fields_from arguments)
+uses_in_arguments s (known_field field) arguments = uses_in_fields s (argument_named s field) (fields_from arguments)
 
 abbrev pub misplaced_in_arguments : SchemaData → List VariableTree → Site → Option ℕ
 misplaced_in_arguments s variables (field_site meaning name arguments directives below) = first_of (misplaced s variables) (uses_in_arguments s meaning arguments)

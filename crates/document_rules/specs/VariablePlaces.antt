@@ -1,7 +1,6 @@
 -- Where variables are used, and whether a variable may be used there (GraphQL October 2021, 5.8).
 use Rattle.std.specs.Prelude.{ℕ, Bool, true, false, not, ◌&&◌, ◌||◌, is_some, List, [], ◌∷◌, ◌++◌, Option, None, Some}
 use Rattle.std.specs.Str.{bytes_eq}
-use Rattle.gql_base.specs.names.Names.{first_of_name}
 use Rattle.gql_base.specs.ways.Reading.{Identifier}
 use Rattle.gql_base.specs.parts.Values.{ValueTree, variable_value, integer_value, string_value, boolean_value, null_value, enum_value, list_value, object_value, ValueTrees, no_value, value_then, FieldTrees, no_field, field_then, NamedValue}
 use Rattle.gql_base.specs.parts.TypeReferences.{TypeTree, named_type, list_type, non_null_type}
@@ -10,7 +9,7 @@ use Rattle.input_values.specs.inputs.Shapes.{ShapeTree, named_shape, list_shape}
 use Rattle.input_values.specs.inputs.Definitions.{InputData}
 use Rattle.input_values.specs.coercion.Places.{innermost}
 use Rattle.schema_rules.specs.First.{told}
-use Rattle.schema_model.specs.SchemaData.{SchemaData, type_at}
+use Rattle.schema_model.specs.SchemaData.{SchemaData, type_at, input_field_named}
 
 -- ---- the variables of a value, in the order of the text
 
@@ -40,9 +39,6 @@ pub record Use : Type 0 where
   pub variable : Identifier
   pub place : ShapeTree
   pub has_default : Bool
-
-abbrev pub input_name : InputData → List ℕ
-input_name i = i.name
 
 -- what a value has at the place of an argument or of an input field, if there is one
 abbrev pub at_input : (ShapeTree → Bool → List Use) → Option InputData → List Use
@@ -94,19 +90,19 @@ module _ (s : SchemaData) where
     uses_in place has_default null_value = []
     uses_in place has_default (enum_value name at) = []
     uses_in place has_default (list_value values) = at_items (λ item. uses_in_items item values) place
-    uses_in place has_default (object_value fields) = uses_in_fields (type_at s (innermost place)).inputs fields
+    uses_in place has_default (object_value fields) = uses_in_fields (input_field_named s (innermost place)) fields
 
     pub uses_in_items : ShapeTree → ValueTrees → List Use
     uses_in_items item no_value = []
     uses_in_items item (value_then v others) = uses_in item false v ++ uses_in_items item others
 
-    pub uses_in_fields : List InputData → FieldTrees → List Use
-    uses_in_fields inputs no_field = []
-    uses_in_fields inputs (field_then name at v others) = at_input (λ place has_default. uses_in place has_default v) (first_of_name input_name inputs name) ++ uses_in_fields inputs others
+    pub uses_in_fields : (List ℕ → Option InputData) → FieldTrees → List Use
+    uses_in_fields input no_field = []
+    uses_in_fields input (field_then name at v others) = at_input (λ place has_default. uses_in place has_default v) (input name) ++ uses_in_fields input others
 
   -- the variables of one of them
-  abbrev pub uses_in_field : List InputData → NamedValue → List Use
-  uses_in_field inputs field = at_input (λ place has_default. uses_in place has_default field.1) (first_of_name input_name inputs field.0.0)
+  abbrev pub uses_in_field : (List ℕ → Option InputData) → NamedValue → List Use
+  uses_in_field input field = at_input (λ place has_default. uses_in place has_default field.1) (input field.0.0)
 
   -- Whether each value of a variable's type may stand at a place. Null may come only where it may stand, or where it is
   -- said that it never comes. Lists fit by their items, and named types are equal.

@@ -14,10 +14,14 @@ use Rattle.document_rules.specs.declared.met.Met.{Met as MetFragment}
 use Rattle.document_rules.specs.declared.met.Spread.{Spread as SpreadToCome}
 use Rattle.document_rules.specs.declared.lookups.Meaning.{Meaning as FieldMeaning}
 use Rattle.document_rules.specs.declared.lookups.Meaning.TheVariants.{NoPosition, NoSuchField, NameOfType, Known}
+use Rattle.document_rules.specs.declared.lookups.Inputs.{Inputs}
+use Rattle.document_rules.specs.declared.lookups.Inputs.TheVariants.{Arguments, Fields}
 use Rattle.document_rules.specs.declared.sites.Site.{Site as Part}
 use Rattle.document_rules.specs.declared.sites.Site.TheVariants.{Variable, Operation, Fragment, Field, Spread, Inline}
 use Rattle.input_values.specs.declared.inputs.shape.Shape.{Shape}
 use Rattle.input_values.specs.inputs.Shapes.{shape_tree}
+use Rattle.input_values.specs.inputs.Definitions.{InputData}
+use Rattle.schema_model.specs.SchemaData.{SchemaData, argument_named, input_field_named}
 use Rattle.document_rules.specs.VariablePlaces.{Use}
 use Rattle.document_rules.specs.Parts.{FragmentData, fragment_data}
 use Rattle.document_rules.specs.Met.{Met, Spread as SpreadData}
@@ -58,3 +62,8 @@ site_data (Inline on directives) = inline_site (maybe_identifier on.now) (map di
 -- a variable of the program at a place
 abbrev pub use_at : Name → Shape → Bool → Use
 use_at name place has_default = record { variable = identifier_of name; place = shape_tree place; has_default = has_default }
+
+-- the argument of a field, or the field of an input object, of a name
+abbrev pub input_in : SchemaData → Inputs → List ℕ → Option InputData
+input_in s (Arguments field) = argument_named s field.number
+input_in s (Fields of) = input_field_named s of.number

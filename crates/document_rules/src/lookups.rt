@@ -2,14 +2,15 @@
 
 ghost use Rattle.std.specs.Prelude.{◌≡◌, Some, option_map};
 ghost use Rattle.document_reader.specs.Trees.{maybe_identifier};
+ghost use Rattle.schema_model.specs.Entries.{maybe_input};
 ghost use Rattle.schema_model.specs.Numbers.{type_number};
 ghost use Rattle.schema_model.specs.SchemaViews.{schema_data};
 ghost use Rattle.document_rules.specs.Sites.{is_composite, when_composite, composite_named, meaning_on, type_of_field, below_field, below_inline, type_of_kind};
-ghost use Rattle.document_rules.specs.Views.{meaning_data};
+ghost use Rattle.document_rules.specs.Views.{meaning_data, input_in};
 
 use gql_base::{Name, OperationKind};
 use input_values::places::innermost;
-use input_values::TypeId;
+use input_values::{InputDef, TypeId};
 use schema_model::{FieldId, Schema};
 
 /// What the name of a field means where it is written.
@@ -22,6 +23,23 @@ pub enum Meaning {
     /// `__typename`, the name of the object's type.
     NameOfType,
     Known(FieldId),
+}
+
+/// Where inputs are found by their names: the arguments of a field, or the fields of an input object.
+#[derive(Clone, Copy)]
+pub enum Inputs {
+    Arguments(FieldId),
+    Fields(TypeId),
+}
+
+/// The argument, or the field, of a name.
+pub fn input_named<'s>(schema: &'s Schema, inputs: Inputs, name: &str) -> Option<&'s InputDef>
+    ensures { maybe_input result ≡ input_in (schema_data schema.now) inputs name.now }
+{
+    match inputs {
+        Inputs::Arguments(field) => schema.argument(field, name),
+        Inputs::Fields(of) => schema.input_field(of, name),
+    }
 }
 
 /// Whether a type is an object, interface or union type.

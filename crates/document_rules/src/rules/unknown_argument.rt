@@ -1,12 +1,9 @@
 //! Each argument of a field is one that the field has (GraphQL October 2021, 5.4.1).
 
 ghost use Rattle.std.specs.Prelude.{◌≡◌, map};
-ghost use Rattle.gql_base.specs.names.Names.{has_name};
 ghost use Rattle.gql_base.specs.parts.Trees.{named_value};
-ghost use Rattle.input_values.specs.inputs.Definitions.{input_data};
 ghost use Rattle.schema_rules.specs.First.{first_of};
 ghost use Rattle.schema_model.specs.SchemaViews.{schema_data};
-ghost use Rattle.document_rules.specs.VariablePlaces.{input_name};
 ghost use Rattle.document_rules.specs.Rules.{is_unknown_argument, unknown_argument_at};
 ghost use Rattle.document_rules.specs.Views.{meaning_data};
 
@@ -14,20 +11,8 @@ use crate::lookups::Meaning;
 use crate::site_rule::{SiteRule, told};
 use crate::sites::Site;
 use gql_base::Argument;
-use input_values::InputDef;
 use schema_model::Schema;
 use std::alloc::{AllocError, Global};
-
-fn has_input(inputs: &[InputDef], name: &str) -> bool
-    ensures { result ≡ has_name input_name (map input_data inputs.now) name.now }
-{
-    for input in inputs {
-        if input.name.as_str() == name {
-            return true;
-        }
-    }
-    false
-}
 
 fn is_unknown_argument(schema: &Schema, meaning: Meaning, name: &str) -> bool
     ensures { result ≡ is_unknown_argument (schema_data schema.now) (meaning_data meaning) name.now }
@@ -35,7 +20,7 @@ fn is_unknown_argument(schema: &Schema, meaning: Meaning, name: &str) -> bool
     match meaning {
         Meaning::NoPosition | Meaning::NoSuchField => false,
         Meaning::NameOfType => true,
-        Meaning::Known(field) => !has_input(schema.arguments(field), name),
+        Meaning::Known(field) => schema.argument(field, name).is_none(),
     }
 }
 

@@ -9,23 +9,22 @@ ghost use Rattle.gql_base.specs.parts.Values.{values_from, fields_from};
 ghost use Rattle.gql_base.specs.parts.Trees.{identifier_of, value_tree, named_value, directive_tree, type_tree, maybe_value};
 ghost use Rattle.document_reader.specs.Trees.{variable_tree};
 ghost use Rattle.input_values.specs.inputs.Shapes.{named_shape, shape_tree};
-ghost use Rattle.input_values.specs.inputs.Definitions.{InputData, input_data};
 ghost use Rattle.gql_base.specs.declared.parts.trees.Name.{Name};
 ghost use Rattle.schema_model.specs.Numbers.{type_number};
 ghost use Rattle.schema_rules.specs.First.{first_of};
 ghost use Rattle.schema_model.specs.SchemaViews.{schema_data};
-ghost use Rattle.document_rules.specs.VariablePlaces.{Use, input_name, at_items, uses_in, uses_in_items, uses_in_fields, uses_in_field, fits, fits_name, fits_list, is_null, has_value, is_usable};
+ghost use Rattle.document_rules.specs.VariablePlaces.{at_items, uses_in, uses_in_items, uses_in_fields, uses_in_field, fits, fits_name, fits_list, is_null, has_value, is_usable};
 ghost use Rattle.document_rules.specs.Rules.{misplaced, misplaced_among, misplaced_in_condition, misplaced_in_directive, misplaced_in_directives, misplaced_in_arguments};
-ghost use Rattle.document_rules.specs.Views.{declared_tree, site_data, use_at};
+ghost use Rattle.document_rules.specs.Views.{declared_tree, site_data, use_at, input_in};
 
 use crate::indexes::{Declared, variable_named};
-use crate::lookups::Meaning;
+use crate::lookups::{Inputs, Meaning, input_named};
 use crate::site_rule::{SiteRule, told};
 use crate::sites::Site;
 use document_reader::VariableDef;
 use gql_base::{Argument, Directive, Name, Indexed, TypeRef, Value};
 use input_values::places::innermost;
-use input_values::{InputDef, Shape, ShapeLevel, TypeId, shape_level};
+use input_values::{Shape, ShapeLevel, TypeId, shape_level};
 use schema_model::Schema;
 use schema_rules::{Literal, opened};
 use std::alloc::{AllocError, Global};
@@ -113,18 +112,6 @@ fn is_usable(schema: &Schema, variable: &VariableDef, place: &Shape, has_default
     )
 }
 
-/// The argument or the input field of this name.
-fn input_named<'s>(inputs: &'s [InputDef], name: &str) -> Option<&'s InputDef>
-    ensures { option_map (λ i. input_data i.now) result ≡ first_of_name input_name (map input_data inputs.now) name.now }
-{
-    for input in inputs {
-        if input.name.as_str() == name {
-            return Some(input);
-        }
-    }
-    None
-}
-
 /// A variable at a place.
 fn misplaced(
     rule: &VariablePlace<'_, '_>,
@@ -157,7 +144,7 @@ fn in_value(
         Value::Var(name) => misplaced(rule, place, has_default, name),
         Value::List(items) => in_list(items.as_slice(), rule, place),
         Value::Object(fields) => {
-            let inputs = rule.schema.input_fields(innermost(place));
+            let inputs = Inputs::Fields(innermost(place));
             in_fields(fields.as_slice(), rule, inputs)
         }
         Value::Int(_number) => None,
@@ -196,9 +183,9 @@ fn in_items(items: &[Value], rule: &VariablePlace<'_, '_>, item: &Shape) -> Opti
 fn in_fields(
     fields: &[Argument],
     rule: &VariablePlace<'_, '_>,
-    inputs: &[InputDef],
+    inputs: Inputs,
 ) -> Option<usize>
-    ensures { result ≡ misplaced_among (schema_data rule.now.schema.now) (map declared_tree rule.now.variables.now.items.items) (λ s. uses_in_fields s (map input_data inputs.now) (fields_from (map named_value fields.now))) }
+    ensures { result ≡ misplaced_among (schema_data rule.now.schema.now) (map declared_tree rule.now.variables.now.items.items) (λ s. uses_in_fields s (input_in s inputs) (fields_from (map named_value fields.now))) }
 {
     for field in fields {
         match in_field(field, rule, inputs) {
@@ -213,11 +200,11 @@ fn in_fields(
 fn in_field(
     field: &Argument,
     rule: &VariablePlace<'_, '_>,
-    inputs: &[InputDef],
+    inputs: Inputs,
 ) -> Option<usize>
-    ensures { result ≡ misplaced_among (schema_data rule.now.schema.now) (map declared_tree rule.now.variables.now.items.items) (λ s. uses_in_field s (map input_data inputs.now) (named_value field.now)) }
+    ensures { result ≡ misplaced_among (schema_data rule.now.schema.now) (map declared_tree rule.now.variables.now.items.items) (λ s. uses_in_field s (input_in s inputs) (named_value field.now)) }
 {
-    match input_named(inputs, field.name.text.as_str()) {
+    match input_named(rule.schema, inputs, field.name.text.as_str()) {
         Some(input) => in_value(&field.value, rule, &input.shape, input.default.is_some()),
         None => None,
     }
@@ -230,7 +217,7 @@ fn in_arguments(rule: &VariablePlace<'_, '_>, site: Site<'_>) -> Option<usize>
     match site {
         Site::Field { meaning, field } => match meaning {
             Meaning::Known(known) => {
-                in_fields(field.arguments.as_slice(), rule, rule.schema.arguments(known))
+                in_fields(field.arguments.as_slice(), rule, Inputs::Arguments(known))
             }
             Meaning::NoPosition | Meaning::NoSuchField | Meaning::NameOfType => None,
         },
