@@ -7,8 +7,12 @@ mod lookups;
 mod met;
 mod rule;
 mod rules;
+mod sharing;
 mod site_rule;
 mod sites;
+#[cfg(test)]
+mod tests;
 
 pub use checking::{Checked, check};
 pub use rule::{Rule, RuleFault};
+pub use sharing::what_is_checked_is_shared;
