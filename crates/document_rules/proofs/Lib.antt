@@ -6,3 +6,5 @@ pub mod SpreadSteps
 pub mod SiteSteps
 pub mod MisusedSteps
 pub mod InsideSteps
+pub mod RankSteps
+pub mod CycleSteps

@@ -73,10 +73,10 @@ module _ (s : SchemaData) (within : Option ℕ) (parent : Option ℕ) where
       let arguments : List NamedValue = map named_value f.arguments.items in
       let directives : List DirectiveTree = map directive_tree f.directives.items in
       put_then old pushed x (sites_in s within (below_field s (meaning_on s parent f.name.text)) (set_tree f.selections.items)) new _ grown
-        (seen ∙ (ap (λ k. field_site k (identifier_of f.name) arguments directives (not (length f.selections.items == 0))) same
-          ∙ ap (λ b. field_site (meaning_on s parent f.name.text) (identifier_of f.name) arguments directives b) (sym (has_some f.selections.items))))
-        (rest ∙ (ap (λ o. map site_data pushed ++ sites_in s within o (set_tree given)) (under ∙ ap (below_field s) same)
-          ∙ ap (λ l. map site_data pushed ++ sites_in s within (below_field s (meaning_on s parent f.name.text)) (set_tree l)) is))
+      (seen ∙ (ap (λ k. field_site k (identifier_of f.name) arguments directives (not (length f.selections.items == 0))) same
+      ∙ ap (λ b. field_site (meaning_on s parent f.name.text) (identifier_of f.name) arguments directives b) (sym (has_some f.selections.items))))
+      (rest ∙ (ap (λ o. map site_data pushed ++ sites_in s within o (set_tree given)) (under ∙ ap (below_field s) same)
+      ∙ ap (λ l. map site_data pushed ++ sites_in s within (below_field s (meaning_on s parent f.name.text)) (set_tree l)) is))
       ∙ ap (λ l. map site_data old ++ l) (sites_of_field (field_tree f) (names_of f.alias f.name) arguments directives (set_tree f.selections.items) (identifier_of f.name) (open_field f) (name_of_names f.alias f.name))
 
   pub inline_gathered : (x : SelectionTree) (on : Option Identifier) (directives : List DirectiveTree) (selections given : List Selection) (below : Option ℕ) (old pushed : List Part) (part : Part) (new : List Site)
@@ -84,6 +84,6 @@ module _ (s : SchemaData) (within : Option ℕ) (parent : Option ℕ) where
       → new ≡ map site_data pushed ++ sites_in s within below (set_tree given) → new ≡ map site_data old ++ sites_in_one s within parent x
   inline_gathered x on directives selections given below old pushed part new is grown seen under same rest =
       put_then old pushed part (sites_in s within (below_inline s parent on) (set_tree selections)) new _ grown seen
-        (rest ∙ (ap (λ o. map site_data pushed ++ sites_in s within o (set_tree given)) under
-          ∙ ap (λ l. map site_data pushed ++ sites_in s within (below_inline s parent on) (set_tree l)) same))
+      (rest ∙ (ap (λ o. map site_data pushed ++ sites_in s within o (set_tree given)) under
+      ∙ ap (λ l. map site_data pushed ++ sites_in s within (below_inline s parent on) (set_tree l)) same))
       ∙ ap (λ l. map site_data old ++ l) (sites_of_inline x on directives (set_tree selections) is)

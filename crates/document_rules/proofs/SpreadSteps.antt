@@ -81,12 +81,13 @@ or_nothing false = refl
 
 pub still_seen : (fs : List FragmentData) (met later : List MetFragment) (seen : List Bool) (m : MetFragment) → AreSeen fs met seen → later ≡ met ++ (m ∷ []) → m.number < length seen → AreSeen fs later (set seen m.number true)
 still_seen fs met later seen m before grown within = record {
-    each = length-set seen m.number true ∙ before.each;
-    same = λ n h. at_number n (subst (λ k. n < k) (length-set seen m.number true) h) (nat_eq n m.number) refl;
-  }
+  each = length-set seen m.number true ∙ before.each;
+  same = λ n h. at_number n (subst (λ k. n < k) (length-set seen m.number true) h) (nat_eq n m.number) refl;
+}
   where
     views : map met_data later ≡ map met_data met ++ (met_data m ∷ [])
     views = ap (map met_data) grown ∙ map-append met_data met (m ∷ [])
+
     at_number : (n : ℕ) → n < length seen → (b : Bool) → nat_eq n m.number ≡ b → get_or (set seen m.number true) n false ≡ is_met (map met_data later) n
     at_number n h true e =
         ap (λ k. get_or (set seen m.number true) k false) (eqb-true n m.number e) ∙ (get_or-set_same seen m.number true false within
@@ -153,27 +154,28 @@ pub entered_count : (fs : List FragmentData) (seen later : List Bool) (k : ℕ) 
     → length new + unseen_spreads later fs ≡ length old + unseen_spreads seen fs
 entered_count fs seen later k f new old w given each within unmet marked there is grown =
     let more : length new ≡ length (spreads_in f.below) + length old =
-        sym (length_to_come new) ∙ (ap length grown ∙ (length-append (spreads_within w given) (to_come old)
-        ∙ (ap (λ n. n + length (to_come old)) (length_of_within w given ∙ ap (λ b. length (spreads_in b)) is) ∙ ap (λ n. length (spreads_in f.below) + n) (length_to_come old)))) in
+    sym (length_to_come new) ∙ (ap length grown ∙ (length-append (spreads_within w given) (to_come old)
+    ∙ (ap (λ n. n + length (to_come old)) (length_of_within w given ∙ ap (λ b. length (spreads_in b)) is) ∙ ap (λ n. length (spreads_in f.below) + n) (length_to_come old)))) in
     let once : unseen_spreads later fs + length (spreads_in f.below) ≡ unseen_spreads seen fs =
-        ap (λ l. unseen_spreads l fs + length (spreads_in f.below)) marked ∙ (ap (λ o. unseen_spreads (set seen k true) fs + spreads_at o) there ∙ seen_once seen fs k each (omega arith) unmet) in
+    ap (λ l. unseen_spreads l fs + length (spreads_in f.below)) marked ∙ (ap (λ o. unseen_spreads (set seen k true) fs + spreads_at o) there ∙ seen_once seen fs k each (omega arith) unmet) in
     omega (arith, more, once)
 
 pub nothing_entered : (fs : List FragmentData) (seen later : List Bool) (k old : ℕ) → length seen ≡ length fs → k < length fs → get_or seen k false ≡ false → later ≡ set seen k true → None ≡ slice_get fs k
     → old + unseen_spreads later fs ≡ old + unseen_spreads seen fs
 nothing_entered fs seen later k old each within unmet marked there =
     let once : unseen_spreads later fs + 0 ≡ unseen_spreads seen fs =
-        ap (λ l. unseen_spreads l fs + 0) marked ∙ (ap (λ o. unseen_spreads (set seen k true) fs + spreads_at o) there ∙ seen_once seen fs k each (omega arith) unmet) in
+    ap (λ l. unseen_spreads l fs + 0) marked ∙ (ap (λ o. unseen_spreads (set seen k true) fs + spreads_at o) there ∙ seen_once seen fs k each (omega arith) unmet) in
     omega (arith, once)
 
 pub walk_begins : (fs : List FragmentData) (met : List MetFragment) (seen : List Bool) (n : ℕ) (new old : List SpreadToCome) (below : SelectionTrees) → met ≡ [] → seen ≡ replicate n false → n ≡ length fs → old ≡ []
     → to_come new ≡ spreads_within None below ++ to_come old → AreSeen fs met seen × (walk fs (length new + unseen_spreads seen fs) (map met_data met) (to_come new) ≡ reached fs below)
 walk_begins fs met seen n new old below none blank long empty grown =
     let here : to_come new ≡ spreads_within None below = grown ∙ (ap (λ l. spreads_within None below ++ to_come l) empty ∙ append-nil (spreads_within None below)) in
-    let count : length new ≡ length (spreads_in below) = sym (length_to_come new) ∙ (ap length here ∙ length_of_within None below) in
-    (subst (λ l. AreSeen fs l seen) (sym none) (subst (AreSeen fs []) (sym blank) (none_seen fs n long)),
-     ap₂ (λ k m. walk fs k m (to_come new)) (ap₂ (λ a b. a + b) count (ap (λ l. unseen_spreads l fs) blank ∙ all_unseen fs n long)) (ap (map met_data) none)
-     ∙ ap (walk fs (length (spreads_in below) + spread_count fs) []) here)
+    let count : length new ≡ length (spreads_in below) = sym (length_to_come new) ∙ (ap length here ∙ length_of_within None below) in (
+      subst (λ l. AreSeen fs l seen) (sym none) (subst (AreSeen fs []) (sym blank) (none_seen fs n long)),
+      ap₂ (λ k m. walk fs k m (to_come new)) (ap₂ (λ a b. a + b) count (ap (λ l. unseen_spreads l fs) blank ∙ all_unseen fs n long)) (ap (map met_data) none)
+          ∙ ap (walk fs (length (spreads_in below) + spread_count fs) []) here,
+    )
 
 pub walk_goes : (fs : List FragmentData) (met later_met : List Met) (seen later : List Bool) (whole spreads new : List SpreadToCome) (s : SpreadToCome) (end : List Met) → whole ≡ spreads ++ (s ∷ [])
     → length new + unseen_spreads later fs ≡ length spreads + unseen_spreads seen fs → LooksAt fs met (spread_data s) (to_come spreads) later_met (to_come new)

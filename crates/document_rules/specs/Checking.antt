@@ -98,3 +98,7 @@ abbrev pub Answers : {X : Type 0} → (X → Type 0) → Result X RuleFault → 
 Answers Gives (Ok x) first = (first ≡ None) × Gives x
 Answers Gives (Err (Broken rule at)) first = first ≡ Some (rule, at)
 Answers Gives (Err Memory) first = Unit {0}
+
+-- The same for an operation whose selections are written on a type, where only the rules on its parts are left.
+abbrev pub PartsAnswer : SchemaData → List Definition → Operation → ℕ → Result Checked RuleFault → Type 0
+PartsAnswer s ds o root answer = type_of_kind s o.kind ≡ Some root → Answers (IsCheckOf s ds o) answer (breach_of_parts s (fragments_in ds) o (reached_by ds o))

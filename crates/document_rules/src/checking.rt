@@ -7,7 +7,7 @@ ghost use Rattle.schema_model.specs.SchemaViews.{schema_data};
 ghost use Rattle.document_rules.specs.Parts.{operation_at};
 ghost use Rattle.document_rules.specs.Rules.{repeated_name, lone_anonymous, subscription, no_root};
 ghost use Rattle.document_rules.specs.Sites.{type_of_kind};
-ghost use Rattle.document_rules.specs.Checking.{breach, first_breach, rules_of_fragments, rules_of_directives, rules_of_fields, rules_of_variables, rules_of_arguments, breach_of_sites, breach_of_parts, breach_before_parts, fragments_in, reached_by, first_broken, IsCheckOf, Answers};
+ghost use Rattle.document_rules.specs.Checking.{breach, first_breach, rules_of_fragments, rules_of_directives, rules_of_fields, rules_of_variables, rules_of_arguments, breach_of_sites, breach_of_parts, breach_before_parts, first_broken, IsCheckOf, Answers, PartsAnswer};
 ghost use Rattle.document_rules.specs.Views.{declared_tree, defined_data, met_data, site_data};
 
 use crate::indexes::{Declared, Defined, declared_of, defined_in};
@@ -274,7 +274,7 @@ fn check_parts<'a>(
     operation: &'a Operation,
     root: TypeId,
 ) -> Result<Checked<'a>, RuleFault>
-    ensures { type_of_kind (schema_data schema.now) operation.now.kind ≡ Some root.number → Answers (IsCheckOf (schema_data schema.now) document.now.definitions.items operation.now) result (breach_of_parts (schema_data schema.now) (fragments_in document.now.definitions.items) operation.now (reached_by document.now.definitions.items operation.now)) }
+    ensures { PartsAnswer (schema_data schema.now) document.now.definitions.items operation.now root.number result }
 {
     let defined = defined_in(alloc, document.definitions.as_slice())?;
     let fragments = index_owned(alloc, defined)?;

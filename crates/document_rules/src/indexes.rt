@@ -77,10 +77,7 @@ pub fn is_declared(variables: &Indexed<Declared<'_>>, name: &str) -> bool
 }
 
 /// The first variable of this name.
-pub fn variable_named<'a>(
-    variables: &Indexed<Declared<'a>>,
-    name: &str,
-) -> Option<&'a VariableDef>
+pub fn variable_named<'a>(variables: &Indexed<Declared<'a>>, name: &str) -> Option<&'a VariableDef>
     ensures { option_map (λ v. variable_tree v.now) result ≡ first_of_name variable_name (map declared_tree variables.now.items.items) name.now }
 {
     match variables.first_named(name) {

@@ -3,6 +3,7 @@
 
 mod checking;
 mod indexes;
+mod laws;
 mod lookups;
 mod met;
 mod rule;
@@ -14,5 +15,6 @@ mod sites;
 mod tests;
 
 pub use checking::{Checked, check};
+pub use laws::what_is_reached_has_ranks;
 pub use rule::{Rule, RuleFault};
 pub use sharing::what_is_checked_is_shared;

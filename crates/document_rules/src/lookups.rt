@@ -101,11 +101,7 @@ pub fn below_field(schema: &Schema, meaning: Meaning) -> Option<TypeId>
 }
 
 /// The type on which an inline fragment's selections are written.
-pub fn below_inline(
-    schema: &Schema,
-    parent: Option<TypeId>,
-    on: &Option<Name>,
-) -> Option<TypeId>
+pub fn below_inline(schema: &Schema, parent: Option<TypeId>, on: &Option<Name>) -> Option<TypeId>
     ensures { option_map type_number result ≡ below_inline (schema_data schema.now) (option_map type_number parent) (maybe_identifier on.now) }
 {
     match on {

@@ -149,7 +149,13 @@ fn add_operation<'a>(
 {
     add_variables(operation.variables.as_slice(), into)?;
     into.push(Site::Operation(operation))?;
-    add_selections(schema, None, Some(root), operation.selections.as_slice(), into)
+    add_selections(
+        schema,
+        None,
+        Some(root),
+        operation.selections.as_slice(),
+        into,
+    )
 }
 
 /// The parts of a fragment that stands at a place among those that were met.
@@ -165,7 +171,13 @@ fn add_fragment<'a>(
         Some(fragment) => {
             into.push(Site::Fragment(fragment))?;
             let on = composite_named(schema, fragment.on.text.as_str());
-            add_selections(schema, Some(place), on, fragment.selections.as_slice(), into)
+            add_selections(
+                schema,
+                Some(place),
+                on,
+                fragment.selections.as_slice(),
+                into,
+            )
         }
         None => Ok(()),
     }

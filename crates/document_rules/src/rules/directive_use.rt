@@ -18,7 +18,10 @@ use std::alloc::{AllocError, Global};
 fn condition_at(directive: &Directive) -> Option<usize>
     ensures { result ≡ condition_at (directive_tree directive.now) }
 {
-    told(is_condition(directive.name.text.as_str()), directive.name.at)
+    told(
+        is_condition(directive.name.text.as_str()),
+        directive.name.at,
+    )
 }
 
 fn first_condition(directives: &[Directive]) -> Option<usize>

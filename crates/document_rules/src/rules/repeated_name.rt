@@ -63,10 +63,7 @@ fn earlier(one: Option<usize>, other: Option<usize>) -> Option<usize>
 }
 
 /// The offset of the first name of an operation or of a fragment that another one before it has.
-pub fn repeated_name(
-    alloc: Global,
-    definitions: &[Definition],
-) -> Result<Option<usize>, AllocError>
+pub fn repeated_name(alloc: Global, definitions: &[Definition]) -> Result<Option<usize>, AllocError>
     ensures { IfOk result (λ at. at ≡ repeated_name definitions.now) }
 {
     let operations = operation_names(alloc, definitions)?;

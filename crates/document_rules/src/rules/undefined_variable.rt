@@ -12,7 +12,7 @@ ghost use Rattle.document_rules.specs.Views.{declared_tree, site_data};
 use crate::indexes::{Declared, is_declared};
 use crate::site_rule::{SiteRule, told};
 use crate::sites::Site;
-use gql_base::{Argument, Directive, Name, Indexed, Value};
+use gql_base::{Argument, Directive, Indexed, Name, Value};
 use std::alloc::{AllocError, Global};
 
 fn undeclared(variables: &Indexed<Declared<'_>>, name: &Name) -> Option<usize>
@@ -67,10 +67,7 @@ fn undefined_in(variables: &Indexed<Declared<'_>>, fields: &[Argument]) -> Optio
 }
 
 #[cycle(undefined)]
-fn undefined_in_argument(
-    variables: &Indexed<Declared<'_>>,
-    argument: &Argument,
-) -> Option<usize>
+fn undefined_in_argument(variables: &Indexed<Declared<'_>>, argument: &Argument) -> Option<usize>
     ensures { result ≡ first_of (undeclared (map declared_tree variables.now.items.items)) (variables_in (named_value argument.now).1) }
 {
     undefined_in_value(variables, &argument.value)

@@ -22,7 +22,7 @@ use crate::lookups::{Inputs, Meaning, input_named};
 use crate::site_rule::{SiteRule, told};
 use crate::sites::Site;
 use document_reader::VariableDef;
-use gql_base::{Argument, Directive, Name, Indexed, TypeRef, Value};
+use gql_base::{Argument, Directive, Indexed, Name, TypeRef, Value};
 use input_values::places::innermost;
 use input_values::{Shape, ShapeLevel, TypeId, shape_level};
 use schema_model::Schema;
@@ -76,9 +76,10 @@ fn fits_list(schema: &Schema, never_null: bool, item: &TypeRef, place: &Shape) -
 {
     match shape_level(place) {
         ShapeLevel::Named { .. } => false,
-        ShapeLevel::ListOf { item: place, nullable } => {
-            null_fits(never_null, nullable) && fits(schema, false, item, place)
-        }
+        ShapeLevel::ListOf {
+            item: place,
+            nullable,
+        } => { null_fits(never_null, nullable) && fits(schema, false, item, place) }
     }
 }
 
@@ -180,11 +181,7 @@ fn in_items(items: &[Value], rule: &VariablePlace<'_, '_>, item: &Shape) -> Opti
 
 /// The variables of arguments, or of the fields of an object, where these may stand.
 #[cycle(places)]
-fn in_fields(
-    fields: &[Argument],
-    rule: &VariablePlace<'_, '_>,
-    inputs: Inputs,
-) -> Option<usize>
+fn in_fields(fields: &[Argument], rule: &VariablePlace<'_, '_>, inputs: Inputs) -> Option<usize>
     ensures { result ≡ misplaced_among (schema_data rule.now.schema.now) (map declared_tree rule.now.variables.now.items.items) (λ s. uses_in_fields s (input_in s inputs) (fields_from (map named_value fields.now))) }
 {
     for field in fields {
@@ -197,11 +194,7 @@ fn in_fields(
 }
 
 #[cycle(places)]
-fn in_field(
-    field: &Argument,
-    rule: &VariablePlace<'_, '_>,
-    inputs: Inputs,
-) -> Option<usize>
+fn in_field(field: &Argument, rule: &VariablePlace<'_, '_>, inputs: Inputs) -> Option<usize>
     ensures { result ≡ misplaced_among (schema_data rule.now.schema.now) (map declared_tree rule.now.variables.now.items.items) (λ s. uses_in_field s (input_in s inputs) (named_value field.now)) }
 {
     match input_named(rule.schema, inputs, field.name.text.as_str()) {

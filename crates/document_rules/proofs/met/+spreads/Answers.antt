@@ -21,14 +21,14 @@ add_spreads-loop-at-preserved t c = spreads_more c.args.within c.args.selections
 pub add_spreads_of-returns-in-Field : goal.add_spreads_of-returns-in-Field
 add_spreads_of-returns-in-Field t c = let f = c.in-Field.field in
     on_ok_weaker c.add_spreads.result (in_below c.args.within (selection_tree c.args.selection.now) (set_tree f.selections.items) (set_tree c.as_slice.result.now) (to_come c.add_spreads.new.into.items) (to_come c.args.into.now.items)
-      (below_of_field (selection_tree c.args.selection.now) (names_of f.alias f.name) (map named_value f.arguments.items) (map directive_tree f.directives.items) (set_tree f.selections.items) (ap selection_tree c.in-Field.is ∙ (tree_of_field f ∙ open_field f)))
-      (ap set_tree c.as_slice.ensures.value)) c.add_spreads.ensures
+    (below_of_field (selection_tree c.args.selection.now) (names_of f.alias f.name) (map named_value f.arguments.items) (map directive_tree f.directives.items) (set_tree f.selections.items) (ap selection_tree c.in-Field.is ∙ (tree_of_field f ∙ open_field f)))
+    (ap set_tree c.as_slice.ensures.value)) c.add_spreads.ensures
 
 pub add_spreads_of-returns-in-Inline : goal.add_spreads_of-returns-in-Inline
 add_spreads_of-returns-in-Inline t c =
     on_ok_weaker c.add_spreads-in-Inline.result (in_below c.args.within (selection_tree c.args.selection.now) (set_tree c.in-Inline.selections.items) (set_tree c.as_slice-in-Inline.result.now) (to_come c.add_spreads-in-Inline.new.into.items) (to_come c.args.into.now.items)
-      (below_of_inline (selection_tree c.args.selection.now) (maybe_identifier c.in-Inline.on) (map directive_tree c.in-Inline.directives.items) (set_tree c.in-Inline.selections.items) (ap selection_tree c.in-Inline.is ∙ tree_of_inline c.in-Inline.on c.in-Inline.directives c.in-Inline.selections))
-      (ap set_tree c.as_slice-in-Inline.ensures.value)) c.add_spreads-in-Inline.ensures
+    (below_of_inline (selection_tree c.args.selection.now) (maybe_identifier c.in-Inline.on) (map directive_tree c.in-Inline.directives.items) (set_tree c.in-Inline.selections.items) (ap selection_tree c.in-Inline.is ∙ tree_of_inline c.in-Inline.on c.in-Inline.directives c.in-Inline.selections))
+    (ap set_tree c.as_slice-in-Inline.ensures.value)) c.add_spreads-in-Inline.ensures
 
 pub add_spreads_of-returns-in_ok-push-in-Spread : goal.add_spreads_of-returns-in_ok-push-in-Spread
 add_spreads_of-returns-in_ok-push-in-Spread t c = spread_pushed c.args.within (selection_tree c.args.selection.now) (identifier_of c.in-Spread.name) (map directive_tree c.in-Spread.directives.items) c.args.into.now.items c.push.new.self.items _
