@@ -1,5 +1,5 @@
 -- Where no spread names a fragment that the walk is inside of, fragments have ranks: the order in which the walk leaves them.
-use Rattle.std.proofs.Common.{◌≡◌, ◌≢◌, ◌⊎◌, inl, inr, ⊎_elim, ℕ, zero, suc, ◌+◌, ◌<◌, ◌≤◌, ◌||◌, nat_eq, Bool, true, false, true≢false, if◌then◌else◌, List, [], ◌∷◌, ◌++◌, map, length, Option, Some, None, refl, sym, ap, ◌∙◌, subst, arith, append_assoc, append-nil, length-append}
+use Rattle.std.proofs.Common.{◌≡◌, ◌⊎◌, inl, inr, ⊎_elim, ℕ, zero, suc, ◌+◌, ◌<◌, ◌≤◌, ◌||◌, nat_eq, Bool, true, false, true≢false, if◌then◌else◌, List, [], ◌∷◌, ◌++◌, map, length, Option, Some, None, refl, sym, ap, ◌∙◌, subst, arith, append_assoc, append-nil, length-append}
 use Rattle.std.specs.Prelude.{slice_get}
 use Rattle.std.specs.List.{list_any}
 use Rattle.std.proofs.lemmas.Bool.{cases_Bool, eq-eqb, eqb-true, eqb-false, ne_eqb}
@@ -7,7 +7,7 @@ use Rattle.std.proofs.lemmas.List.{length-map}
 use Rattle.gql_base.specs.names.Names.{place_of_name}
 use Rattle.document_reader.specs.Documents.{SelectionTrees}
 use Rattle.document_rules.specs.Parts.{FragmentData, fragment_name}
-use Rattle.document_rules.specs.Met.{Met, Spread, spreads_in, spread_within, spreads_within, spreads_of_data, is_met, met_at, met_there, look_at, come_to, walk, reached, spread_count, outward, outward_from, inside_at}
+use Rattle.document_rules.specs.Met.{Met, Spread, spreads_in, spread_within, spreads_within, spreads_of_data, is_met, met_at, met_there, look_at, walk, reached, spread_count, outward, outward_from, inside_at}
 use Rattle.document_rules.specs.Rules.{is_inside}
 use Rattle.document_rules.specs.Ranks.{IsBelow, AreBelow, HasRanks}
 use Rattle.document_rules.proofs.SpreadSteps.{met_more, spreads_at, walk_ends, walk_looks}

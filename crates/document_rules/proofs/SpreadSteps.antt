@@ -1,15 +1,12 @@
 -- The walk through fragments, step after step.
-use Rattle.std.proofs.Common.{◌≡◌, ◌≢◌, ◌+◌, ◌<◌, ◌≤◌, ℕ, zero, suc, Bool, true, false, cond, ◌||◌, nat_eq, List, [], ◌∷◌, ◌++◌, map, drop, length, get_or, set, reverse, replicate, Option, None, Some, Vec, Global, refl, sym, ap, ◌∙◌, subst, inl, inr, arith, append_assoc, append-nil, length-append, take, ◌-◌, ap₂, true≢false}
+use Rattle.std.proofs.Common.{◌≡◌, ◌+◌, ◌<◌, ℕ, zero, suc, Bool, true, false, ◌||◌, nat_eq, List, [], ◌∷◌, ◌++◌, map, drop, length, get_or, set, reverse, replicate, Option, None, Some, refl, sym, ap, ◌∙◌, subst, arith, append_assoc, append-nil, length-append, take, ◌-◌, ap₂, true≢false}
 use Rattle.std.specs.Prelude.{slice_get, option_to_list, MatchOption}
 use Rattle.std.specs.List.{list_any}
-use Rattle.std.proofs.lemmas.Bool.{cases_Bool, eqb-true, eqb-false}
+use Rattle.std.proofs.lemmas.Bool.{eqb-true, eqb-false}
 use Rattle.std.proofs.Math.Bool.{or-true}
 use Rattle.std.proofs.lemmas.List.{get_or-set_same, get_or-set_other, length-set, length-replicate, length-reverse, length-map, map-append, reverse-append}
 use Rattle.std.proofs.lemmas.List.Folds.{list_any-append}
-use Rattle.gql_base.specs.declared.parts.trees.Name.{Name}
-use Rattle.gql_base.specs.declared.parts.trees.Directive.{Directive}
 use Rattle.document_reader.specs.declared.trees.Selection.{Selection}
-use Rattle.document_reader.specs.declared.trees.Field.{Field}
 use Rattle.gql_base.specs.ways.Reading.{Identifier}
 use Rattle.gql_base.specs.parts.Values.{NamedValue}
 use Rattle.gql_base.specs.parts.Arguments.{DirectiveTree}

@@ -8,7 +8,7 @@ use Rattle.document_reader.specs.declared.trees.Operation.{Operation}
 use Rattle.document_reader.specs.declared.trees.Fragment.{Fragment}
 use Rattle.document_reader.specs.declared.trees.Definition.{Definition}
 use Rattle.document_reader.specs.declared.trees.Definition.TheVariants.{Op, Frag}
-use Rattle.document_reader.specs.Documents.{SelectionTrees, VariableTree}
+use Rattle.document_reader.specs.Documents.{SelectionTrees}
 use Rattle.document_reader.specs.Trees.{set_tree}
 
 -- a fragment's name, the type that it is on, its directives and its selections

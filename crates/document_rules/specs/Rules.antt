@@ -1,6 +1,6 @@
 -- The rules of documents (GraphQL October 2021, 5), but for those on the merging of fields and on where fragments can
 -- apply. Each says where a part breaks it: the offset of the first place of that part.
-use Rattle.std.specs.Prelude.{ℕ, Bool, true, false, not, ◌&&◌, ◌||◌, is_some, nat_eq, nat_lt, List, [], ◌∷◌, ◌++◌, map, length, codes, Option, None, Some, option_map, if◌then◌else◌}
+use Rattle.std.specs.Prelude.{ℕ, Bool, true, false, not, ◌&&◌, ◌||◌, is_some, nat_eq, nat_lt, List, [], ◌∷◌, ◌++◌, map, length, codes, Option, None, Some, if◌then◌else◌}
 use Rattle.std.specs.List.{list_any}
 use Rattle.std.specs.Str.{bytes_eq}
 use Rattle.gql_base.specs.declared.parts.trees.OperationKind.{OperationKind}

@@ -8,7 +8,6 @@ use Rattle.document_reader.specs.Documents.{VariableTree}
 use Rattle.input_values.specs.inputs.Shapes.{ShapeTree, named_shape, list_shape}
 use Rattle.input_values.specs.inputs.Definitions.{InputData}
 use Rattle.input_values.specs.coercion.Places.{innermost}
-use Rattle.schema_rules.specs.First.{told}
 use Rattle.schema_model.specs.SchemaData.{SchemaData, type_at, input_field_named}
 
 -- ---- the variables of a value, in the order of the text

@@ -1,5 +1,5 @@
 -- What the program's sites stand for.
-use Rattle.std.specs.Prelude.{◌==◌, ℕ, Bool, List, map, length, not, Option, option_map}
+use Rattle.std.specs.Prelude.{◌==◌, ℕ, Bool, List, map, length, not, Option}
 use Rattle.std.specs.Borrow.{Bor}
 use Rattle.gql_base.specs.declared.parts.trees.Name.{Name}
 use Rattle.gql_base.specs.ways.Reading.{Identifier}
@@ -7,7 +7,6 @@ use Rattle.gql_base.specs.parts.Trees.{identifier_of, named_value, directive_tre
 use Rattle.document_reader.specs.declared.trees.Fragment.{Fragment as FragmentOf}
 use Rattle.document_reader.specs.Documents.{VariableTree}
 use Rattle.document_reader.specs.Trees.{maybe_identifier, variable_tree}
-use Rattle.schema_model.specs.declared.entries.FieldId.{FieldId}
 use Rattle.document_rules.specs.declared.indexes.Declared.{Declared}
 use Rattle.document_rules.specs.declared.indexes.Defined.{Defined}
 use Rattle.document_rules.specs.declared.met.Met.{Met as MetFragment}

@@ -1,4 +1,4 @@
-use Rattle.std.proofs.Common.{◌<◌, ◌+◌, arith, length, refl, sym, ap, ap₂, ◌∙◌, subst, map, ◌++◌, [], ◌∷◌}
+use Rattle.std.proofs.Common.{sym, ap, ap₂, ◌∙◌, map}
 use Rattle.std.specs.Prelude.{Some}
 use Rattle.std.proofs.lemmas.Result.{IfOk-weaker}
 use Rattle.document_reader.specs.Trees.{variable_tree}

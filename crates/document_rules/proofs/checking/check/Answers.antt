@@ -1,4 +1,4 @@
-use Rattle.std.proofs.Common.{◌<◌, ◌+◌, arith, length, refl, sym, ap, ap₂, ◌∙◌, subst, map, ◌++◌, [], ◌∷◌}
+use Rattle.std.proofs.Common.{sym, ap, ◌∙◌, subst}
 use Rattle.std.specs.Prelude.{option_map}
 use Rattle.std.proofs.lemmas.Option.{same_Some}
 use Rattle.document_reader.specs.declared.trees.Operation.{Operation}

@@ -1,4 +1,4 @@
-use Rattle.std.proofs.Common.{◌<◌, ◌+◌, arith, length, refl, sym, ap, ap₂, ◌∙◌, subst, map, ◌++◌, [], ◌∷◌}
+use Rattle.std.proofs.Common.{refl, sym, ap, ap₂, ◌∙◌, map}
 use Rattle.document_reader.specs.Trees.{set_tree}
 use Rattle.schema_model.specs.SchemaViews.{schema_data}
 use Rattle.document_rules.specs.Parts.{fragment_data, fragments_of}

@@ -1,4 +1,4 @@
-use Rattle.std.proofs.Common.{◌≡◌, ◌++◌, ◌+◌, ℕ, ◌≤◌, [], List, length, drop, take, map, false, refl}
+use Rattle.std.proofs.Common.{◌≡◌, ◌++◌, drop, map}
 use Rattle.document_reader.specs.Trees.{variable_tree}
 use Rattle.document_rules.specs.Views.{declared_tree}
 use Rattle.document_rules.proofs.indexes.declared_of.Given as goal

@@ -1,4 +1,4 @@
-use Rattle.std.proofs.Common.{refl, sym, ap, ◌∙◌, map, ◌++◌, [], ◌∷◌}
+use Rattle.std.proofs.Common.{◌∙◌}
 use Rattle.std.specs.Str.{bytes_eq}
 use Rattle.schema_rules.proofs.Namings.{position_view}
 use Rattle.document_rules.specs.Parts.{fragment_name}

@@ -1,4 +1,4 @@
-use Rattle.std.proofs.Common.{refl, sym, ap, ◌∙◌, map, ◌++◌, [], ◌∷◌}
+use Rattle.std.proofs.Common.{sym}
 use Rattle.std.specs.Str.{bytes_eq}
 use Rattle.schema_rules.proofs.Namings.{seen_some, seen_none}
 use Rattle.document_rules.specs.Rules.{variable_name}

@@ -1,5 +1,5 @@
-use Rattle.std.proofs.Common.{◌<◌, length, refl, sym, ap, ◌∙◌, subst, map, ◌++◌, [], ◌∷◌}
-use Rattle.std.proofs.Common.{arith, drop}
+use Rattle.std.proofs.Common.{length, sym, ap, ◌∙◌, map, ◌++◌}
+use Rattle.std.proofs.Common.{arith}
 use Rattle.std.proofs.lemmas.List.{drop_all}
 use Rattle.std.proofs.lemmas.Result.{on_ok_weaker}
 use Rattle.gql_base.specs.parts.Trees.{identifier_of, named_value, directive_tree}

@@ -1,4 +1,4 @@
-use Rattle.std.proofs.Common.{◌≡◌, ◌++◌, ◌+◌, ℕ, ◌≤◌, [], List, length, drop, take, map, false, refl}
+use Rattle.std.proofs.Common.{◌≡◌, ◌++◌, drop}
 use Rattle.document_reader.specs.Trees.{set_tree}
 use Rattle.document_rules.specs.Met.{spreads_within}
 use Rattle.document_rules.specs.Steps.{to_come}

@@ -1,4 +1,4 @@
-use Rattle.std.proofs.Common.{◌≡◌, ◌++◌, ◌+◌, ℕ, ◌≤◌, [], List, length, drop, take, map, false, refl}
+use Rattle.std.proofs.Common.{◌≡◌, false}
 use Rattle.std.specs.Prelude.{replicate}
 use Rattle.document_rules.proofs.met.blanks.Given as goal
 

@@ -1,4 +1,4 @@
-use Rattle.std.proofs.Common.{◌≡◌, ◌++◌, ◌+◌, ℕ, ◌≤◌, [], List, length, drop, take, map, false, refl}
+use Rattle.std.proofs.Common.{◌≡◌, ◌++◌, drop, map}
 use Rattle.document_rules.specs.Met.{fragments_met}
 use Rattle.document_rules.specs.Views.{defined_fragment, met_data}
 use Rattle.document_rules.proofs.met.fragments_met.Given as goal

@@ -1,4 +1,4 @@
-use Rattle.std.proofs.Common.{◌<◌, ◌+◌, arith, length, refl, sym, ap, ◌∙◌, subst, map, ◌++◌, [], ◌∷◌}
+use Rattle.std.proofs.Common.{length, sym, ap, ◌∙◌, map}
 use Rattle.std.proofs.lemmas.List.{length-map}
 use Rattle.document_reader.specs.Trees.{set_tree}
 use Rattle.document_rules.specs.Views.{defined_data, met_data}

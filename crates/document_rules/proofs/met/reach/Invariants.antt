@@ -1,4 +1,4 @@
-use Rattle.std.proofs.Common.{◌≡◌, ◌++◌, ◌+◌, ℕ, ◌≤◌, [], List, length, drop, take, map, false, refl}
+use Rattle.std.proofs.Common.{◌≡◌, ◌+◌, length, map}
 use Rattle.document_rules.specs.Views.{defined_data, met_data}
 use Rattle.document_reader.specs.Trees.{set_tree}
 use Rattle.document_rules.specs.Met.{reached, walk}

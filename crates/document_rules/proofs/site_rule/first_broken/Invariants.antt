@@ -1,4 +1,4 @@
-use Rattle.std.proofs.Common.{◌≡◌, ◌++◌, ◌+◌, ℕ, ◌≤◌, [], List, length, drop, take, map, false, refl}
+use Rattle.std.proofs.Common.{◌≡◌, drop, map}
 use Rattle.schema_rules.specs.First.{first_of}
 use Rattle.document_rules.specs.Views.{site_data}
 use Rattle.document_rules.proofs.site_rule.first_broken.Given as goal

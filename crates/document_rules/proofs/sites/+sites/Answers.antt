@@ -1,8 +1,8 @@
-use Rattle.std.proofs.Common.{◌<◌, ◌+◌, arith, length, refl, sym, ap, ◌∙◌, subst, map, ◌++◌, [], ◌∷◌}
+use Rattle.std.proofs.Common.{refl, sym, ap, ◌∙◌, map, ◌++◌}
 use Rattle.std.specs.Prelude.{option_map}
 use Rattle.std.proofs.lemmas.Result.{on_ok_weaker}
 use Rattle.gql_base.specs.parts.Trees.{identifier_of, directive_tree}
-use Rattle.document_reader.specs.Trees.{maybe_identifier, selection_tree, set_tree}
+use Rattle.document_reader.specs.Trees.{maybe_identifier, selection_tree}
 use Rattle.document_reader.proofs.ReadingSteps.{tree_of_field, tree_of_inline}
 use Rattle.document_reader.proofs.PrintingSteps.{tree_of_spread}
 use Rattle.schema_model.specs.Numbers.{type_number}

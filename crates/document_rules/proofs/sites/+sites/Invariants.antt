@@ -1,4 +1,4 @@
-use Rattle.std.proofs.Common.{◌≡◌, ◌++◌, ◌+◌, ℕ, ◌≤◌, [], List, length, drop, take, map, false, refl}
+use Rattle.std.proofs.Common.{◌≡◌, ◌++◌, drop, map}
 use Rattle.schema_model.specs.SchemaViews.{schema_data}
 use Rattle.std.specs.Prelude.{option_map}
 use Rattle.schema_model.specs.Numbers.{type_number}

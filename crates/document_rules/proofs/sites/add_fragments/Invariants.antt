@@ -1,4 +1,4 @@
-use Rattle.std.proofs.Common.{◌≡◌, ◌++◌, ◌+◌, ℕ, ◌≤◌, [], List, length, drop, take, map, false, refl}
+use Rattle.std.proofs.Common.{◌≡◌, ◌++◌, drop, map}
 use Rattle.schema_model.specs.SchemaViews.{schema_data}
 use Rattle.document_rules.specs.Sites.{sites_of_met}
 use Rattle.document_rules.specs.Views.{site_data, met_data, defined_data}

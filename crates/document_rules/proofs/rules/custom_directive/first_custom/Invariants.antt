@@ -1,4 +1,4 @@
-use Rattle.std.proofs.Common.{◌≡◌, ◌++◌, ◌+◌, ℕ, ◌≤◌, [], List, length, drop, take, map, false, refl}
+use Rattle.std.proofs.Common.{◌≡◌, drop, map}
 use Rattle.schema_rules.specs.First.{first_of}
 use Rattle.schema_model.specs.SchemaViews.{schema_data}
 use Rattle.gql_base.specs.parts.Trees.{directive_tree}

@@ -1,4 +1,3 @@
-use Rattle.std.proofs.Common.{◌<◌, ◌+◌, arith, length, refl, sym, ap, ◌∙◌, subst, map, ◌++◌, [], ◌∷◌}
 use Rattle.document_rules.proofs.MisusedSteps.{misused_here, misused_later, none_misused}
 use Rattle.document_rules.proofs.rules.directive_use.first_misused.Goals as goal
 

@@ -1,4 +1,4 @@
-use Rattle.std.proofs.Common.{◌≡◌, ◌++◌, ◌+◌, ℕ, ◌≤◌, [], List, length, drop, take, map, false, refl}
+use Rattle.std.proofs.Common.{◌≡◌, [], drop, take, map}
 use Rattle.gql_base.specs.parts.Trees.{directive_tree}
 use Rattle.document_rules.specs.Rules.{first_misused}
 use Rattle.document_rules.proofs.rules.directive_use.first_misused.Given as goal

@@ -1,4 +1,4 @@
-use Rattle.std.proofs.Common.{◌≡◌, ◌++◌, ◌+◌, ℕ, ◌≤◌, [], List, length, drop, take, map, false, refl}
+use Rattle.std.proofs.Common.{◌≡◌, drop, map}
 use Rattle.gql_base.specs.names.Names.{has_name}
 use Rattle.gql_base.specs.parts.Trees.{directive_tree}
 use Rattle.document_rules.specs.Rules.{directive_name}

@@ -1,4 +1,4 @@
-use Rattle.std.proofs.Common.{◌<◌, ◌+◌, arith, length, refl, sym, ap, ap₂, ◌∙◌, subst, map, ◌++◌, [], ◌∷◌}
+use Rattle.std.proofs.Common.{arith, sym, ap, ◌∙◌, map}
 use Rattle.std.specs.Prelude.{option_map}
 use Rattle.std.proofs.lemmas.List.{length-map}
 use Rattle.document_rules.specs.Views.{met_data}

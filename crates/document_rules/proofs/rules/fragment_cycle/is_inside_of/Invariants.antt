@@ -1,4 +1,4 @@
-use Rattle.std.proofs.Common.{◌≡◌, ◌++◌, ◌+◌, ℕ, ◌≤◌, [], List, length, drop, take, map, false, refl}
+use Rattle.std.proofs.Common.{◌≡◌, length, map}
 use Rattle.std.specs.Prelude.{nat_eq, ◌-◌}
 use Rattle.std.specs.List.{list_any}
 use Rattle.document_rules.specs.Met.{outward, inside_at}

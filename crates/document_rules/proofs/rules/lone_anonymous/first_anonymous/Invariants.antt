@@ -1,4 +1,4 @@
-use Rattle.std.proofs.Common.{◌≡◌, ◌++◌, ◌+◌, ℕ, ◌≤◌, [], List, length, drop, take, map, false, refl}
+use Rattle.std.proofs.Common.{◌≡◌, drop}
 use Rattle.schema_rules.specs.First.{first_of}
 use Rattle.document_rules.specs.Parts.{operations_of}
 use Rattle.document_rules.specs.Rules.{anonymous_at}

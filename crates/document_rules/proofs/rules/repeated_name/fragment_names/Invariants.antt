@@ -1,4 +1,4 @@
-use Rattle.std.proofs.Common.{◌≡◌, ◌++◌, ◌+◌, ℕ, ◌≤◌, [], List, length, drop, take, map, false, refl}
+use Rattle.std.proofs.Common.{◌≡◌, ◌++◌, drop, map}
 use Rattle.document_rules.specs.Parts.{fragments_of}
 use Rattle.document_rules.specs.Rules.{name_of_fragment}
 use Rattle.document_rules.specs.Views.{seen_name}

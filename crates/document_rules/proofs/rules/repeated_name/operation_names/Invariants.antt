@@ -1,4 +1,4 @@
-use Rattle.std.proofs.Common.{◌≡◌, ◌++◌, ◌+◌, ℕ, ◌≤◌, [], List, length, drop, take, map, false, refl}
+use Rattle.std.proofs.Common.{◌≡◌, ◌++◌, drop, map}
 use Rattle.document_rules.specs.Parts.{operations_of}
 use Rattle.document_rules.specs.Rules.{operation_names}
 use Rattle.document_rules.specs.Views.{seen_name}

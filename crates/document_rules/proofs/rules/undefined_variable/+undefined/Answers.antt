@@ -1,4 +1,4 @@
-use Rattle.std.proofs.Common.{refl, sym, ap, ◌∙◌, map, ◌++◌, [], ◌∷◌}
+use Rattle.std.proofs.Common.{sym, ap, ◌∙◌, map}
 use Rattle.gql_base.specs.parts.Values.{values_from, fields_from}
 use Rattle.gql_base.specs.parts.Trees.{value_tree, named_value}
 use Rattle.gql_base.proofs.PartLaws.ValueSteps.{variable_tree, integer_tree, string_tree, boolean_tree, null_tree, enum_tree, list_tree, object_tree}

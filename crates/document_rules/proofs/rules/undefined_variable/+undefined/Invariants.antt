@@ -1,6 +1,6 @@
-use Rattle.std.proofs.Common.{◌≡◌, ◌++◌, ◌+◌, ℕ, ◌≤◌, [], List, length, drop, take, map, false, refl}
+use Rattle.std.proofs.Common.{◌≡◌, drop, map}
 use Rattle.schema_rules.specs.First.{first_of}
-use Rattle.gql_base.specs.parts.Values.{values_from, fields_from}
+use Rattle.gql_base.specs.parts.Values.{values_from}
 use Rattle.gql_base.specs.parts.Trees.{value_tree, named_value}
 use Rattle.document_rules.specs.Views.{declared_tree}
 use Rattle.document_rules.specs.Rules.{undeclared, undefined_in}

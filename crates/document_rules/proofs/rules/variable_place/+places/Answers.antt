@@ -1,4 +1,4 @@
-use Rattle.std.proofs.Common.{refl, sym, ap, ◌∙◌, map, ◌++◌, [], ◌∷◌}
+use Rattle.std.proofs.Common.{sym, ap, ◌∙◌, map}
 use Rattle.gql_base.specs.parts.Values.{values_from, fields_from}
 use Rattle.gql_base.specs.parts.Trees.{value_tree, named_value}
 use Rattle.gql_base.proofs.PartLaws.ValueSteps.{variable_tree, integer_tree, string_tree, boolean_tree, null_tree, enum_tree, list_tree, object_tree}
@@ -12,7 +12,7 @@ use Rattle.document_rules.specs.Views.{input_in}
 use Rattle.schema_model.specs.SchemaViews.{schema_data}
 use Rattle.document_rules.specs.Rules.{misplaced}
 use Rattle.document_rules.proofs.ValueSteps.{is_use, uses_of_list, uses_of_object, uses_of_leaf, use_items_next, use_items_end, use_fields_next, use_fields_end, no_use_of_integer, no_use_of_string, no_use_of_boolean, no_use_of_null, no_use_of_enum}
-use Rattle.std.specs.Prelude.{Some, None, option_map}
+use Rattle.std.specs.Prelude.{Some, None}
 use Rattle.input_values.specs.values.Coerced.{coerced_tree}
 use Rattle.schema_rules.specs.First.{first_of}
 use Rattle.document_rules.specs.VariablePlaces.{uses_in}

@@ -1,4 +1,4 @@
-use Rattle.std.proofs.Common.{◌<◌, length, refl, sym, ap, ◌∙◌, subst, map, ◌++◌, [], ◌∷◌}
+use Rattle.std.proofs.Common.{◌∙◌, map}
 use Rattle.input_values.specs.inputs.Shapes.{shape_tree}
 use Rattle.schema_model.specs.SchemaViews.{schema_data}
 use Rattle.document_rules.specs.Rules.{misplaced}

@@ -1,4 +1,4 @@
-use Rattle.std.proofs.Common.{◌<◌, ◌+◌, arith, length, refl, sym, ap, ap₂, ◌∙◌, subst, map, ◌++◌, [], ◌∷◌}
+use Rattle.std.proofs.Common.{sym, ap, ◌∙◌, map}
 use Rattle.std.specs.Prelude.{not, option_map}
 use Rattle.gql_base.specs.names.Names.{first_of_name}
 use Rattle.document_reader.specs.Trees.{variable_tree}
