@@ -8,3 +8,4 @@ pub mod MisusedSteps
 pub mod InsideSteps
 pub mod RankSteps
 pub mod CycleSteps
+pub mod CheckSteps

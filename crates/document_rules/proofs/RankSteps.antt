@@ -10,7 +10,7 @@ use Rattle.document_rules.specs.Parts.{FragmentData, fragment_name}
 use Rattle.document_rules.specs.Met.{Met, Spread, spreads_in, spread_within, spreads_within, spreads_of_data, is_met, met_at, met_there, look_at, walk, reached, spread_count, outward, outward_from, inside_at}
 use Rattle.document_rules.specs.Rules.{is_inside}
 use Rattle.document_rules.specs.Ranks.{IsBelow, AreBelow, HasRanks}
-use Rattle.document_rules.proofs.SpreadSteps.{met_more, spreads_at, walk_ends, walk_looks}
+use Rattle.document_rules.proofs.SpreadSteps.{or_nothing, met_more, spreads_at, walk_ends, walk_looks}
 
 abbrev among : List ℕ → ℕ → Bool
 among xs k = list_any (nat_eq k) xs
@@ -85,10 +85,6 @@ unmet_same a b same [] = refl
 unmet_same a b same (f ∷ fs) =
     ap (λ c. (if c then 0 else length (spreads_in f.below)) + unmet (λ n. a (suc n)) fs) (same 0)
     ∙ ap (λ r. (if b 0 then 0 else length (spreads_in f.below)) + r) (unmet_same (λ n. a (suc n)) (λ n. b (suc n)) (λ n. same (suc n)) fs)
-
-or_nothing : (b : Bool) → (b || false) ≡ b
-or_nothing true = refl
-or_nothing false = refl
 
 next_eq : (n k : ℕ) → nat_eq (suc n) (suc k) ≡ nat_eq n k
 next_eq n k = ⊎_elim

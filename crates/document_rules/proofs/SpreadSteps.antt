@@ -72,7 +72,7 @@ met_more ms m n = ap (list_any (nat_eq n)) (map-append met_number ms (m ∷ []))
     or_false true = refl
     or_false false = refl
 
-or_nothing : (b : Bool) → (b || false) ≡ b
+pub or_nothing : (b : Bool) → (b || false) ≡ b
 or_nothing true = refl
 or_nothing false = refl
 

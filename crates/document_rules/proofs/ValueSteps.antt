@@ -152,6 +152,3 @@ pub in_input : (s : SchemaData) (test : Use → Option ℕ) (inputs : List ℕ �
 in_input s test inputs f name found named is =
     ap (λ o. first_of test (at_input (λ place d. uses_in s place d (value_tree f.value)) o)) (is ∙ ap inputs named)
     ∙ ap (λ (v : NamedValue). first_of test (uses_in_field s inputs v)) (sym (open_argument f))
-
-pub in_condition_at : (s : SchemaData) (test : Use → Option ℕ) (place : ShapeTree) (a : Argument) → first_of test (uses_in s place false (value_tree a.value)) ≡ first_of test (uses_in s place false (named_value a).1)
-in_condition_at s test place a = ap (λ (v : NamedValue). first_of test (uses_in s place false v.1)) (sym (open_argument a))

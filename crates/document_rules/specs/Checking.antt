@@ -1,5 +1,5 @@
 -- Which rule is broken first, and what the check of an operation answers.
-use Rattle.std.specs.Prelude.{◌≡◌, ℕ, List, [], ◌∷◌, map, Option, None, Some, Result, Ok, Err}
+use Rattle.std.specs.Prelude.{IfOk, ◌≡◌, ℕ, List, [], ◌∷◌, map, Option, None, Some, Result, Ok, Err}
 use Rattle.document_reader.specs.declared.trees.Definition.{Definition}
 use Rattle.document_reader.specs.declared.trees.Operation.{Operation}
 use Rattle.document_reader.specs.Documents.{VariableTree}
@@ -101,3 +101,12 @@ Answers Gives (Err Memory) first = Unit {0}
 -- The same for an operation whose selections are written on a type, where only the rules on its parts are left.
 abbrev pub PartsAnswer : SchemaData → List Definition → Operation → ℕ → Result Checked RuleFault → Type 0
 PartsAnswer s ds o root answer = type_of_kind s o.kind ≡ Some root → Answers (IsCheckOf s ds o) answer (breach_of_parts s (fragments_in ds) o (reached_by ds o))
+
+-- What was checked is an operation of its document that breaks no rule of this schema.
+pub record IsChecked (s : SchemaData) (c : Checked) : Type 0 where
+  pub kept : first_broken s c.document.now.definitions.items c.operation.now ≡ None
+  pub of : IsCheckOf s c.document.now.definitions.items c.operation.now c
+
+-- What is told of an operation's parts where its selections are written on a type: the first broken rule of those on parts.
+abbrev pub TellsParts : {E : Type 0} → SchemaData → List FragmentData → Operation → List Met → ℕ → Result (Option Breach) E → Type 0
+TellsParts s fragments o met root told = type_of_kind s o.kind ≡ Some root → IfOk told (λ found. found ≡ breach_of_parts s fragments o met)

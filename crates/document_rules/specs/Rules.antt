@@ -24,7 +24,7 @@ use Rattle.schema_model.specs.SchemaData.{SchemaData, type_at, type_named, argum
 use Rattle.document_rules.specs.Parts.{FragmentData, fragment_name, operations_of, fragments_of, repeated_at}
 use Rattle.document_rules.specs.Met.{Met, inside_at}
 use Rattle.document_rules.specs.Sites.{Meaning, no_position, no_such_field, name_of_type, known_field, Site, variable_site, operation_site, fragment_site, field_site, spread_site, inline_site, typename, is_composite, composite_named, type_of_field, type_of_kind, directives_at, arguments_at}
-use Rattle.document_rules.specs.VariablePlaces.{variables_in_fields, Use, uses_in, uses_in_fields, is_usable}
+use Rattle.document_rules.specs.VariablePlaces.{variables_in_fields, Use, uses_in_fields, fits_condition, has_value, is_usable}
 
 -- ---- 1, 2: the whole document
 
@@ -69,9 +69,14 @@ is_subscription Subscription = true
 abbrev pub subscription : Operation → Option ℕ
 subscription o = told (is_subscription o.kind) o.at
 
--- the schema has no type for operations of this kind (3.3.1)
+abbrev pub is_mutation : OperationKind → Bool
+is_mutation Query = false
+is_mutation Mutation = true
+is_mutation Subscription = false
+
+-- it is a mutation, and the schema has no type of mutations (3.3.1)
 abbrev pub no_root : SchemaData → Operation → Option ℕ
-no_root s o = told (not (is_some (type_of_kind s o.kind))) o.at
+no_root s o = told (is_mutation o.kind && not (is_some s.mutation)) o.at
 
 -- ---- 5, 6, 7: fragments
 
@@ -298,17 +303,31 @@ abbrev pub misplaced_in_arguments : SchemaData → List VariableTree → Site �
 misplaced_in_arguments s variables (field_site meaning name arguments directives below) = first_of (misplaced s variables) (uses_in_arguments s meaning arguments)
 misplaced_in_arguments s variables site = None
 
-abbrev pub misplaced_in_condition : SchemaData → List VariableTree → ShapeTree → NamedValue → Option ℕ
-misplaced_in_condition s variables place a = first_of (misplaced s variables) (uses_in s place false a.1)
+-- whether a variable of this type and default fits `Boolean!`
+abbrev pub fits_boolean : VariableTree → Bool
+fits_boolean v = fits_condition (has_value v.2) v.1
 
-abbrev pub misplaced_in_directive : SchemaData → List VariableTree → ShapeTree → DirectiveTree → Option ℕ
-misplaced_in_directive s variables place d = first_of (misplaced_in_condition s variables place) d.1
+abbrev pub no_condition : ℕ → Option VariableTree → Option ℕ
+no_condition at None = None
+no_condition at (Some v) = told (not (fits_boolean v)) at
 
--- An argument of `@skip` and `@include` stands at a Boolean that is never null. Each schema has the type Boolean.
-abbrev pub misplaced_in_directives : SchemaData → List VariableTree → Option ℕ → List DirectiveTree → Option ℕ
-misplaced_in_directives s variables None directives = None
-misplaced_in_directives s variables (Some boolean) directives = first_of (misplaced_in_directive s variables (named_shape boolean false)) directives
+-- An argument of `@skip` and `@include` stands at `Boolean!`.
+abbrev pub misplaced_condition : List VariableTree → ValueTree → Option ℕ
+misplaced_condition variables (variable_value name at) = no_condition at (first_of_name variable_name variables name)
+misplaced_condition variables (integer_value n) = None
+misplaced_condition variables (string_value s) = None
+misplaced_condition variables (boolean_value b) = None
+misplaced_condition variables null_value = None
+misplaced_condition variables (enum_value name at) = None
+misplaced_condition variables (list_value values) = None
+misplaced_condition variables (object_value fields) = None
+
+abbrev pub misplaced_in_condition : List VariableTree → NamedValue → Option ℕ
+misplaced_in_condition variables a = misplaced_condition variables a.1
+
+abbrev pub misplaced_in_directive : List VariableTree → DirectiveTree → Option ℕ
+misplaced_in_directive variables d = first_of (misplaced_in_condition variables) d.1
 
 -- a variable's type isn't usable where it stands (5.8.5)
 abbrev pub variable_place : SchemaData → List VariableTree → Site → Option ℕ
-variable_place s variables site = or_else (misplaced_in_arguments s variables site) (misplaced_in_directives s variables (type_named s (codes "Boolean")) (directives_at site))
+variable_place s variables site = or_else (misplaced_in_arguments s variables site) (first_of (misplaced_in_directive variables) (directives_at site))

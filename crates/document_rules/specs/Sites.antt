@@ -92,8 +92,9 @@ module _ (s : SchemaData) where
 
   -- the composite type on which an inline fragment's selections are written
   abbrev pub below_inline : Option ℕ → Option Identifier → Option ℕ
-  below_inline parent None = parent
-  below_inline parent (Some on) = composite_named on.0
+  below_inline None on = None
+  below_inline (Some parent) None = Some parent
+  below_inline (Some parent) (Some on) = composite_named on.0
 
   -- the parts of selections that stand in a fragment that was met, on a type
   unfoldable mutual

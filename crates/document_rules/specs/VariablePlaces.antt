@@ -1,5 +1,5 @@
 -- Where variables are used, and whether a variable may be used there (GraphQL October 2021, 5.8).
-use Rattle.std.specs.Prelude.{ℕ, Bool, true, false, not, ◌&&◌, ◌||◌, is_some, List, [], ◌∷◌, ◌++◌, Option, None, Some}
+use Rattle.std.specs.Prelude.{ℕ, Bool, true, false, not, ◌&&◌, ◌||◌, is_some, List, [], ◌∷◌, ◌++◌, Option, None, Some, codes}
 use Rattle.std.specs.Str.{bytes_eq}
 use Rattle.gql_base.specs.ways.Reading.{Identifier}
 use Rattle.gql_base.specs.parts.Values.{ValueTree, variable_value, integer_value, string_value, boolean_value, null_value, enum_value, list_value, object_value, ValueTrees, no_value, value_then, FieldTrees, no_field, field_then, NamedValue}
@@ -75,6 +75,12 @@ is_null (object_value fields) = false
 abbrev pub has_value : Option ValueTree → Bool
 has_value None = false
 has_value (Some v) = not (is_null v)
+
+-- whether each value of a type may stand at `Boolean!`, where null never comes or it is said that it doesn't
+unfoldable pub fits_condition : Bool → TypeTree → Bool
+fits_condition never_null (non_null_type t) = fits_condition true t
+fits_condition never_null (named_type name at) = never_null && bytes_eq name (codes "Boolean")
+fits_condition never_null (list_type t) = false
 
 module _ (s : SchemaData) where
   -- A list stands at a list type with each of its items at the type of items. An object stands at an input object type, also

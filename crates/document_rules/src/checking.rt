@@ -7,7 +7,7 @@ ghost use Rattle.schema_model.specs.SchemaViews.{schema_data};
 ghost use Rattle.document_rules.specs.Parts.{operation_at};
 ghost use Rattle.document_rules.specs.Rules.{repeated_name, lone_anonymous, subscription, no_root};
 ghost use Rattle.document_rules.specs.Sites.{type_of_kind};
-ghost use Rattle.document_rules.specs.Checking.{breach, first_breach, rules_of_fragments, rules_of_directives, rules_of_fields, rules_of_variables, rules_of_arguments, breach_of_sites, breach_of_parts, breach_before_parts, first_broken, IsCheckOf, Answers, PartsAnswer};
+ghost use Rattle.document_rules.specs.Checking.{breach, first_breach, rules_of_fragments, rules_of_directives, rules_of_fields, rules_of_variables, rules_of_arguments, breach_of_sites, breach_of_parts, breach_before_parts, first_broken, IsCheckOf, IsChecked, Answers, PartsAnswer, TellsParts};
 ghost use Rattle.document_rules.specs.Views.{declared_tree, defined_data, met_data, site_data};
 
 use crate::indexes::{Declared, Defined, declared_of, defined_in};
@@ -228,7 +228,7 @@ fn breach_of_parts<'a>(
     fragments: &Indexed<Defined<'a>>,
     met: &[Met],
 ) -> Result<Option<(Rule, usize)>, AllocError>
-    ensures { type_of_kind (schema_data schema.now) operation.now.kind ≡ Some root.number → IfOk result (λ b. b ≡ breach_of_parts (schema_data schema.now) (map defined_data fragments.now.items.items) operation.now (map met_data met.now)) }
+    ensures { TellsParts (schema_data schema.now) (map defined_data fragments.now.items.items) operation.now (map met_data met.now) root.number result }
 {
     let declared = declared_of(alloc, operation.variables.as_slice())?;
     let variables = index_owned(alloc, declared)?;
@@ -332,7 +332,8 @@ pub fn check<'a>(
     picked: usize,
 ) -> Result<Checked<'a>, RuleFault>
     requires { IsSome (operation_at document.now.definitions.items picked) }
-    ensures { (o : Operation) → operation_at document.now.definitions.items picked ≡ Some o → Answers (IsCheckOf (schema_data schema.now) document.now.definitions.items o) result (first_broken (schema_data schema.now) document.now.definitions.items o) }
+    ensures answer { (o : Operation) → operation_at document.now.definitions.items picked ≡ Some o → Answers (IsCheckOf (schema_data schema.now) document.now.definitions.items o) result (first_broken (schema_data schema.now) document.now.definitions.items o) }
+    ensures checked { IfOk result (IsChecked (schema_data schema.now)) }
 {
     match operation_at(document.definitions.as_slice(), picked) {
         Some(operation) => check_operation(alloc, schema, document, operation),

@@ -104,9 +104,12 @@ pub fn below_field(schema: &Schema, meaning: Meaning) -> Option<TypeId>
 pub fn below_inline(schema: &Schema, parent: Option<TypeId>, on: &Option<Name>) -> Option<TypeId>
     ensures { option_map type_number result ≡ below_inline (schema_data schema.now) (option_map type_number parent) (maybe_identifier on.now) }
 {
-    match on {
-        None => parent,
-        Some(on) => composite_named(schema, on.text.as_str()),
+    match parent {
+        None => None,
+        Some(parent) => match on {
+            None => Some(parent),
+            Some(on) => composite_named(schema, on.text.as_str()),
+        },
     }
 }
 

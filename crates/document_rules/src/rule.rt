@@ -19,7 +19,7 @@ pub enum Rule {
     NoRoot,
     /// A spread names no fragment.
     UnknownFragment,
-    /// A spread names a fragment that it stands in, or that leads to it.
+    /// A spread names a fragment that it stands in, or that was entered on the way to it.
     FragmentCycle,
     /// A type condition names no object, interface or union type.
     FragmentOn,

@@ -157,6 +157,7 @@ const ROWS: &[(&str, &str)] = &[
     ("query Q { name } query R($a: Nope) { nope ...X }", "kept"),
     ("{ user { id { x } } }", "13 LeafWithSelection 9"),
     ("{ nope { x { y } } }", "12 UnknownField 2"),
+    ("{ name { ... on Query { x } } }", "13 LeafWithSelection 2"),
     ("{ nope { ...Z } }", "5 UnknownFragment 12"),
 ];
 
@@ -167,9 +168,15 @@ fn schema_of(alloc: Global, text: &str) -> Option<Schema> {
     }
 }
 
-// The fragments that were reached.
-fn kept(alloc: Global, checked: &Checked<'_>) -> Result<String, Fail> {
+// The fragments that were reached, where the rest of what was checked is told too.
+fn kept(alloc: Global, schema: &Schema, checked: &Checked<'_>) -> Result<String, Fail> {
     let mut text = String::from_str(alloc, "kept")?;
+    if checked.operation().selections.is_empty()
+        || checked.document().definitions.is_empty()
+        || schema.fields(checked.root()).is_empty()
+    {
+        text.push_str(" nothing")?;
+    }
     for fragment in checked.fragments() {
         text.push_str(" ")?;
         text.push_str(fragment.name.text.as_str())?;
@@ -188,7 +195,7 @@ fn answer(
         return Ok(String::from_str(alloc, "no operation")?);
     };
     match check(alloc, schema, document, place) {
-        Ok(checked) => kept(alloc, &checked),
+        Ok(checked) => kept(alloc, schema, &checked),
         Err(RuleFault::Broken { rule, at }) => {
             Ok(format!(in alloc; "{} {} {at}", rule.number(), rule.name())?)
         }

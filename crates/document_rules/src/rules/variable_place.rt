@@ -1,6 +1,6 @@
 //! A variable's type fits the place where the variable stands (GraphQL October 2021, 5.8.5).
 
-ghost use Rattle.std.specs.Prelude.{◌≡◌, ◌||◌, false, map, option_map};
+ghost use Rattle.std.specs.Prelude.{◌≡◌, ◌||◌, false, map};
 ghost use Rattle.std.specs.Str.{bytes_eq};
 ghost use Rattle.schema_rules.specs.Views.{literal_tree};
 ghost use Rattle.schema_model.specs.SchemaData.{type_at};
@@ -8,13 +8,12 @@ ghost use Rattle.gql_base.specs.names.Names.{first_of_name};
 ghost use Rattle.gql_base.specs.parts.Values.{values_from, fields_from};
 ghost use Rattle.gql_base.specs.parts.Trees.{identifier_of, value_tree, named_value, directive_tree, type_tree, maybe_value};
 ghost use Rattle.document_reader.specs.Trees.{variable_tree};
-ghost use Rattle.input_values.specs.inputs.Shapes.{named_shape, shape_tree};
+ghost use Rattle.input_values.specs.inputs.Shapes.{shape_tree};
 ghost use Rattle.gql_base.specs.declared.parts.trees.Name.{Name};
-ghost use Rattle.schema_model.specs.Numbers.{type_number};
 ghost use Rattle.schema_rules.specs.First.{first_of};
 ghost use Rattle.schema_model.specs.SchemaViews.{schema_data};
-ghost use Rattle.document_rules.specs.VariablePlaces.{at_items, uses_in, uses_in_items, uses_in_fields, uses_in_field, fits, fits_name, fits_list, is_null, has_value, is_usable};
-ghost use Rattle.document_rules.specs.Rules.{misplaced, misplaced_among, misplaced_in_condition, misplaced_in_directive, misplaced_in_directives, misplaced_in_arguments};
+ghost use Rattle.document_rules.specs.VariablePlaces.{at_items, uses_in, uses_in_items, uses_in_fields, uses_in_field, fits, fits_name, fits_list, fits_condition, is_null, has_value, is_usable};
+ghost use Rattle.document_rules.specs.Rules.{variable_name, fits_boolean, no_condition, misplaced, misplaced_among, misplaced_condition, misplaced_in_condition, misplaced_in_directive, misplaced_in_arguments};
 ghost use Rattle.document_rules.specs.Views.{declared_tree, site_data, use_at, input_in};
 
 use crate::indexes::{Declared, variable_named};
@@ -24,7 +23,7 @@ use crate::sites::Site;
 use document_reader::VariableDef;
 use gql_base::{Argument, Directive, Indexed, Name, TypeRef, Value};
 use input_values::places::innermost;
-use input_values::{Shape, ShapeLevel, TypeId, shape_level};
+use input_values::{Shape, ShapeLevel, shape_level};
 use schema_model::Schema;
 use schema_rules::{Literal, opened};
 use std::alloc::{AllocError, Global};
@@ -218,65 +217,71 @@ fn in_arguments(rule: &VariablePlace<'_, '_>, site: Site<'_>) -> Option<usize>
     }
 }
 
-/// A variable of an argument of a directive.
-fn in_condition(rule: &VariablePlace<'_, '_>, place: &Shape, argument: &Argument) -> Option<usize>
-    ensures { result ≡ misplaced_in_condition (schema_data rule.now.schema.now) (map declared_tree rule.now.variables.now.items.items) (shape_tree place.now) (named_value argument.now) }
+/// Whether each value of a type may stand at `Boolean!`, where null never comes or it is said that it doesn't.
+#[tactic(auto, using(crate::proofs::Opened::condition_levels))]
+fn fits_condition(never_null: bool, of: &TypeRef) -> bool
+    ensures { result ≡ fits_condition never_null (type_tree of.now) }
 {
-    in_value(&argument.value, rule, place, false)
-}
-
-fn in_conditions(
-    rule: &VariablePlace<'_, '_>,
-    place: &Shape,
-    arguments: &[Argument],
-) -> Option<usize>
-    ensures { result ≡ first_of (misplaced_in_condition (schema_data rule.now.schema.now) (map declared_tree rule.now.variables.now.items.items) (shape_tree place.now)) (map named_value arguments.now) }
-{
-    for argument in arguments {
-        if let Some(at) = in_condition(rule, place, argument) {
-            return Some(at);
-        }
-    }
-    None
-}
-
-fn in_directives_at(
-    rule: &VariablePlace<'_, '_>,
-    place: &Shape,
-    directives: &[Directive],
-) -> Option<usize>
-    ensures { result ≡ first_of (misplaced_in_directive (schema_data rule.now.schema.now) (map declared_tree rule.now.variables.now.items.items) (shape_tree place.now)) (map directive_tree directives.now) }
-{
-    for directive in directives {
-        if let Some(at) = in_conditions(rule, place, directive.arguments.as_slice()) {
-            return Some(at);
-        }
-    }
-    None
-}
-
-/// The type of a number, where null may not stand.
-#[tactic(auto, using(crate::proofs::Opened::shape_levels))]
-fn never_null(of: TypeId) -> Shape
-    ensures { shape_tree result ≡ named_shape of.number false }
-{
-    Shape::Named {
-        of,
-        nullable: false,
+    match of {
+        TypeRef::NonNull(inner) => fits_condition(true, &**inner),
+        TypeRef::Named(name) => never_null && name.text.as_str() == "Boolean",
+        TypeRef::ListOf(_) => false,
     }
 }
 
-fn in_directives_of(
-    rule: &VariablePlace<'_, '_>,
-    boolean: Option<TypeId>,
-    directives: &[Directive],
-) -> Option<usize>
-    ensures { result ≡ misplaced_in_directives (schema_data rule.now.schema.now) (map declared_tree rule.now.variables.now.items.items) (option_map type_number boolean) (map directive_tree directives.now) }
+fn fits_boolean(variable: &VariableDef) -> bool
+    ensures { result ≡ fits_boolean (variable_tree variable.now) }
 {
-    match boolean {
-        Some(of) => in_directives_at(rule, &never_null(of), directives),
+    fits_condition(has_value(&variable.default), &variable.of)
+}
+
+/// A variable at `Boolean!`.
+fn no_condition(rule: &VariablePlace<'_, '_>, at: usize, name: &str) -> Option<usize>
+    ensures { result ≡ no_condition at (first_of_name variable_name (map declared_tree rule.now.variables.now.items.items) name.now) }
+{
+    match variable_named(rule.variables, name) {
+        Some(variable) => told(!fits_boolean(variable), at),
         None => None,
     }
+}
+
+fn misplaced_condition(rule: &VariablePlace<'_, '_>, literal: Literal<'_>) -> Option<usize>
+    ensures { result ≡ misplaced_condition (map declared_tree rule.now.variables.now.items.items) (literal_tree literal.entry) }
+{
+    match literal {
+        Literal::Var { name, at } => no_condition(rule, at, name),
+        _ => None,
+    }
+}
+
+/// The variable of an argument of a directive.
+#[tactic(auto, using(crate::proofs::Opened::opened_arguments))]
+fn in_condition(rule: &VariablePlace<'_, '_>, argument: &Argument) -> Option<usize>
+    ensures { result ≡ misplaced_in_condition (map declared_tree rule.now.variables.now.items.items) (named_value argument.now) }
+{
+    misplaced_condition(rule, opened(&argument.value))
+}
+
+fn in_conditions(rule: &VariablePlace<'_, '_>, arguments: &[Argument]) -> Option<usize>
+    ensures { result ≡ first_of (misplaced_in_condition (map declared_tree rule.now.variables.now.items.items)) (map named_value arguments.now) }
+{
+    for argument in arguments {
+        if let Some(at) = in_condition(rule, argument) {
+            return Some(at);
+        }
+    }
+    None
+}
+
+fn in_directives(rule: &VariablePlace<'_, '_>, directives: &[Directive]) -> Option<usize>
+    ensures { result ≡ first_of (misplaced_in_directive (map declared_tree rule.now.variables.now.items.items)) (map directive_tree directives.now) }
+{
+    for directive in directives {
+        if let Some(at) = in_conditions(rule, directive.arguments.as_slice()) {
+            return Some(at);
+        }
+    }
+    None
 }
 
 impl<'c, 'a> SiteRule for VariablePlace<'c, 'a> {
@@ -290,10 +295,7 @@ impl<'c, 'a> SiteRule for VariablePlace<'c, 'a> {
     fn broken(&self, _alloc: Global, site: Site<'_>) -> Result<Option<usize>, AllocError> {
         match in_arguments(self, site) {
             Some(at) => Ok(Some(at)),
-            None => {
-                let boolean = self.schema.find("Boolean");
-                Ok(in_directives_of(self, boolean, site.directives()))
-            }
+            None => Ok(in_directives(self, site.directives())),
         }
     }
 }
