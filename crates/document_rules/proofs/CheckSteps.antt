@@ -1,20 +1,11 @@
 -- What a check answers, and where operations have a type.
-use Rattle.std.proofs.Common.{◌≡◌, ◌&&◌, ℕ, Bool, true, false, not, List, Option, Some, None, Result, Ok, Err, IfOk, refl, sym, ap, ◌∙◌, subst}
-use Rattle.std.specs.Prelude.{is_some}
-use Rattle.gql_base.specs.declared.parts.trees.OperationKind.{OperationKind}
-use Rattle.gql_base.specs.declared.parts.trees.OperationKind.TheVariants.{Query, Mutation, Subscription}
+use Rattle.std.proofs.Common.{◌≡◌, List, None, Result, Ok, Err, IfOk, sym, subst}
 use Rattle.document_reader.specs.declared.trees.Definition.{Definition}
 use Rattle.document_reader.specs.declared.trees.Operation.{Operation}
-use Rattle.schema_rules.specs.First.{told}
 use Rattle.schema_model.specs.SchemaData.{SchemaData}
-use Rattle.document_rules.specs.declared.rule.Rule.TheVariants.{RepeatedName, LoneAnonymous, Subscription as SubscriptionRule, NoRoot}
 use Rattle.document_rules.specs.declared.rule.RuleFault.{RuleFault}
 use Rattle.document_rules.specs.declared.checking.Checked.{Checked}
-use Rattle.document_rules.specs.Sites.{type_of_kind}
-use Rattle.document_rules.specs.Rules.{is_subscription, is_mutation, repeated_name, lone_anonymous, subscription, no_root}
-use Rattle.document_rules.specs.Checking.{Breach, breach, breach_before_parts, first_broken, IsCheckOf, IsChecked, Answers}
-use Rattle.schema_rules.specs.First.{or_else}
-use Rattle.document_rules.proofs.CycleSteps.{none_both, no_breach}
+use Rattle.document_rules.specs.Checking.{first_broken, IsCheckOf, IsChecked, Answers}
 
 pub checked_is : (s : SchemaData) (ds : List Definition) (o : Operation) (r : Result Checked RuleFault) → Answers (IsCheckOf s ds o) r (first_broken s ds o) → IfOk r (IsChecked s)
 checked_is s ds o (Err fault) answer = tt

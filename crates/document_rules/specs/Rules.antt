@@ -16,14 +16,13 @@ use Rattle.document_reader.specs.declared.trees.Operation.{Operation}
 use Rattle.document_reader.specs.declared.trees.Fragment.{Fragment}
 use Rattle.document_reader.specs.Documents.{VariableTree}
 use Rattle.document_reader.specs.Trees.{maybe_identifier}
-use Rattle.input_values.specs.inputs.Shapes.{ShapeTree, named_shape}
 use Rattle.schema_rules.specs.First.{or_else, told, first_of}
 use Rattle.schema_rules.specs.Reserved.{begins_reserved}
 use Rattle.schema_rules.specs.Kinds.{is_output_only}
 use Rattle.schema_model.specs.SchemaData.{SchemaData, type_at, type_named, argument_named, same_text}
 use Rattle.document_rules.specs.Parts.{FragmentData, fragment_name, operations_of, fragments_of, repeated_at}
 use Rattle.document_rules.specs.Met.{Met, inside_at}
-use Rattle.document_rules.specs.Sites.{Meaning, no_position, no_such_field, name_of_type, known_field, Site, variable_site, operation_site, fragment_site, field_site, spread_site, inline_site, typename, is_composite, composite_named, type_of_field, type_of_kind, directives_at, arguments_at}
+use Rattle.document_rules.specs.Sites.{Meaning, no_position, no_such_field, name_of_type, known_field, Site, variable_site, operation_site, fragment_site, field_site, spread_site, inline_site, typename, is_composite, composite_named, type_of_field, directives_at, arguments_at}
 use Rattle.document_rules.specs.VariablePlaces.{variables_in_fields, Use, uses_in_fields, fits_condition, has_value, is_usable}
 
 -- ---- 1, 2: the whole document
