@@ -1,0 +1,11 @@
+pub mod Opened
+pub mod Lists
+pub mod Repeats
+pub mod ValueSteps
+pub mod SpreadSteps
+pub mod SiteSteps
+pub mod MisusedSteps
+pub mod InsideSteps
+pub mod RankSteps
+pub mod CycleSteps
+pub mod CheckSteps
