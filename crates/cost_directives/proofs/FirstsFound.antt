@@ -4,27 +4,16 @@ use Rattle.std.specs.Prelude.{nat_eq, ◌&&◌, cond}
 use Rattle.std.specs.List.{list_any, list_all, position_from, range_with_len}
 use Rattle.std.proofs.lemmas.Bool.{cases_Bool, eqb-true}
 use Rattle.std.proofs.lemmas.Option.{none-some, same_Some}
-use Rattle.schema_rules.specs.First.{or_else, first_of}
+use Rattle.schema_rules.specs.First.{first_of}
+use Rattle.schema_rules.proofs.FirstFaults.{neither}
 
 -- ---- nothing is found
-
-here_none : {F : Type 0} (here behind : Option F) → or_else here behind ≡ None → here ≡ None
-here_none None behind none = refl
-here_none (Some fault) behind none = absurd (cc)
-
-behind_none : {F : Type 0} (here behind : Option F) → or_else here behind ≡ None → behind ≡ None
-behind_none None behind none = none
-behind_none (Some fault) behind none = absurd (cc)
-
--- of two tests neither finds anything
-pub neither : {F : Type 0} (here behind : Option F) → or_else here behind ≡ None → (here ≡ None) × (behind ≡ None)
-neither here behind none = (here_none here behind none, behind_none here behind none)
 
 -- at a place, where nothing is found at what stands elsewhere either
 pub none_at : {A F : Type 0} (test : A → Option F) (xs : List A) (d : A) (n : ℕ) → test d ≡ None → first_of test xs ≡ None → test (get_or xs n d) ≡ None
 none_at test [] d n other none = other
-none_at test (x ∷ xs) d zero other none = here_none (test x) (first_of test xs) none
-none_at test (x ∷ xs) d (suc n) other none = none_at test xs d n other (behind_none (test x) (first_of test xs) none)
+none_at test (x ∷ xs) d zero other none = (neither (test x) (first_of test xs) none).0
+none_at test (x ∷ xs) d (suc n) other none = none_at test xs d n other ((neither (test x) (first_of test xs) none).1)
 
 pub never : (n : ℕ) → n < 0 → ⊥
 never n h = omega arith
@@ -34,20 +23,20 @@ pub none_from : {F : Type 0} (test : ℕ → Option F) (first count n : ℕ) →
 none_from test first zero n within none = absurd (never n within)
 none_from test first (suc count) zero within none =
     let e : first + 0 ≡ first = omega arith in
-    ap test e ∙ here_none (test first) (first_of test (range_with_len (first + 1) count)) none
+    ap test e ∙ (neither (test first) (first_of test (range_with_len (first + 1) count)) none).0
 none_from test first (suc count) (suc n) within none =
     let e : first + suc n ≡ (first + 1) + n = omega arith in
     let h : n < count = omega arith in
-    ap test e ∙ none_from test (first + 1) count n h (behind_none (test first) (first_of test (range_with_len (first + 1) count)) none)
+    ap test e ∙ none_from test (first + 1) count n h ((neither (test first) (first_of test (range_with_len (first + 1) count)) none).1)
 
 -- at a number that is among some
 pub none_among : {F : Type 0} (test : ℕ → Option F) (numbers : List ℕ) (n : ℕ) → list_any (nat_eq n) numbers ≡ true → first_of test numbers ≡ None → test n ≡ None
 none_among test [] n among none = absurd (cc)
 none_among test (m ∷ numbers) n among none = elim (cases_Bool (nat_eq n m)) [
-  | inl same ↦ ap test (eqb-true n m same) ∙ here_none (test m) (first_of test numbers) none
+  | inl same ↦ ap test (eqb-true n m same) ∙ (neither (test m) (first_of test numbers) none).0
   | inr other ↦
       let flip : list_any (nat_eq n) (m ∷ numbers) ≡ list_any (nat_eq n) numbers = rw other refl in
-      none_among test numbers n (sym flip ∙ among) (behind_none (test m) (first_of test numbers) none)
+      none_among test numbers n (sym flip ∙ among) ((neither (test m) (first_of test numbers) none).1)
 ]
 
 -- ---- what is found
@@ -63,7 +52,7 @@ found_passes p (y ∷ xs) x found = one_found (λ z. p z ≡ true) y x (find p x
 pub none_found : {A F : Type 0} (test : A → Option F) (p : A → Bool) (xs : List A) (x : A) → find p xs ≡ Some x → first_of test xs ≡ None → test x ≡ None
 none_found test p [] x found none = absurd (none-some x found)
 none_found test p (y ∷ xs) x found none =
-    one_found (λ z. test z ≡ None) y x (find p xs) (p y) found (λ _. here_none (test y) (first_of test xs) none) (λ later. none_found test p xs x later (behind_none (test y) (first_of test xs) none))
+    one_found (λ z. test z ≡ None) y x (find p xs) (p y) found (λ _. (neither (test y) (first_of test xs) none).0) (λ later. none_found test p xs x later ((neither (test y) (first_of test xs) none).1))
 
 -- both of two tests pass
 pub both : (a b : Bool) → a && b ≡ true → (a ≡ true) × (b ≡ true)

@@ -8,7 +8,7 @@ use Rattle.std.proofs.lemmas.Option.{none-some, same_Some}
 use Rattle.std.proofs.lemmas.Slice.Eq.{bytes_eq-Decides}
 use Rattle.input_values.specs.coercion.Forms.{InputForm}
 use Rattle.schema_reader.specs.Schemas.{DefinitionTree}
-use Rattle.schema_rules.specs.First.{told, first_of}
+use Rattle.schema_rules.specs.First.{first_of}
 use Rattle.schema_rules.specs.Items.{ItemTree, items_of}
 use Rattle.schema_rules.specs.TypeNames.{NamedKind, types_of}
 use Rattle.schema_model.specs.Drafts.{FieldDraft, TypeDraft, drafts_of}
@@ -30,20 +30,17 @@ use Rattle.cost_directives.specs.SizedUnknown.{is_no_list_field, sized_of_none, 
 use Rattle.cost_directives.specs.NegativeSize.{assumes_less, is_negative, negative_size}
 use Rattle.cost_directives.specs.DirectiveFaults.{first_fault, fault_of_weights, fault_of_sizes}
 use Rattle.cost_directives.specs.Fitting.{Fits, SizesFit}
-use Rattle.cost_directives.proofs.FirstsFound.{neither, none_from, both, finds_less, found_passes}
+use Rattle.schema_rules.proofs.FirstFaults.{neither, not_told}
+use Rattle.cost_directives.proofs.FirstsFound.{none_from, both, finds_less, found_passes}
 use Rattle.cost_directives.proofs.DraftedFields.{has_name_of, FieldOf, made, own_interfaces, field_or_none}
 use Rattle.cost_directives.proofs.PlainDrafts.{IsPlain, plain_drafts}
 use Rattle.cost_directives.proofs.Implemented.{lists_alike, kinds_inside, is_argument, is_int, kept_field, list_below}
 
 -- ---- tests that find nothing
 
-unmapped : {A B : Type 0} (f : A → B) (found : Option A) → option_map f found ≡ None → found ≡ None
+pub unmapped : {A B : Type 0} (f : A → B) (found : Option A) → option_map f found ≡ None → found ≡ None
 unmapped f None none = refl
 unmapped f (Some x) none = absurd (cc)
-
-not_told : {F : Type 0} (wrong : Bool) (fault : F) → told wrong fault ≡ None → wrong ≡ false
-not_told true fault none = absurd (cc)
-not_told false fault none = refl
 
 -- what the tests of sizes find, one after another
 record Clean (s : SchemaData) : Type 0 where

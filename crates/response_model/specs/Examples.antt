@@ -2,7 +2,6 @@
 use Rattle.std.specs.Prelude.{ℕ, ◌+◌, ◌*◌, ◌/◌, List, [], ◌∷◌, codes, Bool, true, false, cond, eqb, Option, Some, None}
 use Rattle.serde_json.specs.Data.{Data, null as json_null, boolean, number, string, array, object as json_object, no_items, item, Members, no_members, member}
 use Rattle.response_model.specs.Plan.{Form, single, listed, Selected, type_name, numbered, Plan, leaf_plan, position, ObjectTypes, no_type, object_type, Nodes, no_node, node}
-use Rattle.response_model.specs.Rows.{Row, type_row, node_row, leaf_in}
 use Rattle.response_model.specs.Errors.{key_segment, index_segment, ResponseError, pathless}
 use Rattle.response_model.specs.Response.{Tree, leaf, list_of, object, Elements, no_element, element, no_entry, entry}
 
@@ -150,25 +149,3 @@ failed_json path = json_object (member (codes "code") (string (codes "E")) (memb
 
 abbrev pub unplaced_json : Data
 unplaced_json = json_object (member (codes "message") (string (codes "y")) (member (codes "path") json_null no_members))
-
--- { a: user { name } b: user { name } }
-abbrev pub aliased : List ℕ → Selected
-aliased key = record { key = key; field = codes "user"; asked = false; form = single true; size = None; weight = one; arguments = 0 }
-
-abbrev pub two_users : Plan
-two_users = query (node (aliased (codes "a")) (user (name_then no_node)) (node (aliased (codes "b")) (user (name_then no_node)) no_node))
-
--- The rows of `search`, and those of the two users.
-abbrev pub id_row : ℕ → List Row → List Row
-id_row depth others = node_row depth (plain (codes "id") (single false) None 0) (leaf_in text) ∷ others
-
-abbrev pub rows_of_search : List Row
-rows_of_search = type_row 0 0 one ∷ node_row 0 asked_search None
-    ∷ type_row 1 1 one ∷ node_row 1 (plain (codes "friends") (listed false false) (Some 3) one) None ∷ type_row 2 1 one ∷ id_row 2
-    (type_row 1 2 (2 * one + half) ∷ node_row 1 (plain (codes "author") (single true) None (4 * one)) None ∷ type_row 2 1 one ∷ id_row 2 [])
-
-abbrev pub user_rows : List ℕ → List Row → List Row
-user_rows key others = node_row 0 (aliased key) None ∷ type_row 1 1 one ∷ node_row 1 (plain (codes "name") (single true) None quarter) (leaf_in text) ∷ others
-
-abbrev pub rows_of_two_users : List Row
-rows_of_two_users = type_row 0 0 one ∷ user_rows (codes "a") (user_rows (codes "b") [])

@@ -6,5 +6,4 @@ pub mod Filled
 pub mod Reading
 pub mod Errors
 pub mod ResponseText
-pub mod Rows
 pub mod Examples

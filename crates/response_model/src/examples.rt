@@ -10,8 +10,7 @@ ghost use Rattle.response_model.specs.Bound.{IsBound, IsResponse};
 ghost use Rattle.response_model.specs.Filled.{filled};
 ghost use Rattle.response_model.specs.Errors.{errors_of};
 ghost use Rattle.response_model.specs.ResponseText.{response_text};
-ghost use Rattle.response_model.specs.Rows.{rows_below};
-ghost use Rattle.response_model.specs.Examples.{one, half, quarter, tenth, name_of_type, holds_string, added_alias, plain, text, friends_of_friends, search, asked_search, of_id, user_of_three, post_of_author, found, five, names_of_friends, befriended, named, tags_and_kind, tagged, search_reply, post_members, tags_reply, find, user_or_post, one_node, failed, unplaced, failed_json, unplaced_json, two_users, rows_of_search, rows_of_two_users};
+ghost use Rattle.response_model.specs.Examples.{one, half, quarter, tenth, name_of_type, holds_string, added_alias, plain, text, friends_of_friends, search, asked_search, of_id, user_of_three, post_of_author, found, five, names_of_friends, befriended, named, tags_and_kind, tagged, search_reply, post_members, tags_reply, find, user_or_post, one_node, failed, unplaced, failed_json, unplaced_json};
 
 /// Three friends of three friends: 1 + 1 + 3 + 9 values, and as field cost 1 + 1 + 3 + 9 times 0.25.
 pub fn bound_of_friends()
@@ -97,12 +96,6 @@ pub fn reply_read()
     ensures in_order { ReadsReply name_of_type added_alias tags_and_kind (tags_reply (array (item json_null no_items))) (tagged (element null no_element) (codes "Query")) }
     ensures list_due { (t : Tree) → ReadsReply name_of_type added_alias tags_and_kind (tags_reply (string [])) t → ⊥ }
     ensures any_leaf { Reads name_of_type added_alias (single false) false text (array no_items) (leaf (array no_items)) }
-{}
-
-/// The rows of a plan in depth-first order: each type before its nodes, each node before what is below it.
-pub fn rows_in_depth_first_order()
-    ensures of_types { rows_below 0 search ≡ rows_of_search }
-    ensures of_nodes { rows_below 0 two_users ≡ rows_of_two_users }
 {}
 
 /// A response has its errors first, and then its data, without spaces.

@@ -2,13 +2,12 @@
 
 ghost use Rattle.std.specs.Prelude.{ℕ, Bool, true, List, None, ◌≡◌, ◌<◌, ◌↔◌};
 ghost use Rattle.serde_json.specs.Data.{Data};
-ghost use Rattle.response_model.specs.Plan.{Form, Plan, ObjectTypes, single, position};
+ghost use Rattle.response_model.specs.Plan.{Form, Plan, single};
 ghost use Rattle.response_model.specs.Response.{Tree};
 ghost use Rattle.response_model.specs.Reading.{NamesDiffer, Reads};
 ghost use Rattle.response_model.specs.Cost.{Part, cost};
 ghost use Rattle.response_model.specs.Bound.{IsBound, IsResponse, Exceeds, IsSound, greatest_cost};
 ghost use Rattle.response_model.specs.Filled.{IsFilled, filled};
-ghost use Rattle.response_model.specs.Rows.{Row, plan_of_rows, rows_below, totals};
 
 /// Of every sound plan the recursion over the plan gives the bound, for both parts of the cost.
 pub fn greatest_is_bound()
@@ -43,15 +42,4 @@ pub fn one_filled()
 /// A JSON value reads as at most one tree, where object types have different names.
 pub fn one_reading()
     ensures { (name : ℕ → List ℕ) (alias : List ℕ) (form : Form) (asked : Bool) (plan : Plan) (json : Data) (t s : Tree) → NamesDiffer name → Reads name alias form asked plan json t → Reads name alias form asked plan json s → t ≡ s }
-{}
-
-/// Going over flat rows once, from the last to the first, gives the greatest cost of the plan that they stand for.
-pub fn rows_cost()
-    ensures { (part : Part) (rows : List Row) → (totals part rows).greatest 0 ≡ greatest_cost part (plan_of_rows rows) }
-{}
-
-/// The rows of a plan in depth-first order stand for that plan, and going over them gives its greatest cost.
-pub fn rows_of_plan()
-    ensures plan { (possible : ObjectTypes) → plan_of_rows (rows_below 0 (position possible)) ≡ position possible }
-    ensures costs { (part : Part) (possible : ObjectTypes) → (totals part (rows_below 0 (position possible))).greatest 0 ≡ greatest_cost part (position possible) }
 {}

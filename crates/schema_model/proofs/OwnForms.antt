@@ -1,8 +1,7 @@
 -- The types of a schema ask what those of its text ask, with the defaults filled.
-use Rattle.std.proofs.Common.{◌≡◌, ◌+◌, ℕ, zero, suc, Bool, true, false, true≢false, List, [], ◌∷◌, ◌++◌, map, length, get_or, Option, None, Some, Ok, Err, refl, sym, ap, ap₂, ◌∙◌, subst}
+use Rattle.std.proofs.Common.{◌≡◌, ◌+◌, ℕ, zero, suc, false, true≢false, List, [], ◌∷◌, ◌++◌, map, length, get_or, Option, None, Some, Ok, Err, refl, sym, ap, ap₂, ◌∙◌, subst}
 use Rattle.std.specs.Prelude.{slice_get}
 use Rattle.std.proofs.Math.Path.{fun_ext}
-use Rattle.std.proofs.lemmas.Option.{none-some}
 use Rattle.gql_base.specs.parts.Values.{ValueTree}
 use Rattle.gql_base.specs.parts.Arguments.{DirectiveTree}
 use Rattle.input_values.specs.values.Coerced.{CoercedTree}
@@ -11,11 +10,12 @@ use Rattle.input_values.specs.coercion.Answers.{Answer}
 use Rattle.input_values.specs.coercion.Forms.{absence_at, InputForm, object_form, field_form}
 use Rattle.input_values.specs.defaults.Drafts.{default_value, default_absence, draft_absence, filled_field, filled_form, AreFilled}
 use Rattle.schema_reader.specs.Schemas.{InputDefTree, BodyTree, schema_body, scalar_body, object_body, interface_body, union_body, enum_body, input_body, directive_body, DefinitionTree}
+use Rattle.schema_rules.proofs.FirstFaults.{not_told}
 use Rattle.schema_rules.specs.declared.kind.Kind.{Kind}
 use Rattle.schema_rules.specs.declared.kind.Kind.TheVariants.{Scalar, Object, Interface, Union, Enum, Input}
 use Rattle.schema_rules.specs.Items.{ItemTree, input_field_item, body_items, definition_items, items_of}
 use Rattle.schema_rules.specs.TypeNames.{NamedKind, types_of}
-use Rattle.schema_rules.specs.First.{told, AreGood}
+use Rattle.schema_rules.specs.First.{AreGood}
 use Rattle.schema_rules.proofs.FirstFaults.{none_are_good}
 use Rattle.schema_model.specs.Drafts.{InputDraft, TypeDraft, input_draft, body_draft, definition_draft, scalar_draft, defined_drafts, drafts_of}
 use Rattle.schema_model.specs.Defaults.{asked_field, asked_by, asked_or, text_asks, value_in, default_of}
@@ -25,10 +25,6 @@ use Rattle.schema_model.specs.SchemaViews.{schema_data}
 use Rattle.schema_model.specs.InputForms.{form_by, type_form, input_forms, schema_forms}
 use Rattle.schema_model.specs.declared.schema.Schema.{Schema}
 use Rattle.schema_model.specs.Faults.{Builds}
-
-told_none : {F : Type 0} (b : Bool) (fault : F) → told b fault ≡ None → b ≡ false
-told_none true fault none = absurd (none-some fault (sym none))
-told_none false fault none = refl
 
 module _ (form : ℕ → InputForm) where
   -- each default has a value
@@ -89,7 +85,7 @@ module _ (form : ℕ → InputForm) where
     fields_good : (of : List ℕ) (fields : List InputDefTree) → AllGood (map (input_field_item of) fields) → InputsGood (map (input_draft types) fields)
     unfolding AreGood
     fields_good of [] good = tt
-    fields_good of (f ∷ fields) good = (told_none (is_bad_draft form (input_draft types f)) _ good.0, fields_good of fields good.1)
+    fields_good of (f ∷ fields) good = (not_told (is_bad_draft form (input_draft types f)) _ good.0, fields_good of fields good.1)
 
     body_good : (name : List ℕ) (cost : Option (List ℕ)) (directives : List DirectiveTree) (body : BodyTree) → AllGood (body_items name directives body) → TypesGood (body_draft types name cost body)
     unfolding AreGood

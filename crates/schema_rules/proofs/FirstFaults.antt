@@ -1,6 +1,15 @@
 -- The first fault that a test finds is that of a thing before which it finds none.
-use Rattle.std.proofs.Common.{◌≡◌, List, [], ◌∷◌, ◌++◌, Option, None, Some, refl, ap, ◌∙◌}
-use Rattle.schema_rules.specs.First.{or_else, first_of, AreGood, IsFirst}
+use Rattle.std.proofs.Common.{◌≡◌, Bool, true, false, List, [], ◌∷◌, ◌++◌, Option, None, Some, refl, ap, ◌∙◌}
+use Rattle.schema_rules.specs.First.{or_else, told, first_of, AreGood, IsFirst}
+
+pub not_told : {F : Type 0} (wrong : Bool) (fault : F) → told wrong fault ≡ None → wrong ≡ false
+not_told true fault none = absurd (cc)
+not_told false fault none = refl
+
+-- of two tests neither finds anything
+pub neither : {F : Type 0} (here behind : Option F) → or_else here behind ≡ None → (here ≡ None) × (behind ≡ None)
+neither None behind none = (refl, none)
+neither (Some fault) behind none = absurd (cc)
 
 -- from what the test finds at one thing, and from what holds of those behind it
 joined : {A F : Type 0} (test : A → Option F) (x : A) (xs : List A) (fault : F) (found : Option F) → test x ≡ found → (first_of test xs ≡ Some fault → IsFirst test xs fault)

@@ -45,12 +45,6 @@ take_front n [] ys within = (take n ys, refl)
 take_front zero (x ∷ xs) ys within = absurd (omega (arith, within))
 take_front (suc n) (x ∷ xs) ys within = let t = take_front n xs ys (omega (arith, within)) in (t.0, ap (λ l. x ∷ l) t.1)
 
-same_front : (xs ys us vs : List ℕ) → length xs ≡ length ys → xs ++ us ≡ ys ++ vs → (xs ≡ ys) × (us ≡ vs)
-same_front xs ys us vs long e = (
-  sym (take_at xs us (length ys) long) ∙ ap (take (length ys)) e ∙ take-append_seam ys vs,
-  sym (drop_at xs us (length ys) long) ∙ ap (drop (length ys)) e ∙ drop-append_seam ys vs,
-)
-
 pub print_chunk_then : (c : Chunk) (rest : List ℕ) → print_chunk c ++ rest ≡ print_chunk_line c.line ++ (c.bytes ++ (line_end ++ rest))
 print_chunk_then c rest = append_assoc (print_chunk_line c.line) (c.bytes ++ line_end) rest ∙ ap (λ l. print_chunk_line c.line ++ l) (append_assoc c.bytes line_end rest)
 
@@ -72,9 +66,15 @@ pub chunk_one : (c d : Chunk) (first second : List ℕ) → IsChunk c → IsChun
 chunk_one c d first second is_c is_d e =
     let same = line_one (print_chunk d ++ second) c.line d.line (subst (λ l. HasLine l c.line) e (line_of c first is_c)) (line_of d second is_d) in
     let whole = sym (print_chunk_then c first) ∙ e ∙ print_chunk_then d second in
-    let behind = same_front (print_chunk_line c.line) (print_chunk_line d.line) (c.bytes ++ (line_end ++ first)) (d.bytes ++ (line_end ++ second)) (ap (λ l. length (print_chunk_line l)) same) whole in
-    let both = same_front c.bytes d.bytes (line_end ++ first) (line_end ++ second) (is_c.whole ∙ ap chunk_size same ∙ sym is_d.whole) behind.1 in
-    (both.0, ap (drop 2) both.1)
+    let line = length (print_chunk_line d.line) in
+    let behind : c.bytes ++ (line_end ++ first) ≡ d.bytes ++ (line_end ++ second) =
+    sym (drop_at (print_chunk_line c.line) (c.bytes ++ (line_end ++ first)) line (ap (λ l. length (print_chunk_line l)) same))
+    ∙ ap (drop line) whole ∙ drop-append_seam (print_chunk_line d.line) (d.bytes ++ (line_end ++ second)) in
+    let size = length d.bytes in
+    let long : length c.bytes ≡ size = is_c.whole ∙ ap chunk_size same ∙ sym is_d.whole in (
+      sym (take_at c.bytes (line_end ++ first) size long) ∙ ap (take size) behind ∙ take-append_seam d.bytes (line_end ++ second),
+      ap (drop 2) (sym (drop_at c.bytes (line_end ++ first) size long) ∙ ap (drop size) behind ∙ drop-append_seam d.bytes (line_end ++ second)),
+    )
 
 chunks_one : (cs ds : List Chunk) (here there : List ℕ) → AllByRecursion IsChunk cs → AllByRecursion IsChunk ds → print_chunks cs ++ here ≡ print_chunks ds ++ there → Ends here → Ends there
     → data_of cs ≡ data_of ds

@@ -13,7 +13,7 @@ use Rattle.input_values.specs.coercion.Given.{Given, is_nothing}
 use Rattle.input_values.specs.coercion.Forms.{InputForm}
 use Rattle.input_values.specs.coercion.Coercion.{coerced}
 use Rattle.input_values.specs.coercion.Literals.{no_variables, literal_given}
-use Rattle.input_values.proofs.CoercionLaws.Found.{Iff, coerced_iff}
+use Rattle.input_values.proofs.CoercionLaws.Found.{Iff, ok_same, coerced_iff}
 use Rattle.schema_model.specs.Arguments.{ArgData}
 use Rattle.variable_coercion.specs.Json.{json_given}
 use Rattle.variable_coercion.specs.Refusals.{value_limit, Unfit, unfit_size, fitting, Refusal, missing, given_value, no_value, and_then, all_in_order}
@@ -23,13 +23,6 @@ use Rattle.variable_coercion.specs.Relation.{AreAll, IsFitting, IsWithout, IsDef
 
 abbrev okay : {A : Type 0} → A → Result A Refusal
 okay x = Ok x
-
-abbrev value_or : {A E : Type 0} → A → Result A E → A
-value_or d (Ok x) = x
-value_or d (Err e) = d
-
-ok_same : {A : Type 0} (x y : A) → okay x ≡ okay y → x ≡ y
-ok_same x y e = ap (value_or x) e
 
 no_ok : {A B : Type 0} (r : Refusal) (x : A) → Err r ≡ okay x → B
 no_ok r x e = absurd (differ r x e)
@@ -44,7 +37,7 @@ no_tree path t a e f = absurd (differ path t a e f)
     differ path t a e f = cc
 
 same_tree : (u t : CoercedTree) (a : Answer CoercedTree) → a ≡ Ok u → a ≡ Ok t → u ≡ t
-same_tree u t a e f = ap (value_or u) (sym e ∙ f)
+same_tree u t a e f = ok_same u t (sym e ∙ f)
 
 sized_iff : (why : Unfit → Refusal) (form : ℕ → InputForm) (g : Given) (s : ShapeTree) (u : CoercedTree) (small : Bool) → coerced form g s ≡ Ok u → leb (nodes u) value_limit ≡ small → (o : Option CoercedTree)
     → Iff (given_value why (cond small (Ok u) (Err unfit_size)) ≡ Ok o) (IsFitting form g s o)

@@ -1,6 +1,6 @@
 -- What holds of a text that is divided into pieces.
 use Rattle.std.proofs.Common.{◌≡◌, ℕ, ◌+◌, ◌-◌, ◌<◌, ◌≤◌, List, [], ◌∷◌, ◌++◌, length, take, drop, refl, sym, ap, ◌∙◌, arith, Option, Some, None, Ok, Err, subst}
-use Rattle.std.proofs.lemmas.List.{append-nil, length-append, length-drop, drop-drop, drop_all, append_assoc}
+use Rattle.std.proofs.lemmas.List.{append-nil, length-append, length-drop, drop-drop, drop_all, append_assoc, take_rest}
 use Rattle.gql_base.specs.declared.lexical.lexing.Front.{Front}
 use Rattle.gql_base.specs.declared.lexical.token.Token.{Token}
 use Rattle.gql_base.specs.declared.lexical.token.TokenKind.{TokenKind}
@@ -9,7 +9,6 @@ use Rattle.gql_base.specs.declared.lexical.lexing.LexFault.{LexFault}
 use Rattle.gql_base.specs.lexical.Faults.{HasFault, moved}
 use Rattle.gql_base.specs.lexical.Tokens.{Lexes}
 use Rattle.gql_base.specs.lexical.Fronts.{front_of}
-use Rattle.gql_base.proofs.LexicalLaws.Runs.{rest_of}
 use Rattle.gql_base.proofs.LexicalLaws.FrontPieces.{piece_kind, outline, BeginsWith, begins_with}
 use Rattle.gql_base.proofs.LexicalLaws.FrontFaults.{fault_is}
 
@@ -79,7 +78,7 @@ lexed_more text at tokens read f begins within lexed more = record {
 
 -- what was found in the bytes from a place on
 begins_at : (text : List ℕ) (at : ℕ) (f : Front) → front_of (take (length text - at) (drop at text)) ≡ Ok f → BeginsWith (drop at text) f
-begins_at text at f found = begins_with (drop at text) f (sym (ap front_of (rest_of text at)) ∙ found)
+begins_at text at f found = begins_with (drop at text) f (sym (ap front_of (take_rest text at)) ∙ found)
 
 piece_kind_is : (p : Piece) (f : Front) (kind : Option TokenKind) → outline p ≡ f → f.kind ≡ kind → piece_kind p ≡ kind
 piece_kind_is p f kind told is = ap (λ g. g.kind) told ∙ is
@@ -116,6 +115,6 @@ fault_at bytes text at tokens fault same below lexed found =
       pieces = lexed.pieces;
       divided = lexed.divided;
       first = fault;
-      begins = fault_is (drop at bytes) fault (sym (ap front_of (rest_of bytes at)) ∙ found);
+      begins = fault_is (drop at bytes) fault (sym (ap front_of (take_rest bytes at)) ∙ found);
       told = refl;
     })

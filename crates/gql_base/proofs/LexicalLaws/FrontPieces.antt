@@ -5,7 +5,7 @@ use Rattle.std.specs.Char.{is_ascii_digit}
 use Rattle.std.specs.Str.Parse.{digits_value}
 use Rattle.std.proofs.lemmas.Bool.{cases_Bool, eqb-true, le-leb, lt-ltb, leb-true, ltb-true}
 use Rattle.std.proofs.lemmas.Bool.Decides.{nat_tests}
-use Rattle.std.proofs.lemmas.List.{take-append-drop, length-take, length-append, append-nil, append_assoc, take_at, drop_at}
+use Rattle.std.proofs.lemmas.List.{take-append-drop, length-take, length-append, append-nil, append_assoc, take_at, drop_at, take_rest}
 use Rattle.std.proofs.lemmas.List.Sums.{prefix_len-le-length}
 use Rattle.gql_base.specs.declared.lexical.lexing.Front.{Front}
 use Rattle.gql_base.specs.declared.lexical.lexing.LexFault.{LexFault}
@@ -19,7 +19,7 @@ use Rattle.gql_base.specs.lexical.Strings.{begins_with_marks}
 use Rattle.gql_base.specs.lexical.Pieces.{word, number, string, block, mark, Piece, token, byte_order_mark, blank, comment, mark_bytes, kind_of, lexeme_bytes, piece_bytes, IsInRange, IsInteger, IsPiece, EndsBefore, BeginsWithout, BeginsNothing}
 use Rattle.gql_base.specs.lexical.Faults.{begins_as_number}
 use Rattle.gql_base.specs.lexical.Fronts.{mark_of, is_byte_order_mark, is_spread, piece_from, front_with, mark_front, found_front, number_found, integer_fits, text_front, front_of}
-use Rattle.gql_base.proofs.LexicalLaws.Runs.{run_is_whole, run_passes, run_stops, rest_of}
+use Rattle.gql_base.proofs.LexicalLaws.Runs.{run_is_whole, run_passes, run_stops}
 use Rattle.gql_base.proofs.LexicalLaws.Integers.{fits_plain}
 use Rattle.gql_base.proofs.LexicalLaws.Numerals.{number_there, number_is, IntegerThere, integer_is, found_at}
 use Rattle.gql_base.proofs.LexicalLaws.ScannedStrings.{body_faultless, body_closed, body_scanned, single, ends_apart}
@@ -386,7 +386,7 @@ front_text (c ∷ cs) long no_number is = rw no_number (rw is refl)
 pub front_other : (text : List ℕ) → 0 < length text → is_number_start (get_or text 0 0) ≡ false → (get_or text 0 0 == 34) ≡ false → front_of text ≡ piece_from (get_or text 0 0) (take (length text - 1) (drop 1 text))
 unfolding front_of
 front_other [] long no_number is = absurd (omega (arith, long))
-front_other (c ∷ cs) long no_number is = rw no_number (rw is (ap (piece_from c) (sym (rest_of (c ∷ cs) 1))))
+front_other (c ∷ cs) long no_number is = rw no_number (rw is (ap (piece_from c) (sym (take_rest (c ∷ cs) 1))))
 
 pub one_test : (c : ℕ) → c ≡ 34 → (c == 34) ≡ true
 one_test c is = rw is refl

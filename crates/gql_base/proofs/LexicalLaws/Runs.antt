@@ -1,7 +1,7 @@
 -- The longest run of bytes that pass a test, and what options say.
-use Rattle.std.proofs.Common.{◌≡◌, ℕ, zero, suc, ◌+◌, ◌-◌, ◌<◌, Bool, true, false, List, [], ◌∷◌, ◌++◌, length, take, drop, get_or, refl, sym, ap, ◌∙◌, arith}
+use Rattle.std.proofs.Common.{◌≡◌, ℕ, zero, suc, ◌+◌, ◌<◌, Bool, true, false, List, [], ◌∷◌, ◌++◌, length, take, drop, get_or, refl, sym, ap, ◌∙◌, arith}
 use Rattle.std.specs.List.{AllPass, prefix_len}
-use Rattle.std.proofs.lemmas.List.{get_or-take, length-take, length-drop, take_all, drop-drop, drop_at}
+use Rattle.std.proofs.lemmas.List.{get_or-take, length-take, drop-drop, drop_at}
 use Rattle.std.proofs.lemmas.List.Elements.{All-head, All-tail}
 use Rattle.std.proofs.lemmas.List.Sums.{prefix_len_passes, prefix_len_stops, prefix_len-le-length}
 use Rattle.gql_base.specs.lexical.Pieces.{BeginsWithout}
@@ -28,10 +28,6 @@ begins_without p (suc n) (c ∷ cs) stops = begins_without p n cs (λ below. sto
 -- what follows a run doesn't begin with a byte that passes
 pub run_stops : (p : ℕ → Bool) (xs : List ℕ) → BeginsWithout p (drop (prefix_len p xs) xs)
 run_stops p xs = begins_without p (prefix_len p xs) xs (prefix_len_stops p xs 0)
-
--- the bytes from a place to the end are all from there on
-pub rest_of : (text : List ℕ) (at : ℕ) → take (length text - at) (drop at text) ≡ drop at text
-rest_of text at = take_all (length text - at) (drop at text) (omega (arith, length-drop at text))
 
 pub rest_after : (text xs after : List ℕ) (at : ℕ) → drop at text ≡ xs ++ after → drop (at + length xs) text ≡ after
 rest_after text xs after at cut = sym (drop-drop (length xs) at text) ∙ ap (drop (length xs)) cut ∙ drop_at xs after (length xs) refl

@@ -1,5 +1,5 @@
 -- What a given value comes to is what the relation says, and nothing else.
-use Rattle.std.proofs.Common.{◌≡◌, ◌+◌, ℕ, suc, List, [], ◌∷◌, ◌++◌, Bool, true, false, true≢false, not, ◌&&◌, ◌||◌, cond, bytes_eq, Option, Some, None, Ok, Err, refl, sym, ap, ◌∙◌}
+use Rattle.std.proofs.Common.{◌≡◌, ◌+◌, ℕ, suc, List, [], ◌∷◌, ◌++◌, Bool, true, false, true≢false, not, ◌&&◌, ◌||◌, cond, bytes_eq, Option, Some, None, Result, Ok, Err, refl, sym, ap, ◌∙◌}
 use Rattle.std.specs.List.{list_any, list_all}
 use Rattle.std.proofs.lemmas.Option.{none-some, same_Some}
 use Rattle.gql_base.specs.names.Names.{are_distinct, repeated_from, first_repeated}
@@ -25,11 +25,14 @@ self_iff = (λ a. a, λ a. a)
 abbrev pub okay : {A : Type 0} → A → Answer A
 okay x = Ok x
 
-abbrev value_or : {A : Type 0} → A → Answer A → A
-value_or d (Ok x) = x
-value_or d (Err path) = d
+abbrev okay_in : {A : Type 0} (E : Type 0) → A → Result A E
+okay_in E x = Ok x
 
-pub ok_same : {A : Type 0} (x y : A) → okay x ≡ okay y → x ≡ y
+abbrev value_or : {A E : Type 0} → A → Result A E → A
+value_or d (Ok x) = x
+value_or d (Err why) = d
+
+pub ok_same : {A E : Type 0} (x y : A) → okay_in E x ≡ okay_in E y → x ≡ y
 ok_same x y e = ap (value_or x) e
 
 differ_ok : {A : Type 0} (path : Path) (x : A) → Err path ≡ okay x → ⊥
