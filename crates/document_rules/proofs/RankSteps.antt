@@ -2,6 +2,7 @@
 use Rattle.std.proofs.Common.{◌≡◌, ◌⊎◌, inl, inr, ⊎_elim, ℕ, zero, suc, ◌+◌, ◌<◌, ◌≤◌, ◌||◌, nat_eq, Bool, true, false, true≢false, if◌then◌else◌, List, [], ◌∷◌, ◌++◌, map, length, Option, Some, None, refl, sym, ap, ◌∙◌, subst, arith, append_assoc, append-nil, length-append}
 use Rattle.std.specs.Prelude.{slice_get}
 use Rattle.std.specs.List.{list_any}
+use Rattle.std.proofs.Math.Bool.{or-true, or-false}
 use Rattle.std.proofs.lemmas.Bool.{cases_Bool, eq-eqb, eqb-true, eqb-false, ne_eqb}
 use Rattle.std.proofs.lemmas.List.{length-map}
 use Rattle.gql_base.specs.names.Names.{place_of_name}
@@ -10,7 +11,7 @@ use Rattle.document_rules.specs.Parts.{FragmentData, fragment_name}
 use Rattle.document_rules.specs.Met.{Met, Spread, spreads_in, spread_within, spreads_within, spreads_of_data, is_met, met_at, met_there, look_at, walk, reached, spread_count, outward, outward_from, inside_at}
 use Rattle.document_rules.specs.Rules.{is_inside}
 use Rattle.document_rules.specs.Ranks.{IsBelow, AreBelow, HasRanks}
-use Rattle.document_rules.proofs.SpreadSteps.{or_nothing, met_more, spreads_at, walk_ends, walk_looks}
+use Rattle.document_rules.proofs.SpreadSteps.{met_more, spreads_at, walk_ends, walk_looks}
 
 abbrev among : List ℕ → ℕ → Bool
 among xs k = list_any (nat_eq k) xs
@@ -25,11 +26,7 @@ at_first : (k : ℕ) (xs : List ℕ) → among (k ∷ xs) k ≡ true
 at_first k xs = ap (λ b. b || among xs k) (eq-eqb k k refl)
 
 behind : (k m : ℕ) (xs : List ℕ) → among xs k ≡ true → among (m ∷ xs) k ≡ true
-behind k m xs h = ap (λ b. nat_eq k m || b) h ∙ or_true (nat_eq k m)
-  where
-    or_true : (b : Bool) → (b || true) ≡ true
-    or_true true = refl
-    or_true false = refl
+behind k m xs h = ap (λ b. nat_eq k m || b) h ∙ or-true (nat_eq k m)
 
 which : (k m : ℕ) (xs : List ℕ) → among (m ∷ xs) k ≡ true → (k ≡ m) ⊎ (among xs k ≡ true)
 which k m xs h = ⊎_elim
@@ -97,12 +94,12 @@ unmet_once seen later [] k same new = omega arith
 unmet_once seen later (f ∷ fs) zero same new =
     let here : later 0 ≡ true = same 0 ∙ (ap (λ b. b || nat_eq 0 0) new ∙ eq-eqb 0 0 refl) in
     let rest : unmet (λ n. later (suc n)) fs ≡ unmet (λ n. seen (suc n)) fs =
-    unmet_same (λ n. later (suc n)) (λ n. seen (suc n)) (λ n. same (suc n) ∙ (ap (λ b. seen (suc n) || b) (ne_eqb (suc n) 0 (λ e. absurd (omega (arith, e)))) ∙ or_nothing (seen (suc n)))) fs in
+    unmet_same (λ n. later (suc n)) (λ n. seen (suc n)) (λ n. same (suc n) ∙ (ap (λ b. seen (suc n) || b) (ne_eqb (suc n) 0 (λ e. absurd (omega (arith, e)))) ∙ or-false (seen (suc n)))) fs in
     let a : unmet later (f ∷ fs) ≡ 0 + unmet (λ n. later (suc n)) fs = ap (λ b. (if b then 0 else length (spreads_in f.below)) + unmet (λ n. later (suc n)) fs) here in
     let c : unmet seen (f ∷ fs) ≡ length (spreads_in f.below) + unmet (λ n. seen (suc n)) fs = ap (λ b. (if b then 0 else length (spreads_in f.below)) + unmet (λ n. seen (suc n)) fs) new in
     omega (arith, a, c, rest)
 unmet_once seen later (f ∷ fs) (suc k) same new =
-    let here : later 0 ≡ seen 0 = same 0 ∙ (ap (λ b. seen 0 || b) (ne_eqb 0 (suc k) (λ e. absurd (omega (arith, e)))) ∙ or_nothing (seen 0)) in
+    let here : later 0 ≡ seen 0 = same 0 ∙ (ap (λ b. seen 0 || b) (ne_eqb 0 (suc k) (λ e. absurd (omega (arith, e)))) ∙ or-false (seen 0)) in
     let a : unmet later (f ∷ fs) ≡ (if seen 0 then 0 else length (spreads_in f.below)) + unmet (λ n. later (suc n)) fs = ap (λ b. (if b then 0 else length (spreads_in f.below)) + unmet (λ n. later (suc n)) fs) here in
     let rest : unmet (λ n. later (suc n)) fs + spreads_at (slice_get fs k) ≡ unmet (λ n. seen (suc n)) fs =
     unmet_once (λ n. seen (suc n)) (λ n. later (suc n)) fs k (λ n. same (suc n) ∙ ap (λ b. seen (suc n) || b) (next_eq n k)) new in
@@ -330,15 +327,11 @@ module _ (fs : List FragmentData) where
         short = (let l = length-append met (met_at k w ∷ []) in omega (arith, s.short, l));
         split = λ y h. split_of y (cases_Bool (is_met met y)) h;
         within = λ y h. grown_met y (s.within y h);
-        entered = λ y h. ⊎_elim (λ (e : y ≡ k). met_more met (met_at k w) y ∙ (ap (λ b. is_met met y || b) (eq-eqb y k e) ∙ or_true (is_met met y))) (λ (g : among inside y ≡ true). grown_met y (s.entered y g)) (which y k inside h);
+        entered = λ y h. ⊎_elim (λ (e : y ≡ k). met_more met (met_at k w) y ∙ (ap (λ b. is_met met y || b) (eq-eqb y k e) ∙ or-true (is_met met y))) (λ (g : among inside y ≡ true). grown_met y (s.entered y g)) (which y k inside h);
         apart = λ y h. ⊎_elim (λ (e : y ≡ k). not_left y e) (λ (g : among inside y ≡ true). s.apart y g) (which y k inside h);
         ordered = s.ordered;
       }
         where
-          or_true : (b : Bool) → (b || true) ≡ true
-          or_true true = refl
-          or_true false = refl
-
           grown_met : (y : ℕ) → is_met met y ≡ true → is_met (met ++ (met_at k w ∷ [])) y ≡ true
           grown_met y h = met_more met (met_at k w) y ∙ ap (λ b. b || nat_eq y k) h
 
@@ -389,16 +382,12 @@ module _ (fs : List FragmentData) where
               (cases_Bool (nat_eq y x.fragment))
           kept_met [] ys y h = absurd (true≢false (sym h))
 
-          or_true : (b : Bool) → (b || true) ≡ true
-          or_true true = refl
-          or_true false = refl
-
           still_met : (y : ℕ) → is_met met y ≡ true → is_met a.later_met y ≡ true
           still_met y h = subst (λ z. is_met z y ≡ true) (sym all) (kept_met met ((met_at k w ∷ []) ++ a.more) y h)
 
           met_k : is_met a.later_met k ≡ true
           met_k = subst (λ z. is_met z k ≡ true) (sym a.grown) (kept_met (met ++ (met_at k w ∷ [])) a.more k
-              (met_more met (met_at k w) k ∙ (ap (λ b. is_met met k || b) (eq-eqb k k refl) ∙ or_true (is_met met k))))
+              (met_more met (met_at k w) k ∙ (ap (λ b. is_met met k || b) (eq-eqb k k refl) ∙ or-true (is_met met k))))
 
       module _ (b : ℕ) (inner : (names : List (List ℕ)) → Claim b names) where
         entered_walk : (m : ℕ) (met : List Met) (left inside : List ℕ) (w : Option ℕ) (k : ℕ) (o : Option FragmentData) (names : List (List ℕ)) (others : List Spread) → m ≤ b

@@ -3,7 +3,7 @@ use Rattle.std.proofs.Common.{◌≡◌, ◌+◌, ◌<◌, ℕ, zero, suc, Bool,
 use Rattle.std.specs.Prelude.{slice_get, option_to_list, MatchOption}
 use Rattle.std.specs.List.{list_any}
 use Rattle.std.proofs.lemmas.Bool.{eqb-true, eqb-false}
-use Rattle.std.proofs.Math.Bool.{or-true}
+use Rattle.std.proofs.Math.Bool.{or-true, or-false}
 use Rattle.std.proofs.lemmas.List.{get_or-set_same, get_or-set_other, length-set, length-replicate, length-reverse, length-map, map-append, reverse-append}
 use Rattle.std.proofs.lemmas.List.Folds.{list_any-append}
 use Rattle.document_reader.specs.declared.trees.Selection.{Selection}
@@ -66,15 +66,7 @@ spread_pushed w x name directives old pushed s is grown seen =
 -- ---- the fragments that were met
 
 pub met_more : (ms : List Met) (m : Met) (n : ℕ) → is_met (ms ++ (m ∷ [])) n ≡ (is_met ms n || nat_eq n m.fragment)
-met_more ms m n = ap (list_any (nat_eq n)) (map-append met_number ms (m ∷ [])) ∙ (list_any-append (nat_eq n) (map met_number ms) (m.fragment ∷ []) ∙ ap (λ b. is_met ms n || b) (or_false (nat_eq n m.fragment)))
-  where
-    or_false : (b : Bool) → (b || false) ≡ b
-    or_false true = refl
-    or_false false = refl
-
-pub or_nothing : (b : Bool) → (b || false) ≡ b
-or_nothing true = refl
-or_nothing false = refl
+met_more ms m n = ap (list_any (nat_eq n)) (map-append met_number ms (m ∷ [])) ∙ (list_any-append (nat_eq n) (map met_number ms) (m.fragment ∷ []) ∙ ap (λ b. is_met ms n || b) (or-false (nat_eq n m.fragment)))
 
 pub still_seen : (fs : List FragmentData) (met later : List MetFragment) (seen : List Bool) (m : MetFragment) → AreSeen fs met seen → later ≡ met ++ (m ∷ []) → m.number < length seen → AreSeen fs later (set seen m.number true)
 still_seen fs met later seen m before grown within = record {
@@ -91,7 +83,7 @@ still_seen fs met later seen m before grown within = record {
         ∙ sym (ap (λ l. is_met l n) views ∙ (met_more (map met_data met) (met_data m) n ∙ (ap (λ c. is_met (map met_data met) n || c) e ∙ or-true (is_met (map met_data met) n)))))
     at_number n h false e =
         get_or-set_other seen m.number n true false (eqb-false n m.number e) ∙ (before.same n h
-        ∙ sym (ap (λ l. is_met l n) views ∙ (met_more (map met_data met) (met_data m) n ∙ (ap (λ c. is_met (map met_data met) n || c) e ∙ or_nothing (is_met (map met_data met) n)))))
+        ∙ sym (ap (λ l. is_met l n) views ∙ (met_more (map met_data met) (met_data m) n ∙ (ap (λ c. is_met (map met_data met) n || c) e ∙ or-false (is_met (map met_data met) n)))))
 
 pub none_seen : (fs : List FragmentData) (n : ℕ) → n ≡ length fs → AreSeen fs [] (replicate n false)
 none_seen fs n is = record {
