@@ -1,0 +1,16 @@
+pub mod OnePlan
+pub mod SameResponses
+pub mod FaultlessPlans
+pub mod SoundPlans
+pub mod SoundSettings
+pub mod GivenArguments
+pub mod Thinning
+pub mod SameNodes
+pub mod Walking
+pub mod RankedBelow
+pub mod PlannedWell
+pub mod SameValues
+pub mod CheckedRanks
+pub mod Computed
+pub mod NodeCounts
+pub mod Fillable

@@ -1,0 +1,5 @@
+use Rattle.plan_model.proofs.CheckedRanks.{checked_is_acyclic}
+use Rattle.plan_model.proofs.laws.checked_operations_are_acyclic.Goals as goal
+
+pub returns : goal.returns
+returns c = checked_is_acyclic

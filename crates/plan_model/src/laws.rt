@@ -1,0 +1,123 @@
+//! What holds of all selections, their plans and their responses.
+
+ghost use Rattle.std.specs.Prelude.{◌≡◌, ◌↔◌, ◌≤◌, ℕ, true, false, List, Option, None, Ok, map, length};
+ghost use Rattle.gql_base.specs.declared.parts.trees.Argument.{Argument};
+ghost use Rattle.gql_base.specs.parts.Trees.{named_value};
+ghost use Rattle.document_reader.specs.declared.trees.Definition.{Definition};
+ghost use Rattle.document_reader.specs.declared.trees.Operation.{Operation};
+ghost use Rattle.cost_num.specs.Capped.{capped};
+ghost use Rattle.input_values.specs.coercion.Literals.{Environment};
+ghost use Rattle.response_model.specs.Plan.{Form, Plan};
+ghost use Rattle.response_model.specs.Response.{Tree, Fits, SizesKept};
+ghost use Rattle.response_model.specs.Cost.{Part, cost};
+ghost use Rattle.response_model.specs.Bound.{IsSound, greatest_cost};
+ghost use Rattle.schema_rules.specs.First.{first_of};
+ghost use Rattle.schema_model.specs.SchemaData.{SchemaData};
+ghost use Rattle.schema_reader.specs.Schemas.{DefinitionTree};
+ghost use Rattle.schema_model.specs.SchemaViews.{schema_data};
+ghost use Rattle.schema_model.specs.declared.schema.Schema.{Schema};
+ghost use Rattle.schema_model.specs.Faults.{Builds};
+ghost use Rattle.schema_model.specs.Arguments.{ArgData};
+ghost use Rattle.cost_directives.specs.Weights.{WeightsData};
+ghost use Rattle.document_rules.specs.Checking.{first_broken};
+ghost use Rattle.variable_coercion.specs.Arguments.{arguments_answer};
+ghost use Rattle.plan_model.specs.SelectedFields.{Setting, Place, types_of, lacks_types, holds, coerced_arguments};
+ghost use Rattle.plan_model.specs.SameArguments.{value_of, same_arguments};
+ghost use Rattle.plan_model.specs.Collecting.{CollectedField};
+ghost use Rattle.plan_model.specs.Merging.{Position, fields_at, keys_at, fields_of_key, call_under, selected_under, below_key, position_below};
+ghost use Rattle.plan_model.specs.Plans.{IsPlan, node_count};
+ghost use Rattle.plan_model.specs.Responses.{FitsSelections, KeepsSizes, response_cost, IsBoundOf};
+ghost use Rattle.plan_model.specs.Visits.{Visit, visits, fault_at, planned, planned_well, answer_of};
+ghost use Rattle.plan_model.specs.Operations.{setting_of, root_position, operation_answer, planned_operation, IsOperationPlan, IsOperationBound};
+ghost use Rattle.plan_model.specs.Sound.{IsSoundSetting, IsSoundPlace, CanBeFilled, IsOfSchema};
+ghost use Rattle.plan_model.specs.Repeats.{LeavesOutRepeats};
+ghost use Rattle.plan_model.specs.MergingWalk.{IsShortened, walked, IsAcyclic};
+
+use cost_num::CAP;
+
+/// The arguments that a document's tree has come to what the written arguments come to.
+pub fn arguments_of_trees()
+    ensures { (s : SchemaData) (field : ℕ) (written : List Argument) (values : Environment) → coerced_arguments s field (map named_value written) values ≡ arguments_answer s field written values }
+{}
+
+/// Arguments are the same exactly where their values are equal, one after another.
+pub fn same_arguments_are_equal()
+    ensures { (args others : List ArgData) → (same_arguments args others ≡ true) ↔ (map value_of args ≡ map value_of others) }
+{}
+
+/// There is one plan of a place and its selections.
+pub fn one_plan()
+    ensures { (e : Setting) (place : Place) (p : Position) (a b : Plan) → IsPlan e place p a → IsPlan e place p b → a ≡ b }
+{}
+
+/// A tree fits selections exactly where it fits their plan. Where it fits, it keeps the sizes of both or of neither, and
+/// costs the same, up to just above the cap.
+pub fn responses_of_a_plan()
+    ensures fit { (e : Setting) (form : Form) (place : Place) (p : Position) (plan : Plan) (t : Tree) → IsPlan e place p plan → FitsSelections e form place p t ↔ Fits (holds e.schema) form plan t }
+    ensures keep { (e : Setting) (form : Form) (size : Option ℕ) (place : Place) (p : Position) (plan : Plan) (t : Tree) → IsPlan e place p plan → FitsSelections e form place p t → KeepsSizes e size place p t ↔ SizesKept size plan t }
+    ensures costs { (e : Setting) (part : Part) (form : Form) (place : Place) (p : Position) (plan : Plan) (t : Tree) → IsPlan e place p plan → FitsSelections e form place p t → capped (cost part plan t) ≡ capped (response_cost e part place p t) }
+{}
+
+/// A number within the cap is the bound of selections exactly where it is the greatest cost of their plan.
+pub fn bound_of_a_plan()
+    ensures { (e : Setting) (part : Part) (place : Place) (p : Position) (plan : Plan) (n : ℕ) → IsPlan e place p plan → IsSound (holds e.schema) plan → n ≤ CAP → IsBoundOf e part place p n ↔ (greatest_cost part plan ≡ n) }
+{}
+
+/// Where no node has a fault, what is planned is the plan; it is sound where the setting is.
+pub fn faultless_plan()
+    ensures is_plan { (e : Setting) (levels : ℕ) (place : Place) (p : Position) → first_of fault_at (visits e levels (types_of place) p) ≡ None → IsPlan e place p (planned e levels place p) }
+    ensures sound { (e : Setting) (levels : ℕ) (place : Place) (p : Position) → IsSoundSetting e → IsSoundPlace e place → lacks_types place ≡ false → first_of fault_at (visits e levels (types_of place) p) ≡ None → IsSound (holds e.schema) (planned e levels place p) }
+{}
+
+/// Where no node has a fault, what is planned has as many nodes as are visited.
+pub fn nodes_are_counted()
+    ensures { (e : Setting) (levels : ℕ) (place : Place) (p : Position) → first_of fault_at (visits e levels (types_of place) p) ≡ None → node_count (planned e levels place p) ≡ length (visits e levels (types_of place) p) }
+{}
+
+/// In a schema that a text says each leaf that a field returns is an enum with a name, or a scalar that isn't `Float`. So
+/// leaves can be filled.
+pub fn built_schemas_can_be_filled()
+    ensures { (text : List DefinitionTree) (schema : Schema) → Builds text (Ok schema) → CanBeFilled (schema_data schema) }
+{}
+
+/// A setting is sound where its weights are those of its schema, and leaves can be filled.
+pub fn sound_settings()
+    ensures { (e : Setting) (undeclared : ℕ) → IsOfSchema undeclared e → IsSoundSetting e }
+{}
+
+/// Where an answer names no fault, no node has one, and there are no more than the limit.
+pub fn planned_well_is_faultless()
+    ensures faultless { (limit : ℕ) (vs : List Visit) → answer_of limit vs ≡ planned_well → first_of fault_at vs ≡ None }
+    ensures within { (limit : ℕ) (vs : List Visit) → answer_of limit vs ≡ planned_well → length vs ≤ limit }
+{}
+
+/// An operation that is planned well has the plan that is planned, which is sound, and a number within the cap is its bound
+/// exactly where it is the greatest cost of this plan.
+pub fn operations_planned_well()
+    ensures plan { (e : Setting) (root : ℕ) (o : Operation) → operation_answer e root o ≡ planned_well → IsOperationPlan e root o (planned_operation e root o) }
+    ensures sound { (e : Setting) (root : ℕ) (o : Operation) → operation_answer e root o ≡ planned_well → (undeclared : ℕ) → IsOfSchema undeclared e → IsSound (holds e.schema) (planned_operation e root o) }
+    ensures bound { (e : Setting) (root : ℕ) (o : Operation) → operation_answer e root o ≡ planned_well → (undeclared : ℕ) → IsOfSchema undeclared e → (part : Part) (n : ℕ) → n ≤ CAP → IsOperationBound e part root o n ↔ (greatest_cost part (planned_operation e root o) ≡ n) }
+{}
+
+/// A position where repeats are left out has the same keys, and at each key the same node, and below it again a position where
+/// repeats are left out. So it has the same visits and the same plan.
+pub fn repeats_change_nothing()
+    ensures keys { (e : Setting) (T : ℕ) (p q : Position) → IsShortened p q → keys_at e T p ≡ keys_at e T q }
+    ensures call { (e : Setting) (T : ℕ) (p q : Position) → IsShortened p q → (key : List ℕ) → call_under e T key p ≡ call_under e T key q }
+    ensures selected { (e : Setting) (T : ℕ) (p q : Position) → IsShortened p q → (key : List ℕ) → selected_under e T key p ≡ selected_under e T key q }
+    ensures below { (e : Setting) (T : ℕ) (p q : Position) → IsShortened p q → (key : List ℕ) → IsShortened (below_key e T key p) (below_key e T key q) }
+    ensures visited { (e : Setting) (levels : ℕ) (Ts : List ℕ) (p q : Position) → IsShortened p q → visits e levels Ts p ≡ visits e levels Ts q }
+    ensures planned { (e : Setting) (levels : ℕ) (place : Place) (p q : Position) → IsShortened p q → planned e levels place p ≡ planned e levels place q }
+{}
+
+/// A walk that enters each fragment once collects the fields of a position, where repeats are left out. What stands below
+/// the fields of a key is again acyclic, whichever repeats are left out.
+pub fn walk_leaves_out_repeats()
+    ensures fields { (e : Setting) (p : Position) → IsAcyclic e p → (T : ℕ) → LeavesOutRepeats (fields_at e T p) (walked e T p.selections) }
+    ensures below { (e : Setting) (p : Position) → IsAcyclic e p → (T : ℕ) (fields : List CollectedField) → LeavesOutRepeats (fields_at e T p) fields → (key : List ℕ) → IsAcyclic e (position_below e T (fields_of_key key fields)) }
+{}
+
+/// An operation that breaks no rule is acyclic.
+pub fn checked_operations_are_acyclic()
+    ensures { (s : SchemaData) (w : WeightsData) (values : Environment) (ds : List Definition) (o : Operation) (root : ℕ) → first_broken s ds o ≡ None → IsAcyclic (setting_of s w values ds o) (root_position root o) }
+{}
