@@ -1,0 +1,43 @@
+-- What an operation is planned by, and what is collected, as definitions see them.
+use Rattle.std.specs.Prelude.{ℕ, List, map, option_map, Option}
+use Rattle.std.specs.Borrow.{Bor}
+use Rattle.gql_base.specs.parts.Trees.{named_value}
+use Rattle.document_reader.specs.declared.trees.Fragment.{Fragment}
+use Rattle.document_reader.specs.declared.trees.Field.{Field}
+use Rattle.document_reader.specs.Trees.{names_of, set_tree}
+use Rattle.schema_model.specs.Numbers.{type_number}
+use Rattle.schema_model.specs.SchemaViews.{schema_data}
+use Rattle.cost_directives.specs.WeightViews.{weights_data}
+use Rattle.variable_coercion.specs.Calls.{environment}
+use Rattle.document_rules.specs.Parts.{FragmentData, fragment_data}
+use Rattle.document_rules.specs.Sites.{name_of_field}
+use Rattle.plan_model.specs.SelectedFields.{Setting}
+use Rattle.plan_model.specs.Collecting.{CollectedField}
+use Rattle.collected_fields.specs.declared.planning.Planning.{Planning}
+use Rattle.collected_fields.specs.declared.collected.Collected.{Collected}
+use Rattle.collected_fields.specs.declared.collected.Group.{Group}
+
+abbrev pub fragment_seen : Bor Fragment → FragmentData
+fragment_seen f = fragment_data f.now
+
+-- the setting of plans
+abbrev pub setting_of_planning : Planning → Setting
+setting_of_planning p = record { schema = schema_data p.schema.now; weights = weights_data p.weights.now; values = environment p.variables.now; fragments = map fragment_seen p.fragments.now }
+
+-- a field that is written on a type
+abbrev pub written_field : Option ℕ → Field → CollectedField
+written_field parent f = record {
+  parent = parent;
+  key = (names_of f.alias f.name).0.0;
+  call = record { name = (name_of_field (names_of f.alias f.name)).0; arguments = map named_value f.arguments.items };
+  below = set_tree f.selections.items;
+}
+
+abbrev pub collected_field : Collected → CollectedField
+collected_field c = written_field (option_map type_number c.parent) c.field.now
+
+abbrev pub group_view : Group → List CollectedField
+group_view g = map collected_field g.fields.items
+
+abbrev pub groups_view : List Group → List (List CollectedField)
+groups_view groups = map group_view groups

@@ -1,0 +1,18 @@
+//! The fields that are collected.
+
+use document_reader::Field;
+use input_values::TypeId;
+
+/// A field that is collected: the type on which it is written, and the number of its selections.
+#[derive(Clone, Copy)]
+pub struct Collected<'a> {
+    pub parent: Option<TypeId>,
+    pub field: &'a Field,
+    pub below: usize,
+}
+
+/// The fields of one response key. There is at least one.
+#[derive(Drop)]
+pub struct Group<'a> {
+    pub fields: Vec<Collected<'a>>,
+}

@@ -1,0 +1,21 @@
+//! The fields that selections have for objects of a type, grouped by their response keys.
+#![tactic(auto)]
+
+mod collected;
+mod collector;
+mod group;
+mod included;
+mod lookups;
+mod planning;
+mod prepare;
+mod source;
+mod state;
+mod steps;
+mod tables;
+#[cfg(test)]
+mod tests;
+mod walk;
+
+pub use collected::{Collected, Group};
+pub use collector::Collector;
+pub use planning::Planning;

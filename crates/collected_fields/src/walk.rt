@@ -1,0 +1,244 @@
+//! The walk over selection sets, where each fragment is entered once.
+
+ghost use Rattle.std.specs.Prelude.{◌≡◌, ◌<◌, ◌≤◌, ◌+◌, ◌-◌, ◌∷◌, ℕ, List, false, true, map, replicate, slice_get, slice_set, nat_eq, IfOk, OnOk, get_or, option_map};
+ghost use Rattle.std.specs.List.{list_any};
+ghost use Rattle.schema_model.specs.Numbers.{type_number};
+ghost use Rattle.schema_model.specs.SchemaViews.{schema_data};
+ghost use Rattle.plan_model.specs.Collecting.{applies_where};
+ghost use Rattle.collected_fields.specs.Steps.{StepData, step_data};
+ghost use Rattle.collected_fields.specs.Prepared.{list_data, entry_data};
+ghost use Rattle.collected_fields.specs.Walks.{walk_data, numbered, is_marked, marked, kept, IsBlank, steps_from, list_steps, enter_in, entry_in, lists_in};
+
+use crate::collected::Collected;
+use crate::state::Walk;
+use crate::steps::Step;
+use crate::tables::{Entry, Tables};
+use input_values::TypeId;
+use schema_model::Schema;
+use std::alloc::{AllocError, Global};
+
+/// So many places without a mark.
+fn blanks(alloc: Global, count: usize) -> Result<Vec<bool>, AllocError>
+    ensures { IfOk result (λ marks. marks.items ≡ replicate count false) }
+{
+    let mut marks = Vec::new(alloc);
+    for _at in 0..count {
+        marks.push(false)?;
+    }
+    Ok(marks)
+}
+
+/// Sets a mark, if there is such a place.
+fn set_mark(marks: &mut Vec<bool>, number: usize, mark: bool)
+    ensures { marks.new.items ≡ slice_set marks.old.items number mark }
+{
+    if number < marks.len() {
+        marks[number] = mark;
+    }
+}
+
+/// Takes the marks away from all that was entered.
+fn unmark(marks: &mut Vec<bool>, entered: &mut Vec<usize>)
+    requires { (number : ℕ) → get_or marks.old.items number false ≡ true → list_any (nat_eq number) entered.old.items ≡ true }
+    ensures marks { (number : ℕ) → get_or marks.new.items number false ≡ false }
+{
+    while let Some(number) = entered.pop() {
+        set_mark(marks, number, false);
+    }
+}
+
+impl<'a> Walk<'a> {
+    /// A walk that hasn't begun, beside so many fragments.
+    pub fn new(alloc: Global, count: usize) -> Result<Walk<'a>, AllocError> {
+        Ok(Walk {
+            marks: blanks(alloc, count)?,
+            entered: Vec::new(alloc),
+            fields: Vec::new(alloc),
+        })
+    }
+
+    /// Begins anew.
+    pub fn clear(&mut self)
+        ensures { IsBlank (walk_data self.new) }
+    {
+        unmark(&mut self.marks, &mut self.entered);
+        self.fields.clear();
+    }
+
+    fn is_marked(&self, number: usize) -> bool
+        ensures { result ≡ is_marked number (walk_data self.now) }
+    {
+        match self.marks.get(number) {
+            Some(mark) => *mark,
+            None => false,
+        }
+    }
+
+    fn mark(&mut self, number: usize) -> Result<(), AllocError>
+        ensures { OnOk result (walk_data self.new ≡ marked number (walk_data self.old)) }
+    {
+        self.entered.push(number)?;
+        set_mark(&mut self.marks, number, true);
+        Ok(())
+    }
+
+    fn keep(&mut self, field: Collected<'a>) -> Result<(), AllocError>
+        ensures { OnOk result (walk_data self.new ≡ kept (numbered field.entry) (walk_data self.old)) }
+    {
+        self.fields.push(field)?;
+        Ok(())
+    }
+}
+
+/// The fragment of a number.
+fn entry_at(tables: &Tables<'_>, number: usize) -> Option<Entry>
+    ensures { option_map entry_data result ≡ slice_get (map entry_data tables.now.entries.items) number }
+{
+    tables.entries.get(number).copied()
+}
+
+/// Whether a type applies to an object type; none applies to none.
+fn applies_where(schema: &Schema, on: Option<TypeId>, of: TypeId) -> bool
+    ensures { result ≡ applies_where (schema_data schema.now) of.number (option_map type_number on) }
+{
+    match on {
+        Some(on) => schema.applies(on, of),
+        None => false,
+    }
+}
+
+/// The place behind a step and as many more as are passed over, where there are so many.
+fn place_behind(at: usize, skip: usize, end: usize) -> usize
+    requires { at < end }
+    ensures some { skip < end - at → result ≡ at + 1 + skip }
+    ensures all { end ≤ at + skip → result ≡ end }
+    ensures within { result ≤ end }
+    ensures further { at < result }
+{
+    if skip < end - at { at + 1 + skip } else { end }
+}
+
+/// Takes one step, and tells how many of the next ones are passed over.
+#[cycle(walk)]
+fn walk_step<'a>(
+    tables: &Tables<'a>,
+    of: TypeId,
+    depth: usize,
+    step: &Step<'a>,
+    walk: &mut Walk<'a>,
+) -> Result<usize, AllocError>
+    ensures { IfOk result (λ skip. (others : List StepData) → steps_from tables.now of.number depth skip others (walk_data walk.new) ≡ steps_from tables.now of.number depth 0 (step_data step.now ∷ others) (walk_data walk.old)) }
+{
+    match step {
+        Step::Field(field) => {
+            walk.keep(*field)?;
+            Ok(0)
+        }
+        Step::Spread(number) => {
+            walk_fragment(tables, of, depth, *number, walk)?;
+            Ok(0)
+        }
+        Step::Inline { on, count } => {
+            if tables.planning.schema.applies(*on, of) {
+                Ok(0)
+            } else {
+                Ok(*count)
+            }
+        }
+    }
+}
+
+#[cycle(walk)]
+fn walk_steps<'a>(
+    tables: &Tables<'a>,
+    of: TypeId,
+    depth: usize,
+    steps: &[Step<'a>],
+    walk: &mut Walk<'a>,
+) -> Result<(), AllocError>
+    ensures { OnOk result (walk_data walk.new ≡ steps_from tables.now of.number depth 0 (map step_data steps.now) (walk_data walk.old)) }
+{
+    let mut at = 0;
+    while at < steps.len() {
+        let skip = walk_step(tables, of, depth, &steps[at], walk)?;
+        at = place_behind(at, skip, steps.len());
+    }
+    Ok(())
+}
+
+/// The selection set of a number.
+#[cycle(walk)]
+fn walk_list<'a>(
+    tables: &Tables<'a>,
+    of: TypeId,
+    depth: usize,
+    list: usize,
+    walk: &mut Walk<'a>,
+) -> Result<(), AllocError>
+    ensures { OnOk result (walk_data walk.new ≡ steps_from tables.now of.number depth 0 (list_steps tables.now of.number depth list) (walk_data walk.old)) }
+{
+    match tables.lists.get(list) {
+        Some(list) => walk_steps(tables, of, depth, list.steps.as_slice(), walk),
+        None => Ok(()),
+    }
+}
+
+/// The fragment of a number, where it wasn't entered.
+#[cycle(walk)]
+fn walk_fragment<'a>(
+    tables: &Tables<'a>,
+    of: TypeId,
+    depth: usize,
+    number: usize,
+    walk: &mut Walk<'a>,
+) -> Result<(), AllocError>
+    ensures { OnOk result (walk_data walk.new ≡ enter_in tables.now of.number depth number (walk_data walk.old)) }
+{
+    if depth == 0 {
+        return Ok(());
+    }
+    if walk.is_marked(number) {
+        return Ok(());
+    }
+    walk.mark(number)?;
+    walk_entry(tables, of, depth - 1, number, walk)
+}
+
+/// The selections of the fragment of a number, where its type applies.
+#[cycle(walk)]
+fn walk_entry<'a>(
+    tables: &Tables<'a>,
+    of: TypeId,
+    depth: usize,
+    number: usize,
+    walk: &mut Walk<'a>,
+) -> Result<(), AllocError>
+    ensures { OnOk result (walk_data walk.new ≡ entry_in tables.now of.number depth number (walk_data walk.old)) }
+{
+    match entry_at(tables, number) {
+        Some(entry) => {
+            if applies_where(tables.planning.schema, entry.on, of) {
+                walk_list(tables, of, depth, entry.list, walk)
+            } else {
+                Ok(())
+            }
+        }
+        None => Ok(()),
+    }
+}
+
+/// The selection sets of some numbers, where fragments are entered to a depth.
+pub fn walk_lists<'a>(
+    tables: &Tables<'a>,
+    of: TypeId,
+    depth: usize,
+    lists: &[usize],
+    walk: &mut Walk<'a>,
+) -> Result<(), AllocError>
+    ensures { OnOk result (walk_data walk.new ≡ lists_in tables.now of.number depth lists.now (walk_data walk.old)) }
+{
+    for list in lists {
+        walk_list(tables, of, depth, *list, walk)?;
+    }
+    Ok(())
+}
