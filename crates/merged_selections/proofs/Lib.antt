@@ -1,0 +1,10 @@
+pub mod AlikeArguments
+pub mod BuiltNodes
+pub mod BuiltParts
+pub mod BuiltPlans
+pub mod BuiltSteps
+pub mod NodeFaults
+pub mod Opened
+pub mod SideBySide
+pub mod VisitedParts
+pub mod WrittenAlike

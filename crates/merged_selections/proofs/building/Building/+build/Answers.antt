@@ -1,0 +1,78 @@
+use Rattle.std.proofs.Common.{refl, sym, ap, subst, ◌∙◌, List, map, ◌∷◌, ◌+◌, Ok, Err}
+use Rattle.std.proofs.lemmas.List.{drop_more}
+use Rattle.merged_selections.specs.NodeParts.{handed_data, types_at}
+use Rattle.merged_selections.proofs.BuiltSteps.{types_stop, types_go, types_end, groups_stop, groups_go, groups_end, type_built}
+use Rattle.plan_model.specs.Visits.{fault_of}
+use Rattle.collected_fields.specs.declared.planning.Planning.{Planning}
+use Rattle.collected_fields.specs.declared.collected.Group.{Group}
+use Rattle.collected_fields.specs.Views.{setting_of_planning, collected_field}
+use Rattle.merged_selections.specs.NodeTests.{fault_told, IsThere, IsFound}
+use Rattle.merged_selections.specs.Outcomes.{outcome, IsStop}
+use Rattle.merged_selections.specs.Stages.{levels_from, setting_built, BuildsGroups}
+use Rattle.merged_selections.proofs.BuiltNodes.{frames, can_after, below_visits, below_built, below_stops, below_fine, rows_there, past_limit, too_deep_stops, fault_stops, levels_more, no_levels}
+use Rattle.merged_selections.proofs.building.Building.+build.Goals as goal
+
+pub build_types-returns-in-Err-clause-built : goal.build_types-returns-in-Err-clause-built
+build_types-returns-in-Err-clause-built t c =
+    types_stop c.args.self.now c.types.self c.build_type.new.self c.args.depth c.args.types.now c.args.lists.now (handed_data c.args.handed) c.types.of-index c.types.invariant.0 c.types.invariant.1 c.types.invariant.2 _ (drop_more c.args.types.now c.types.of-index _ c.types-test.true) c.in-Err.stop c.in-Err.ensures.built
+
+pub build_types-types-preserved : goal.build_types-types-preserved
+build_types-types-preserved t c = (
+  c.in-Ok.ensures.frame ∙ c.types.invariant.0,
+  λ can. c.in-Ok.ensures.ready (c.types.invariant.1 can),
+  types_go c.args.self.now c.types.self c.build_type.new.self c.args.depth c.args.types.now c.args.lists.now (handed_data c.args.handed) c.types.of-index c.types.invariant.0 c.types.invariant.1 c.types.invariant.2 _ (drop_more c.args.types.now c.types.of-index _ c.types-test.true) c.in-Ok.field-0 c.in-Ok.ensures.built,
+)
+
+pub build_types-returns-clause-built : goal.build_types-returns-clause-built
+build_types-returns-clause-built t c =
+    types_end c.args.self.now c.types.self c.types.self c.args.depth c.args.types.now c.args.lists.now (handed_data c.args.handed) c.types.of-index c.types.invariant.0 c.types.invariant.1 c.types.invariant.2 c.types-test.false tt
+
+pub build_groups-returns-in-Err-clause-built : goal.build_groups-returns-in-Err-clause-built
+build_groups-returns-in-Err-clause-built t c =
+    groups_stop c.args.self.now c.groups.self c.build_group.new.self c.args.depth c.args.of.number c.args.groups.now (handed_data c.args.handed) c.groups.group-index c.groups.first c.groups.invariant.0 c.groups.invariant.1 c.groups.invariant.2 c.group-item.result c.groups-test.true c.group-item.is c.in-Err.stop c.in-Err.ensures.built
+
+pub build_groups-groups-preserved : goal.build_groups-groups-preserved
+build_groups-groups-preserved t c = (
+  c.in-Ok.ensures.frame ∙ c.groups.invariant.0,
+  λ can. c.in-Ok.ensures.ready (c.groups.invariant.1 can),
+  groups_go c.args.self.now c.groups.self c.build_group.new.self c.args.depth c.args.of.number c.args.groups.now (handed_data c.args.handed) c.groups.group-index c.groups.first c.groups.invariant.0 c.groups.invariant.1 c.groups.invariant.2 c.group-item.result c.groups-test.true c.group-item.is c.in-Ok.field-0 c.in-Ok.ensures.built,
+)
+
+pub build_groups-returns-clause-built : goal.build_groups-returns-clause-built
+build_groups-returns-clause-built t c =
+    groups_end c.args.self.now c.groups.self c.groups.self c.args.depth c.args.of.number c.args.groups.now (handed_data c.args.handed) c.groups.group-index c.groups.first c.groups.invariant.0 c.groups.invariant.1 c.groups.invariant.2 c.groups-test.false tt
+
+pub build_type-returns-clause-built : goal.build_type-returns-clause-built
+build_type-returns-clause-built t c =
+    type_built c.args.self.now (record { collector = c.collect.new.self; plan = c.args.self.now.plan; left = c.args.self.now.left }) c.build_groups.new.self (frames c.args.self.now c.collect.new.self c.collect.ensures.planning c.collect.ensures.written) refl refl c.args.depth c.args.of.number c.args.lists.now (handed_data c.args.handed) c.in_ok-groups.groups.items c.build_groups.result
+    (can_after c.args.self.now c.collect.new.self c.collect.ensures.planning c.collect.ensures.ready) (λ can. c.in_ok-groups.ensures.found can.collector) c.in_ok-groups.ensures.filled (λ can. c.in_ok-groups.ensures.below can.collector)
+    (subst (λ (gs : List Group). BuildsGroups (record { collector = c.collect.new.self; plan = c.args.self.now.plan; left = c.args.self.now.left }) c.args.depth c.build_groups.result c.build_groups.new.self c.args.of.number gs (handed_data c.args.handed)) c.as_slice.ensures.value c.build_groups.ensures.built)
+
+pub build_node-returns-then-self-eq0-clause-built : goal.build_node-returns-then-self-eq0-clause-built
+build_node-returns-then-self-eq0-clause-built t c = λ can. past_limit (setting_built c.args.self.now) c.args.of.number (handed_data c.args.handed) (map collected_field (c.args.field.now ∷ c.args.others.now)) (levels_from c.args.depth) c.args.self.now.left c.if-self-eq0.true
+
+pub build_node-returns-then-depth-gt-LEVEL_LIMIT-clause-built : goal.build_node-returns-then-depth-gt-LEVEL_LIMIT-clause-built
+build_node-returns-then-depth-gt-LEVEL_LIMIT-clause-built t c = λ can. too_deep_stops (setting_built c.args.self.now) c.args.of.number (handed_data c.args.handed) (map collected_field (c.args.field.now ∷ c.args.others.now)) c.args.self.now.left c.if-self-eq0.false c.key_of-key.result.now c.key_of-key.ensures (levels_from c.args.depth) (no_levels c.args.depth c.if-depth-gt-LEVEL_LIMIT.true) c.stopped.result c.stopped.ensures
+
+pub build_node-returns-in-Err-clause-built : goal.build_node-returns-in-Err-clause-built
+build_node-returns-in-Err-clause-built t c = λ can. fault_stops (setting_built c.args.self.now) c.args.of.number (handed_data c.args.handed) (map collected_field (c.args.field.now ∷ c.args.others.now)) c.args.self.now.left c.if-self-eq0.false c.key_of-key.result.now c.key_of-key.ensures (levels_from c.args.depth) (levels_from (c.args.depth + 1)) (levels_more c.args.depth c.if-depth-gt-LEVEL_LIMIT.false) _ (fault_told c.in-Err.why)
+    (subst (λ (pl : Planning). IsThere (fault_told c.in-Err.why) (fault_of (setting_of_planning pl) c.args.of.number (handed_data c.args.handed) (map collected_field (c.args.field.now ∷ c.args.others.now)))) c.planning-planning.ensures c.in-Err.ensures)
+    c.stopped-in-Err.ensures
+
+pub build_node-returns-in-Ok-build_types-clause-built : goal.build_node-returns-in-Ok-build_types-clause-built
+build_node-returns-in-Ok-build_types-clause-built t c = λ can.
+    let here = below_built c.args.self.now c.push_row.new.self c.build_types.new.self c.args.depth c.args.of.number c.args.first c.args.field.now c.args.others.now (handed_data c.args.handed) c.in-Ok.looked c.types_at-types.result.now c.as_slice.result.now c.in_ok-push_row-in-Ok.ensures.frame (subst (λ (pl : Planning). IsFound (setting_of_planning pl) c.args.of.number (handed_data c.args.handed) (collected_field c.args.field.now).call c.in-Ok.looked) c.planning-planning.ensures c.in-Ok.ensures.1)
+    (c.types_at-types.ensures ∙ ap (λ (pl : Planning). types_at (setting_of_planning pl).schema c.in-Ok.looked.field) c.planning-planning.ensures) (c.as_slice.ensures.value ∙ c.in_ok-lists-in-Ok.ensures) can.1 (Ok c.in-Ok-build_types.field-0) (c.in_ok-push_row-in-Ok.ensures.ready (record { collector = can.0.collector; plan = can.0.plan })) c.in-Ok-build_types.ensures.built in (
+      below_fine (setting_built c.args.self.now) c.args.of.number (handed_data c.args.handed) (map collected_field (c.args.field.now ∷ c.args.others.now)) c.args.self.now.left c.if-self-eq0.false c.key_of-key.result.now c.key_of-key.ensures (levels_from c.args.depth) (levels_from (c.args.depth + 1)) c.build_types.new.self.left (levels_more c.args.depth c.if-depth-gt-LEVEL_LIMIT.false) (ap (λ (pl : Planning). fault_of (setting_of_planning pl) c.args.of.number (handed_data c.args.handed) (map collected_field (c.args.field.now ∷ c.args.others.now))) (sym c.planning-planning.ensures) ∙ c.in-Ok.ensures.0)
+          (ap (λ n. outcome n (below_visits (setting_built c.args.self.now) c.args.of.number (handed_data c.args.handed) (map collected_field (c.args.field.now ∷ c.args.others.now)) (levels_from (c.args.depth + 1)))) (sym c.in_ok-push_row-in-Ok.ensures.left) ∙ here.0),
+      rows_there c.args.self.now c.push_row.new.self c.build_types.new.self c.args.depth c.args.of.number c.args.first c.args.field.now c.args.others.now (handed_data c.args.handed) c.in-Ok.looked c.types_at-types.result.now c.as_slice.result.now c.in_ok-push_row-in-Ok.ensures.frame (subst (λ (pl : Planning). IsFound (setting_of_planning pl) c.args.of.number (handed_data c.args.handed) (collected_field c.args.field.now).call c.in-Ok.looked) c.planning-planning.ensures c.in-Ok.ensures.1)
+          (c.types_at-types.ensures ∙ ap (λ (pl : Planning). types_at (setting_of_planning pl).schema c.in-Ok.looked.field) c.planning-planning.ensures) (c.as_slice.ensures.value ∙ c.in_ok-lists-in-Ok.ensures) can.1 c.if-depth-gt-LEVEL_LIMIT.false can.0.plan c.in_ok-push_row-in-Ok.ensures.pushed here.1,
+    )
+
+pub build_node-returns-clause-built : goal.build_node-returns-clause-built
+build_node-returns-clause-built t c = λ can.
+    below_stops (setting_built c.args.self.now) c.args.of.number (handed_data c.args.handed) (map collected_field (c.args.field.now ∷ c.args.others.now)) c.args.self.now.left c.if-self-eq0.false c.key_of-key.result.now c.key_of-key.ensures (levels_from c.args.depth) (levels_from (c.args.depth + 1)) (levels_more c.args.depth c.if-depth-gt-LEVEL_LIMIT.false) (ap (λ (pl : Planning). fault_of (setting_of_planning pl) c.args.of.number (handed_data c.args.handed) (map collected_field (c.args.field.now ∷ c.args.others.now))) (sym c.planning-planning.ensures) ∙ c.in-Ok.ensures.0) c.in-Err-build_types.stop c.under.result
+    (subst (λ n. IsStop c.in-Err-build_types.stop (outcome n (below_visits (setting_built c.args.self.now) c.args.of.number (handed_data c.args.handed) (map collected_field (c.args.field.now ∷ c.args.others.now)) (levels_from (c.args.depth + 1))))) c.in_ok-push_row-in-Ok.ensures.left
+    (below_built c.args.self.now c.push_row.new.self c.build_types.new.self c.args.depth c.args.of.number c.args.first c.args.field.now c.args.others.now (handed_data c.args.handed) c.in-Ok.looked c.types_at-types.result.now c.as_slice.result.now c.in_ok-push_row-in-Ok.ensures.frame (subst (λ (pl : Planning). IsFound (setting_of_planning pl) c.args.of.number (handed_data c.args.handed) (collected_field c.args.field.now).call c.in-Ok.looked) c.planning-planning.ensures c.in-Ok.ensures.1)
+    (c.types_at-types.ensures ∙ ap (λ (pl : Planning). types_at (setting_of_planning pl).schema c.in-Ok.looked.field) c.planning-planning.ensures) (c.as_slice.ensures.value ∙ c.in_ok-lists-in-Ok.ensures) can.1 (Err c.in-Err-build_types.stop) (c.in_ok-push_row-in-Ok.ensures.ready (record { collector = can.0.collector; plan = can.0.plan })) c.in-Err-build_types.ensures.built))
+    c.under.ensures

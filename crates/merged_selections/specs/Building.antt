@@ -1,0 +1,30 @@
+-- What is planned of an operation that was checked.
+use Rattle.schema_model.specs.declared.schema.Schema.{Schema}
+use Rattle.schema_model.specs.SchemaViews.{schema_data}
+use Rattle.cost_directives.specs.declared.weights.Weights.{Weights}
+use Rattle.cost_directives.specs.WeightViews.{weights_data}
+use Rattle.variable_coercion.specs.declared.variables.Variables.{Variables}
+use Rattle.variable_coercion.specs.Calls.{environment}
+use Rattle.document_rules.specs.declared.checking.Checked.{Checked}
+use Rattle.response_model.specs.Plan.{Plan as PlanTree}
+use Rattle.plan_model.specs.SelectedFields.{Setting}
+use Rattle.plan_model.specs.Visits.{PlanAnswer}
+use Rattle.plan_model.specs.Operations.{setting_of, operation_answer, planned_operation}
+use Rattle.plan_table.specs.declared.table.Plan.{Plan}
+use Rattle.plan_table.specs.Tables.{HasRows}
+
+module _ (schema : Schema) (weights : Weights) (checked : Checked) (variables : Variables) where
+  -- what the operation is planned by
+  abbrev pub setting_for : Setting
+  setting_for = setting_of (schema_data schema) (weights_data weights) (environment variables) checked.document.now.definitions.items checked.operation.now
+
+  -- whether it is planned, or the first fault
+  abbrev pub answer_for : PlanAnswer
+  answer_for = operation_answer setting_for checked.root.number checked.operation.now
+
+  abbrev pub planned_for : PlanTree
+  planned_for = planned_operation setting_for checked.root.number checked.operation.now
+
+  -- The table holds what is planned.
+  abbrev pub IsPlanned : Plan → Type 0
+  IsPlanned plan = HasRows plan planned_for

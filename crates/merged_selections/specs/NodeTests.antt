@@ -1,0 +1,166 @@
+-- The tests of a node, one after another, and what is found of it where it passes them.
+use Rattle.std.specs.Prelude.{◌≡◌, ℕ, Bool, not, List, ◌∷◌, map, option_map, Option, None, Some, Result, Ok, Err, if◌then◌else◌}
+use Rattle.std.specs.List.{list_any}
+use Rattle.std.specs.Str.{bytes_eq}
+use Rattle.cost_num.specs.Capped.{capped}
+use Rattle.schema_rules.specs.First.{or_else, told, first_of}
+use Rattle.schema_model.specs.Arguments.{ArgData}
+use Rattle.cost_directives.specs.Weights.{argument_cost_in}
+use Rattle.cost_directives.specs.declared.sizes.Size.{Size}
+use Rattle.cost_directives.specs.declared.sizes.Size.TheVariants.{Any, At}
+use Rattle.cost_directives.specs.declared.sizes.SizeFault.{SizeFault}
+use Rattle.variable_coercion.specs.declared.faults.ArgFault.{ArgFault}
+use Rattle.variable_coercion.specs.Refusals.{Refusal}
+use Rattle.variable_coercion.specs.Calls.{argument_told}
+use Rattle.schema_model.specs.declared.entries.FieldId.{FieldId}
+use Rattle.document_rules.specs.Sites.{known_field}
+use Rattle.plan_model.specs.SelectedFields.{Setting, FieldCall, HandedSize, form_of, handed_in, coerced_arguments, refusal_of, if_coerced, size_answer, size_in, length_in, fault_in, sized_by, meaning_at, size_at, hands_at, cost_at}
+use Rattle.plan_model.specs.Collecting.{CollectedField}
+use Rattle.plan_model.specs.SameArguments.{same_arguments}
+use Rattle.plan_model.specs.Merging.{first_call}
+use Rattle.plan_model.specs.Visits.{NodeFault, too_deep, conflict, refused_argument, refused_size, no_possible_type, fault_of}
+use Rattle.collected_fields.specs.declared.planning.Planning.{Planning}
+use Rattle.collected_fields.specs.declared.collected.Collected.{Collected}
+use Rattle.collected_fields.specs.Views.{setting_of_planning, collected_field}
+use Rattle.plan_table.specs.Tables.{meaning_of}
+use Rattle.merged_selections.specs.declared.lookups.Handed.{Handed}
+use Rattle.merged_selections.specs.declared.node.Looked.{Looked}
+use Rattle.merged_selections.specs.declared.why.Why.{Why}
+use Rattle.merged_selections.specs.declared.why.Why.TheVariants.{TooDeep, Conflict, Argument, Size as SizeWhy, NoPossibleType}
+use Rattle.merged_selections.specs.NodeParts.{handed_data, lacks_types_below}
+
+-- ---- what a refusal tells; want of memory tells nothing
+
+abbrev pub fault_told : Why → Option NodeFault
+fault_told TooDeep = Some too_deep
+fault_told Conflict = Some conflict
+fault_told (Argument fault) = option_map refused_argument (argument_told fault)
+fault_told (SizeWhy fault) = Some (refused_size fault)
+fault_told NoPossibleType = Some no_possible_type
+
+-- What is told is there.
+abbrev pub IsThere : {A : Type 0} → Option A → Option A → Type 0
+IsThere (Some told) there = there ≡ Some told
+IsThere None there = Unit {0}
+
+-- A node with this fault, or with none: what is found of it, or what is told.
+abbrev pub Looks : {X : Type 0} → (X → Type 0) → Result X Why → Option NodeFault → Type 0
+Looks IsFound (Ok x) fault = (fault ≡ None) × IsFound x
+Looks IsFound (Err why) fault = IsThere (fault_told why) fault
+
+-- Arguments of which this one is refused first, or none.
+abbrev pub Compares : Result Bool ArgFault → Option Refusal → Bool → Type 0
+Compares (Ok differ) refused differs = (refused ≡ None) × (differ ≡ differs)
+Compares (Err fault) refused differs = IsThere (argument_told fault) refused
+
+-- what a field hands down
+abbrev pub handed_by : Setting → ℕ → List ArgData → HandedSize
+handed_by e field args = option_map (λ n. (sized_by e (known_field field), n)) (length_in (size_answer e (known_field field) args None))
+
+-- ---- the fields of a node, where their name means this field
+
+module _ (e : Setting) (field : ℕ) where
+  abbrev pub coerced_of : CollectedField → Result (List ArgData) Refusal
+  coerced_of f = coerced_arguments e.schema field f.call.arguments e.values
+
+  abbrev pub refused_in : CollectedField → Option Refusal
+  refused_in f = refusal_of (coerced_of f)
+
+  abbrev pub first_refused : List CollectedField → Option Refusal
+  first_refused fields = first_of refused_in fields
+
+  abbrev pub differs_from : List ArgData → CollectedField → Bool
+  differs_from args f = not (same_arguments args (if_coerced (coerced_of f)))
+
+  abbrev pub differ_from : List ArgData → List CollectedField → Bool
+  differ_from args fields = list_any (differs_from args) fields
+
+  -- ---- the tests that are left
+
+  module _ (handed : HandedSize) (name : List ℕ) (args : List ArgData) where
+    abbrev pub own_size : Result Size SizeFault
+    own_size = size_answer e (known_field field) args (handed_in (form_of e.schema (known_field field)) handed name)
+
+    abbrev pub fault_after_size : Option NodeFault
+    fault_after_size = told (lacks_types_below e.schema field) no_possible_type
+
+    abbrev pub fault_after_arguments : Option NodeFault
+    fault_after_arguments = or_else (option_map refused_size (fault_in own_size)) fault_after_size
+
+    -- behind the first of the fields, whose arguments these are
+    abbrev pub fault_of_others : List CollectedField → Option NodeFault
+    fault_of_others others = or_else (option_map refused_argument (first_refused others)) (or_else (told (differ_from args others) conflict) fault_after_arguments)
+
+    -- what is found of it
+    pub record IsFoundOf (looked : Looked) : Type 0 where
+      pub meaning : meaning_of looked.field ≡ known_field field
+      pub size : looked.size ≡ size_in (form_of e.schema (known_field field)) own_size
+      pub arguments : looked.arguments ≡ capped (argument_cost_in e.weights field args)
+      pub hands : handed_data looked.hands ≡ handed_by e field args
+
+  -- What is found behind the first of the fields, or the first test that isn't passed.
+  module _ {X : Type 0} (IsIt : List ArgData → X → Type 0) (handed : HandedSize) (name : List ℕ) (others : List CollectedField) (result : Result X Why) where
+    abbrev pub LooksBehind : Result (List ArgData) Refusal → Type 0
+    LooksBehind (Ok args) = Looks (IsIt args) result (fault_of_others handed name args others)
+    LooksBehind (Err refusal) = Looks (λ x. ⊥) result (Some (refused_argument refusal))
+
+-- ---- what the calls on a field say
+
+module _ (p : Planning) (of : FieldId) where
+  abbrev pub setting_seen : Setting
+  setting_seen = setting_of_planning p
+
+  -- whether another field's arguments differ from those of the first
+  abbrev pub ComparesOne : Collected → List ArgData → Collected → Result Bool ArgFault → Type 0
+  ComparesOne first args other result =
+      coerced_of setting_seen of.number (collected_field first) ≡ Ok args → Compares result (refused_in setting_seen of.number (collected_field other)) (differs_from setting_seen of.number args (collected_field other))
+
+  abbrev pub ComparesAll : Collected → List ArgData → List Collected → Result Bool ArgFault → Type 0
+  ComparesAll first args others result =
+      coerced_of setting_seen of.number (collected_field first) ≡ Ok args → Compares result (first_refused setting_seen of.number (map collected_field others)) (differ_from setting_seen of.number args (map collected_field others))
+
+  module _ (handed : Option Handed) (name : List ℕ) (args : List ArgData) where
+    abbrev pub IsFoundHere : Looked → Type 0
+    IsFoundHere looked = IsFoundOf setting_seen of.number (handed_data handed) name args looked
+
+    abbrev pub LooksAfterSize : Size → Result Looked Why → Type 0
+    LooksAfterSize size result = own_size setting_seen of.number (handed_data handed) name args ≡ Ok size → Looks IsFoundHere result (fault_after_size setting_seen of.number (handed_data handed) name args)
+
+    abbrev pub LooksAfterArguments : Result Looked Why → Type 0
+    LooksAfterArguments result = Looks IsFoundHere result (fault_after_arguments setting_seen of.number (handed_data handed) name args)
+
+  abbrev pub name_seen : Collected → List ℕ
+  name_seen first = (collected_field first).call.name
+
+  abbrev pub LooksAfterFirst : Option Handed → Collected → List ArgData → List Collected → Result Looked Why → Type 0
+  LooksAfterFirst handed first args others result =
+      coerced_of setting_seen of.number (collected_field first) ≡ Ok args → Looks (IsFoundHere handed (name_seen first) args) result (fault_of_others setting_seen of.number (handed_data handed) (name_seen first) args (map collected_field others))
+
+  abbrev pub LooksAfterNames : Option Handed → Collected → List Collected → Result Looked Why → Type 0
+  LooksAfterNames handed first others result =
+      LooksBehind setting_seen of.number (IsFoundHere handed (name_seen first)) (handed_data handed) (name_seen first) (map collected_field others) result (coerced_of setting_seen of.number (collected_field first))
+
+-- ---- a node for objects of the type T
+
+abbrev pub names_not : List ℕ → List CollectedField → Bool
+names_not name fields = list_any (λ f. not (bytes_eq f.call.name name)) fields
+
+-- What is found of a node that passes the tests.
+pub record IsFound (e : Setting) (T : ℕ) (handed : HandedSize) (c : FieldCall) (looked : Looked) : Type 0 where
+  pub meaning : meaning_of looked.field ≡ meaning_at e T c
+  pub size : looked.size ≡ size_at e T c handed
+  pub arguments : looked.arguments ≡ capped (cost_at e T c)
+  pub hands : handed_data looked.hands ≡ hands_at e T c
+
+-- the fields of a node, the first and the others
+abbrev pub fields_seen : Collected → List Collected → List CollectedField
+fields_seen first others = collected_field first ∷ map collected_field others
+
+-- What is found of a node, or the first test that it doesn't pass.
+abbrev pub LooksAt : Setting → ℕ → Option Handed → List CollectedField → Result Looked Why → Type 0
+LooksAt e T handed fields result = Looks (IsFound e T (handed_data handed) (first_call fields)) result (fault_of e T (handed_data handed) fields)
+
+-- the size of a list
+abbrev pub size_of : Bool → Size → Option ℕ
+size_of is_list Any = None
+size_of is_list (At size) = if is_list then Some size else None

@@ -1,0 +1,175 @@
+-- What is visited and which rows are made while a plan is built: at a position, for a type, for the fields of one key.
+use Rattle.std.specs.Prelude.{◌≡◌, ◌-◌, ℕ, zero, suc, Bool, true, false, List, [], ◌∷◌, ◌++◌, map, flat_map, All, None, Result, Ok, Err}
+use Rattle.std.specs.List.{list_any}
+use Rattle.response_model.specs.Plan.{Plan as PlanTree, ObjectTypes}
+use Rattle.input_values.specs.declared.inputs.shape.TypeId.{TypeId}
+use Rattle.schema_model.specs.declared.schema.Schema.{Schema}
+use Rattle.cost_directives.specs.declared.weights.Weights.{Weights}
+use Rattle.schema_model.specs.Numbers.{type_number}
+use Rattle.plan_model.specs.SelectedFields.{Setting, HandedSize, Place, types_of, form_of, place_of, weight_of, place_at}
+use Rattle.plan_model.specs.Collecting.{CollectedField, WrittenSelections}
+use Rattle.plan_model.specs.Merging.{Position, keys_at, first_call, selections_below, asks, position_below, selected_by}
+use Rattle.plan_model.specs.MergingWalk.{IsAcyclic}
+use Rattle.plan_model.specs.Plans.{with_capped, type_weight}
+use Rattle.plan_model.specs.Visits.{Visit, fault_of, visits_of, visits_of_type, too_deep_at, deepest_visits, visits, planned_nodes, planned_types, nothing_planned, planned}
+use Rattle.collected_fields.specs.declared.planning.Planning.{Planning}
+use Rattle.collected_fields.specs.declared.collected.Collected.{Collected}
+use Rattle.collected_fields.specs.declared.collected.Group.{Group}
+use Rattle.collected_fields.specs.Views.{collected_field, group_view, groups_view}
+use Rattle.collected_fields.specs.Gathering.{HasField, IsReady, planning_of, setting_at, written_at}
+use Rattle.plan_table.specs.Rows.{Row, below_in, rows_below, rows_of_types, rows_of_nodes}
+use Rattle.plan_table.specs.Tables.{setting_without_values, meaning_of, below_at, setting_in, table_rows}
+use Rattle.merged_selections.specs.declared.node.Looked.{Looked}
+use Rattle.merged_selections.specs.declared.stop.Stop.{Stop}
+use Rattle.merged_selections.specs.declared.building.Building.{Building}
+use Rattle.merged_selections.specs.Outcomes.{has_left, outcome, IsStop}
+
+-- how many levels may stand below nodes of this depth, with these themselves
+abbrev pub levels_from : ℕ → ℕ
+levels_from depth = 51 - depth
+
+abbrev pub key_seen : List CollectedField → List ℕ
+key_seen [] = []
+key_seen (f ∷ fields) = f.key
+
+module _ (e : Setting) where
+  -- ---- a type
+
+  abbrev pub type_visits : ℕ → Position → ℕ → List Visit
+  type_visits zero p T = deepest_visits e p T
+  type_visits (suc levels) p T = visits_of_type e (visits e levels) p T
+
+  abbrev pub planned_below : ℕ → Place → Position → PlanTree
+  planned_below zero place p = nothing_planned place p
+  planned_below (suc levels) place p = planned e levels place p
+
+  abbrev pub type_rows : ℕ → ℕ → Position → ℕ → List Row
+  type_rows levels depth p T = rows_of_nodes depth T (type_weight e T) true (planned_nodes e (planned_below levels) p T (keys_at e T p))
+
+  -- ---- a position
+
+  abbrev pub types_planned : ℕ → Position → List ℕ → ObjectTypes
+  types_planned levels p Ts = planned_types e (planned_below levels) p Ts
+
+  abbrev pub types_rows : ℕ → ℕ → Position → List ℕ → List Row
+  types_rows levels depth p Ts = rows_of_types depth (types_planned levels p Ts)
+
+  -- ---- the fields of one key
+
+  module _ (T : ℕ) (handed : HandedSize) where
+    abbrev pub node_visits : ℕ → List CollectedField → List Visit
+    node_visits zero fields = too_deep_at (key_seen fields) ∷ []
+    node_visits (suc levels) fields = visits_of (key_seen fields) (fault_of e T handed fields) (visits e levels (types_of (place_at e T (first_call fields))) (position_below e T fields))
+
+    abbrev pub planned_for_node : ℕ → List CollectedField → PlanTree
+    planned_for_node levels fields = planned_below levels (place_at e T (first_call fields)) (position_below e T fields)
+
+    abbrev pub node_row : ℕ → ℕ → Bool → List CollectedField → Row
+    node_row levels depth first fields = record {
+      depth = depth;
+      type = T;
+      weight = type_weight e T;
+      first = first;
+      selected = with_capped (selected_by e T (key_seen fields) handed fields);
+      below = below_in (planned_for_node levels fields);
+    }
+
+    abbrev pub node_rows : ℕ → ℕ → Bool → List CollectedField → List Row
+    node_rows levels depth first fields = node_row levels depth first fields ∷ rows_below (suc depth) (planned_for_node levels fields)
+
+    -- ---- several keys, where the first of them is the first of the type or not
+
+    abbrev pub groups_visits : ℕ → List (List CollectedField) → List Visit
+    groups_visits levels groups = flat_map (node_visits levels) groups
+
+    abbrev pub groups_rows : ℕ → ℕ → Bool → List (List CollectedField) → List Row
+    groups_rows levels depth first [] = []
+    groups_rows levels depth first (fields ∷ groups) = node_rows levels depth first fields ++ groups_rows levels depth false groups
+
+-- ---- what stays the same while a plan is built
+
+abbrev pub Frame : Type 0
+Frame = Planning × (ℕ → WrittenSelections) × Setting × ℕ × Schema × Weights
+
+abbrev pub frame : Building → Frame
+frame b = (planning_of b.collector, written_at b.collector, setting_in b.plan, b.plan.root.number, b.plan.schema.now, b.plan.weights.now)
+
+abbrev pub setting_built : Building → Setting
+setting_built b = setting_at b.collector
+
+-- the position of selection sets by their numbers
+abbrev pub position_built : Building → List ℕ → HandedSize → Position
+position_built b lists handed = record { selections = map (written_at b.collector) lists; handed = handed }
+
+-- The collector may be asked, and the plan is of the same schema and weights.
+pub record CanBuild (b : Building) : Type 0 where
+  pub collector : IsReady b.collector
+  pub plan : setting_in b.plan ≡ setting_without_values (setting_built b).schema (setting_built b).weights
+
+abbrev pub CanBuildAt : Building → List ℕ → Type 0
+CanBuildAt b lists = CanBuild b × IsAcyclic (setting_built b) (position_built b lists None)
+
+-- Each field has the number of its own selections, and what stands below them is acyclic.
+pub record CanBuildNode (b : Building) (T : ℕ) (fields : List Collected) : Type 0 where
+  pub numbered : All (λ f. written_at b.collector f.below ≡ selections_below (setting_built b) (collected_field f)) fields
+  pub acyclic : IsAcyclic (setting_built b) (position_below (setting_built b) T (map collected_field fields))
+
+pub record CanBuildGroup (b : Building) (T : ℕ) (g : Group) : Type 0 where
+  pub filled : HasField g
+  pub fields : CanBuildNode b T g.fields.items
+
+-- These are visited, and where none is at fault these rows are added.
+abbrev pub Builds : Result (Unit {0}) Stop → Building → Building → List Visit → List Row → Type 0
+Builds (Ok done) old new vs rows = (outcome old.left vs ≡ has_left new.left) × (table_rows new.plan ≡ table_rows old.plan ++ rows)
+Builds (Err stop) old new vs rows = IsStop stop (outcome old.left vs)
+
+-- the row of a node of which this was found
+abbrev pub row_looked : Setting → ℕ → ℕ → Bool → List CollectedField → Looked → Row
+row_looked e depth T first fields looked = record {
+  depth = depth;
+  type = T;
+  weight = type_weight e T;
+  first = first;
+  selected = record {
+    key = key_seen fields;
+    field = (first_call fields).name;
+    asked = list_any (asks e) fields;
+    form = form_of e.schema (meaning_of looked.field);
+    size = looked.size;
+    weight = weight_of e (meaning_of looked.field);
+    arguments = looked.arguments;
+  };
+  below = below_at e (place_of e T (meaning_of looked.field));
+}
+
+-- ---- what the calls say
+
+module _ (old : Building) (depth : ℕ) (result : Result (Unit {0}) Stop) (new : Building) where
+  abbrev pub BuildsTypes : List TypeId → List ℕ → HandedSize → Type 0
+  BuildsTypes types lists handed =
+      CanBuildAt old lists → Builds result old new (visits (setting_built old) (levels_from depth) (map type_number types) (position_built old lists handed)) (types_rows (setting_built old) (levels_from depth) depth (position_built old lists handed) (map type_number types))
+
+  abbrev pub BuildsType : ℕ → List ℕ → HandedSize → Type 0
+  BuildsType T lists handed =
+      CanBuildAt old lists → Builds result old new (type_visits (setting_built old) (levels_from depth) (position_built old lists handed) T) (type_rows (setting_built old) (levels_from depth) depth (position_built old lists handed) T)
+
+  abbrev pub BuildsGroups : ℕ → List Group → HandedSize → Type 0
+  BuildsGroups T groups handed =
+      CanBuild old × All (CanBuildGroup old T) groups → Builds result old new (groups_visits (setting_built old) T handed (levels_from depth) (groups_view groups)) (groups_rows (setting_built old) T handed (levels_from depth) depth true (groups_view groups))
+
+  abbrev pub BuildsNode : ℕ → Bool → List Collected → HandedSize → Type 0
+  BuildsNode T first fields handed =
+      CanBuild old × CanBuildNode old T fields → Builds result old new (node_visits (setting_built old) T handed (levels_from depth) (map collected_field fields)) (node_rows (setting_built old) T handed (levels_from depth) depth first (map collected_field fields))
+
+  abbrev pub BuildsGroup : ℕ → Bool → Group → HandedSize → Type 0
+  BuildsGroup T first g handed =
+      CanBuild old × CanBuildGroup old T g → Builds result old new (node_visits (setting_built old) T handed (levels_from depth) (group_view g)) (node_rows (setting_built old) T handed (levels_from depth) depth first (group_view g))
+
+abbrev pub number_below : Collected → ℕ
+number_below f = f.below
+
+-- The row of a node is added, of which this was found.
+abbrev pub PushesRow : Building → ℕ → ℕ → Bool → List Collected → Looked → {E : Type 0} → Result (Unit {0}) E → Building → Type 0
+PushesRow old depth T first fields looked (Err none) new = Unit {0}
+PushesRow old depth T first fields looked (Ok done) new =
+    table_rows new.plan ≡ table_rows old.plan ++ (row_looked (setting_in old.plan) depth T first (map collected_field fields) looked ∷ [])

@@ -1,0 +1,223 @@
+//! Building a plan, node by node: a table grows by the rows of what is visited, in depth-first order.
+
+ghost use Rattle.std.specs.Prelude.{◌≡◌, ◌∷◌, ◌≤◌, ◌++◌, [], map, IfOk, OnOk};
+ghost use Rattle.schema_model.specs.SchemaViews.{schema_data};
+ghost use Rattle.schema_model.specs.Numbers.{type_number};
+ghost use Rattle.merged_selections.specs.NodeParts.{handed_data, types_at};
+ghost use Rattle.merged_selections.specs.Stages.{frame, CanBuild, BuildsTypes, BuildsType, BuildsGroups, BuildsGroup, BuildsNode, number_below, PushesRow};
+
+use crate::LEVEL_LIMIT;
+use crate::lookups::{Handed, any_asks, key_of, name_of, types_below};
+use crate::node::{Looked, look};
+use crate::stop::{Stop, stopped, under};
+use crate::why::Why;
+use collected_fields::{Collected, Collector, Group};
+use gql_base::Text;
+use input_values::TypeId;
+use plan_table::{NodeRow, Plan};
+use schema_model::{FieldId, Schema};
+use std::alloc::{AllocError, Global};
+
+/// A plan that is being built.
+#[derive(Drop)]
+pub struct Building<'p, 'a> {
+    pub collector: Collector<'p>,
+    pub plan: Plan<'a>,
+    /// How many nodes may still be planned.
+    pub left: usize,
+}
+
+/// The numbers of the selections of these fields.
+fn lists_below(
+    alloc: Global,
+    first: &Collected<'_>,
+    others: &[Collected<'_>],
+) -> Result<Vec<usize>, AllocError>
+    ensures { IfOk result (λ lists. lists.items ≡ map number_below (first.now ∷ others.now)) }
+{
+    let mut lists = Vec::new(alloc);
+    lists.push(first.below)?;
+    for other in others {
+        lists.push(other.below)?;
+    }
+    Ok(lists)
+}
+
+/// The types of the objects that may stand at a field; none at `__typename`.
+fn types_at<'p>(schema: &'p Schema, field: Option<FieldId>) -> &'p [TypeId]
+    ensures { map type_number result.now ≡ types_at (schema_data schema.now) field }
+{
+    match field {
+        Some(field) => types_below(schema, field),
+        None => &[],
+    }
+}
+
+impl<'p, 'a> Building<'p, 'a> {
+    /// The plan as far as it is built.
+    pub fn into_plan(self) -> Plan<'a>
+        ensures { result ≡ self.entry.plan }
+    {
+        let Building { plan, .. } = self;
+        plan
+    }
+
+    /// Adds the row of a node.
+    fn push_row(
+        &mut self,
+        alloc: Global,
+        depth: u32,
+        on: TypeId,
+        first: bool,
+        field: &Collected<'p>,
+        others: &[Collected<'p>],
+        looked: &Looked<'p>,
+    ) -> Result<(), AllocError>
+        requires { depth ≤ LEVEL_LIMIT }
+        ensures frame { frame self.new ≡ frame self.old }
+        ensures ready { CanBuild self.old → CanBuild self.new }
+        ensures left { self.new.left ≡ self.old.left }
+        ensures pushed { PushesRow self.old depth on.number first (field.now ∷ others.now) looked.now result self.new }
+    {
+        let asked = any_asks(self.plan.schema(), field, others);
+        self.plan.push(NodeRow {
+            key: Text::copy_of(alloc, key_of(field))?,
+            depth,
+            name: Text::copy_of(alloc, name_of(field))?,
+            on,
+            first,
+            field: looked.field,
+            asked,
+            size: looked.size,
+            arguments: looked.arguments,
+        })
+    }
+
+    /// The nodes of a position for these types and of what stands below them.
+    #[cycle(build)]
+    pub fn build_types(
+        &mut self,
+        alloc: Global,
+        depth: u32,
+        types: &[TypeId],
+        lists: &[usize],
+        handed: Option<Handed<'p>>,
+    ) -> Result<(), Stop>
+        ensures frame { frame self.new ≡ frame self.old }
+        ensures ready { CanBuild self.old → CanBuild self.new }
+        ensures built { BuildsTypes self.old depth result self.new types.now lists.now (handed_data handed.entry) }
+    {
+        'types: for of in types {
+            match self.build_type(alloc, depth, *of, lists, handed) {
+                Ok(()) => {}
+                Err(stop) => return Err(stop),
+            }
+        }
+        Ok(())
+    }
+
+    /// The nodes of a position for a type.
+    #[cycle(build)]
+    fn build_type(
+        &mut self,
+        alloc: Global,
+        depth: u32,
+        of: TypeId,
+        lists: &[usize],
+        handed: Option<Handed<'p>>,
+    ) -> Result<(), Stop>
+        ensures frame { frame self.new ≡ frame self.old }
+        ensures ready { CanBuild self.old → CanBuild self.new }
+        ensures built { BuildsType self.old depth result self.new of.number lists.now (handed_data handed.entry) }
+    {
+        let groups = self.collector.collect(alloc, of, lists)?;
+        self.build_groups(alloc, depth, of, groups.as_slice(), handed)
+    }
+
+    /// The nodes of these keys.
+    #[cycle(build)]
+    fn build_groups(
+        &mut self,
+        alloc: Global,
+        depth: u32,
+        of: TypeId,
+        groups: &[Group<'p>],
+        handed: Option<Handed<'p>>,
+    ) -> Result<(), Stop>
+        ensures frame { frame self.new ≡ frame self.old }
+        ensures ready { CanBuild self.old → CanBuild self.new }
+        ensures built { BuildsGroups self.old depth result self.new of.number groups.now (handed_data handed.entry) }
+    {
+        let mut first = true;
+        'groups: for group in groups {
+            match self.build_group(alloc, depth, of, first, group, handed) {
+                Ok(()) => {}
+                Err(stop) => return Err(stop),
+            }
+            first = false;
+        }
+        Ok(())
+    }
+
+    /// The node of a key. There is none without fields.
+    #[cycle(build)]
+    fn build_group(
+        &mut self,
+        alloc: Global,
+        depth: u32,
+        of: TypeId,
+        first: bool,
+        group: &Group<'p>,
+        handed: Option<Handed<'p>>,
+    ) -> Result<(), Stop>
+        ensures frame { frame self.new ≡ frame self.old }
+        ensures ready { CanBuild self.old → CanBuild self.new }
+        ensures built { BuildsGroup self.old depth result self.new of.number first group.now (handed_data handed.entry) }
+    {
+        match group.fields.split_first() {
+            Some((field, others)) => {
+                self.build_node(alloc, depth, of, first, field, others, handed)
+            }
+            None => Ok(()),
+        }
+    }
+
+    /// The node of these fields, and what stands below it.
+    #[cycle(build)]
+    fn build_node(
+        &mut self,
+        alloc: Global,
+        depth: u32,
+        of: TypeId,
+        first: bool,
+        field: &Collected<'p>,
+        others: &[Collected<'p>],
+        handed: Option<Handed<'p>>,
+    ) -> Result<(), Stop>
+        ensures frame { frame self.new ≡ frame self.old }
+        ensures ready { CanBuild self.old → CanBuild self.new }
+        ensures built { BuildsNode self.old depth result self.new of.number first (field.now ∷ others.now) (handed_data handed.entry) }
+    {
+        if self.left == 0 {
+            return Err(Stop::TooLarge);
+        }
+        self.left -= 1;
+        let key = key_of(field);
+        if depth > LEVEL_LIMIT {
+            return Err(stopped(alloc, key, Why::TooDeep));
+        }
+        let planning = self.collector.planning();
+        match look(alloc, &planning, of, handed, field, others) {
+            Err(why) => Err(stopped(alloc, key, why)),
+            Ok(looked) => {
+                self.push_row(alloc, depth, of, first, field, others, &looked)?;
+                let types = types_at(planning.schema, looked.field);
+                let lists = lists_below(alloc, field, others)?;
+                match self.build_types(alloc, depth + 1, types, lists.as_slice(), looked.hands) {
+                    Ok(()) => Ok(()),
+                    Err(stop) => Err(under(alloc, stop, key)),
+                }
+            }
+        }
+    }
+}
