@@ -3,3 +3,13 @@ pub mod OneField
 pub mod Sums
 pub mod Bounds
 pub mod Made
+pub mod RowCosts
+pub mod Depths
+pub mod TablePasses
+pub mod Picks
+pub mod Fillings
+pub mod PickedTypes
+pub mod FilledRows
+pub mod Floatless
+pub mod Counted
+pub mod OperationBounds

@@ -2,17 +2,10 @@
 use Rattle.std.specs.Prelude.{ℕ, false, Option}
 use Rattle.response_model.specs.Cost.{Part, types, fields}
 use Rattle.response_model.specs.Bound.{greatest_in, greatest_cost}
-use Rattle.static_cost.specs.declared.bound.Component.{Component}
-use Rattle.static_cost.specs.declared.bound.Component.TheVariants.{Types, Fields}
 use Rattle.static_cost.specs.declared.first.FirstKind.{FirstKind}
 use Rattle.static_cost.specs.declared.first.FirstList.{FirstList}
 use Rattle.static_cost.specs.Nodes.{First, first}
 use Rattle.static_cost.specs.FirstPlan.{default_weight, form_of, size_of, value_plan, nodes_of_firsts}
-
--- The part of the cost that a component is.
-abbrev pub part_of : Component → Part
-part_of Types = types
-part_of Fields = fields
 
 -- What a field that returns this kind adds to the part by its entry.
 abbrev pub entry_weight : Part → FirstKind → ℕ
