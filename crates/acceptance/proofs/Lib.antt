@@ -1,0 +1,4 @@
+mod Picked
+mod Stages
+mod Costs
+mod OneVerdict

@@ -1,0 +1,16 @@
+//! The tests of an operation before it runs: it is accepted with its plan and its bound, or refused for the first that it
+//! doesn't pass.
+#![tactic(auto)]
+
+mod accepting;
+mod fault;
+mod laws;
+mod request;
+mod telling;
+pub mod texts;
+
+pub use accepting::{Accepted, accept, read};
+pub use fault::{AcceptFault, Refusal};
+pub use laws::a_request_has_one_verdict;
+pub use request::Request;
+pub use telling::refusal_text;
