@@ -1,0 +1,15 @@
+-- The first word names one command.
+use Rattle.command_words.proofs.Names.{only_check, only_price, only_worst, only_meter}
+use Rattle.command_words.proofs.reading.named_command.Goals as goal
+
+pub returns-in-check-clause-usage : goal.returns-in-check-clause-usage
+returns-in-check-clause-usage c = λ failed command. only_check c.args.name.now _ command c.in-check.is (c.check.ensures.usage failed command)
+
+pub returns-in-price-clause-usage : goal.returns-in-price-clause-usage
+returns-in-price-clause-usage c = λ failed command. only_price c.args.name.now _ command c.in-price.is (c.price.ensures.usage failed command)
+
+pub returns-in-worst-clause-usage : goal.returns-in-worst-clause-usage
+returns-in-worst-clause-usage c = λ failed command. only_worst c.args.name.now _ command c.in-worst.is (c.worst.ensures.usage failed command)
+
+pub returns-in-meter-clause-usage : goal.returns-in-meter-clause-usage
+returns-in-meter-clause-usage c = λ failed command. only_meter c.args.name.now _ command c.in-meter.is (c.meter.ensures.usage failed command)

@@ -1,0 +1,41 @@
+-- The words behind a command's name, as a simple command of clap each.
+use Rattle.std.specs.Prelude.{Some, true, codes}
+use Rattle.clap.specs.Walk.{Rule, Text}
+use Rattle.clap.specs.Simple.{App, new_app, new_rule, with_rule, on_top}
+use Rattle.clap.specs.declared.builder.action.ArgAction.TheVariants.{Set}
+
+-- a word that must stand
+abbrev pub place : Text → Rule
+place id = record (new_rule id) { action = Some Set; required = true }
+
+-- `--` and this, with a value
+abbrev pub option : Text → Rule
+option id = record (new_rule id) { long = Some id; action = Some Set }
+
+-- a command without words so far; no flag asks for help
+abbrev pub top : Text → App
+top name = on_top (λ s. record s { no_binary_name = true; disable_help_flag = true }) (new_app name)
+
+-- the files of an operation
+abbrev pub with_files : App → App
+with_files app = with_rule (with_rule app (place (codes "schema"))) (place (codes "document"))
+
+-- and how it is asked for
+abbrev pub with_options : App → App
+with_options app = with_rule (with_rule (with_rule app (option (codes "variables"))) (option (codes "operation"))) (option (codes "unsized"))
+
+-- `check SCHEMA`
+abbrev pub check_app : App
+check_app = with_rule (top (codes "check")) (place (codes "schema"))
+
+-- `price SCHEMA DOCUMENT`
+abbrev pub price_app : App
+price_app = with_options (with_files (top (codes "price")))
+
+-- `worst SCHEMA DOCUMENT PART`
+abbrev pub worst_app : App
+worst_app = with_options (with_rule (with_files (top (codes "worst"))) (place (codes "part")))
+
+-- `meter SCHEMA DOCUMENT REPLY`
+abbrev pub meter_app : App
+meter_app = with_rule (with_files (top (codes "meter"))) (place (codes "reply"))

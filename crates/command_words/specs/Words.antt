@@ -1,0 +1,100 @@
+-- The commands, and the words that ask for them.
+use Rattle.std.specs.Prelude.{◌≡◌, ◌≤◌, ℕ, List, [], ◌∷◌, Option, None, Some, codes}
+use Rattle.std.specs.Str.Parse.{IsNumeral, digits_value}
+use Rattle.clap.specs.Walk.{Row, first_of}
+use Rattle.clap.specs.Simple.{App, matches_of}
+use Rattle.clap.specs.Faults.{fault_of}
+use Rattle.command_words.specs.declared.command.TheConstants.{UNDECLARED, GREATEST_UNSIZED}
+use Rattle.command_words.specs.declared.command.Command.{Command}
+use Rattle.command_words.specs.declared.command.Command.TheVariants.{Help, Version, Check, Price, Worst, Meter}
+use Rattle.command_words.specs.declared.command.Asked.{Asked}
+use Rattle.static_cost.specs.declared.part.Part.{Part}
+use Rattle.static_cost.specs.declared.part.Part.TheVariants.{Types, Fields}
+use Rattle.command_words.specs.Apps.{check_app, price_app, worst_app, meter_app}
+
+-- The text is this number, in one decimal digit or more, and it is no greater than that.
+abbrev pub IsNumber : ℕ → List ℕ → ℕ → Type 0
+IsNumber most text n = IsNumeral 10 text × (n ≡ digits_value 10 text) × (n ≤ most)
+
+-- the size of lists that declare none
+abbrev pub IsUndeclared : Option (List ℕ) → ℕ → Type 0
+IsUndeclared None n = n ≡ UNDECLARED
+IsUndeclared (Some text) n = IsNumber GREATEST_UNSIZED text n
+
+-- the words at places and of options, by their names
+abbrev pub Rows : Type 0
+Rows = List Row
+
+-- They give this operation.
+pub record GivesAsked (rows : Rows) (asked : Asked) : Type 0 where
+  pub schema : first_of (codes "schema") rows ≡ Some asked.schema
+  pub document : first_of (codes "document") rows ≡ Some asked.document
+  pub variables : first_of (codes "variables") rows ≡ asked.variables
+  pub operation : first_of (codes "operation") rows ≡ asked.operation
+  pub undeclared : IsUndeclared (first_of (codes "unsized") rows) asked.undeclared
+
+abbrev pub part_word : Part → List ℕ
+part_word Types = codes "types"
+part_word Fields = codes "fields"
+
+-- They give this part of the cost.
+abbrev pub GivesPart : Rows → Part → Type 0
+GivesPart rows part = first_of (codes "part") rows ≡ Some (part_word part)
+
+-- They give these files.
+pub record GivesReply (rows : Rows) (schema document reply : List ℕ) : Type 0 where
+  pub is_schema : first_of (codes "schema") rows ≡ Some schema
+  pub is_document : first_of (codes "document") rows ≡ Some document
+  pub is_reply : first_of (codes "reply") rows ≡ Some reply
+
+-- The words behind a command's name are faultless, and this holds of what they give.
+abbrev pub Reads : App → (Rows → Type 0) → List (List ℕ) → Type 0
+Reads app P words = (fault_of app words ≡ []) × P (matches_of app words)
+
+-- ---- what the words behind the name of each command give, and when they ask for it
+
+abbrev pub GivesCheck : Rows → Command → Type 0
+GivesCheck rows (Check schema) = first_of (codes "schema") rows ≡ Some schema
+GivesCheck rows other = ⊥
+
+abbrev pub GivesPrice : Rows → Command → Type 0
+GivesPrice rows (Price asked) = GivesAsked rows asked
+GivesPrice rows other = ⊥
+
+abbrev pub GivesWorst : Rows → Command → Type 0
+GivesWorst rows (Worst asked part) = GivesAsked rows asked × GivesPart rows part
+GivesWorst rows other = ⊥
+
+abbrev pub GivesMeter : Rows → Command → Type 0
+GivesMeter rows (Meter schema document reply) = GivesReply rows schema document reply
+GivesMeter rows other = ⊥
+
+abbrev pub AsksCheck : List (List ℕ) → Command → Type 0
+AsksCheck words command = Reads check_app (λ rows. GivesCheck rows command) words
+
+abbrev pub AsksPrice : List (List ℕ) → Command → Type 0
+AsksPrice words command = Reads price_app (λ rows. GivesPrice rows command) words
+
+abbrev pub AsksWorst : List (List ℕ) → Command → Type 0
+AsksWorst words command = Reads worst_app (λ rows. GivesWorst rows command) words
+
+abbrev pub AsksMeter : List (List ℕ) → Command → Type 0
+AsksMeter words command = Reads meter_app (λ rows. GivesMeter rows command) words
+
+-- The first word names the command, and those behind it ask for it.
+abbrev pub AsksAfter : List ℕ → List (List ℕ) → Command → Type 0
+AsksAfter name words Help = (name ≡ codes "--help") × (words ≡ [])
+AsksAfter name words Version = (name ≡ codes "--version") × (words ≡ [])
+AsksAfter name words (Check schema) = (name ≡ codes "check") × AsksCheck words (Check schema)
+AsksAfter name words (Price asked) = (name ≡ codes "price") × AsksPrice words (Price asked)
+AsksAfter name words (Worst asked part) = (name ≡ codes "worst") × AsksWorst words (Worst asked part)
+AsksAfter name words (Meter schema document reply) = (name ≡ codes "meter") × AsksMeter words (Meter schema document reply)
+
+-- The words ask for the command.
+abbrev pub Asks : List (List ℕ) → Command → Type 0
+Asks [] command = ⊥
+Asks (name ∷ words) command = AsksAfter name words command
+
+-- They ask for no command.
+abbrev pub IsNoCommand : List (List ℕ) → Type 0
+IsNoCommand words = (command : Command) → Asks words command → ⊥

@@ -1,0 +1,112 @@
+//! The simple commands of clap, one word after another.
+
+ghost use Rattle.std.specs.Prelude.{◌≡◌, IfOk, false, codes};
+ghost use Rattle.clap.specs.Simple.{app_of, with_rule};
+ghost use Rattle.clap.specs.Walk.{rule_of};
+ghost use Rattle.command_words.specs.Apps.{with_files, with_options, check_app, price_app, worst_app, meter_app};
+
+use clap::{Arg, ArgAction, Command};
+use std::alloc::{AllocError, Global};
+
+// A word that must stand.
+fn place<'a>(alloc: Global, id: &'a str) -> Arg<'a>
+    ensures rule { rule_of result ≡ Rattle.command_words.specs.Apps.place id.entry.now }
+    ensures local { result.global ≡ false }
+{
+    Arg::new(alloc, id).required(true).action(ArgAction::Set)
+}
+
+// `--` and this, with a value.
+fn option<'a>(alloc: Global, id: &'a str) -> Arg<'a>
+    ensures rule { rule_of result ≡ Rattle.command_words.specs.Apps.option id.entry.now }
+    ensures local { result.global ≡ false }
+{
+    Arg::new(alloc, id).long(id).action(ArgAction::Set)
+}
+
+// A command without words so far.
+fn top<'a>(alloc: Global, name: &'a str) -> Command<'a>
+    ensures { app_of result ≡ Rattle.command_words.specs.Apps.top name.entry.now }
+{
+    Command::new(alloc, name)
+        .no_binary_name(true)
+        .disable_help_flag(true)
+}
+
+fn with<'a>(command: Command<'a>, arg: Arg<'a>) -> Result<Command<'a>, AllocError>
+    requires { arg.global ≡ false }
+    ensures { IfOk result (λ c. app_of c ≡ with_rule (app_of command.entry) (rule_of arg.entry)) }
+{
+    command.arg(arg)
+}
+
+// A word that must stand behind those of the command.
+fn with_place<'a>(
+    alloc: Global,
+    command: Command<'a>,
+    id: &'a str,
+) -> Result<Command<'a>, AllocError>
+    ensures { IfOk result (λ c. app_of c ≡ with_rule (app_of command.entry) (Rattle.command_words.specs.Apps.place id.entry.now)) }
+{
+    with(command, place(alloc, id))
+}
+
+// An option beside those of the command.
+fn with_option<'a>(
+    alloc: Global,
+    command: Command<'a>,
+    id: &'a str,
+) -> Result<Command<'a>, AllocError>
+    ensures { IfOk result (λ c. app_of c ≡ with_rule (app_of command.entry) (Rattle.command_words.specs.Apps.option id.entry.now)) }
+{
+    with(command, option(alloc, id))
+}
+
+// The files of an operation.
+fn with_files<'a>(alloc: Global, command: Command<'a>) -> Result<Command<'a>, AllocError>
+    ensures { IfOk result (λ c. app_of c ≡ with_files (app_of command.entry)) }
+{
+    let command = with_place(alloc, command, "schema")?;
+    with_place(alloc, command, "document")
+}
+
+// How an operation is asked for.
+fn with_options<'a>(alloc: Global, command: Command<'a>) -> Result<Command<'a>, AllocError>
+    ensures { IfOk result (λ c. app_of c ≡ with_options (app_of command.entry)) }
+{
+    let command = with_option(alloc, command, "variables")?;
+    let command = with_option(alloc, command, "operation")?;
+    with_option(alloc, command, "unsized")
+}
+
+/// `check SCHEMA`
+pub fn check_command<'a>(alloc: Global) -> Result<Command<'a>, AllocError>
+    ensures { IfOk result (λ c. app_of c ≡ check_app) }
+{
+    with_place(alloc, top(alloc, "check"), "schema")
+}
+
+/// `price SCHEMA DOCUMENT`
+pub fn price_command<'a>(alloc: Global) -> Result<Command<'a>, AllocError>
+    ensures { IfOk result (λ c. app_of c ≡ price_app) }
+{
+    let command = with_files(alloc, top(alloc, "price"))?;
+    with_options(alloc, command)
+}
+
+/// `worst SCHEMA DOCUMENT PART`
+pub fn worst_command<'a>(alloc: Global) -> Result<Command<'a>, AllocError>
+    ensures { IfOk result (λ c. app_of c ≡ worst_app) }
+{
+    let command = with_files(alloc, top(alloc, "worst"))?;
+    let command = with_place(alloc, command, "part")?;
+    with_options(alloc, command)
+}
+
+/// `meter SCHEMA DOCUMENT REPLY`
+pub fn meter_command<'a>(alloc: Global) -> Result<Command<'a>, AllocError>
+    ensures { IfOk result (λ c. app_of c ≡ meter_app) }
+{
+    let command = with_files(alloc, top(alloc, "meter"))?;
+    with_place(alloc, command, "reply")
+}

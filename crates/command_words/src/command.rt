@@ -1,0 +1,74 @@
+//! The commands.
+
+use gql_base::Text;
+use static_cost::Part;
+use std::alloc::AllocError;
+use thiserror::Error;
+
+/// The size of lists that declare none, where no other is given.
+pub const UNDECLARED: u32 = 10;
+/// The greatest size that may be given for such lists.
+pub const GREATEST_UNSIZED: u32 = 1_000_000;
+
+/// An operation, by the names of its files and by how it is asked for.
+#[derive(Drop)]
+pub struct Asked {
+    pub schema: Text,
+    pub document: Text,
+    /// The file of the values that are given for its variables.
+    pub variables: Option<Text>,
+    /// The name of the operation in its document.
+    pub operation: Option<Text>,
+    /// The size of lists that declare none.
+    pub undeclared: u32,
+}
+
+/// A command, with the names of its files.
+#[derive(Drop)]
+pub enum Command {
+    /// Says how the program is used.
+    Help,
+    /// Says which version it is.
+    Version,
+    /// Says how many types and fields a schema has, or which test it doesn't pass.
+    Check {
+        schema: Text,
+    },
+    /// Says what an operation costs at most.
+    Price {
+        asked: Asked,
+    },
+    /// Writes a response that costs as much as any in this part of the cost.
+    Worst {
+        asked: Asked,
+        part: Part,
+    },
+    /// Says what a reply to an operation cost, and what its client is answered.
+    Meter {
+        schema: Text,
+        document: Text,
+        reply: Text,
+    },
+}
+
+/// Why words were not read into a command.
+#[derive(Clone, Copy, Debug, Drop, PartialEq, Eq, Error)]
+pub enum WordsFault {
+    /// They are those of no command.
+    #[error("the words ask for no command")]
+    Usage,
+    /// There was no memory.
+    #[error("there was no memory for the words")]
+    Memory,
+}
+
+impl From<AllocError> for WordsFault {
+    ghost use Rattle.std.specs.Prelude.{◌≡◌};
+    ghost use Rattle.command_words.specs.declared.command.WordsFault.TheVariants.{Memory};
+
+    ghost from_gives = { λ _ fault. fault ≡ Memory };
+
+    fn from(_error: AllocError) -> WordsFault {
+        WordsFault::Memory
+    }
+}

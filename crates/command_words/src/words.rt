@@ -1,0 +1,5 @@
+//! The words behind a command's name.
+
+pub mod asked;
+pub mod commands;
+pub mod matches;

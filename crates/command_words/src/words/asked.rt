@@ -1,0 +1,96 @@
+//! The operation that words ask for.
+
+ghost use Rattle.std.specs.Prelude.{◌≡◌, IfOk, Err, Some, None, option_map, codes, ℕ};
+ghost use Rattle.clap.specs.Walk.{rows_of, first_of};
+ghost use Rattle.clap.specs.Matches.{found_of};
+ghost use Rattle.command_words.specs.declared.command.Asked.{Asked as AskedType};
+ghost use Rattle.command_words.specs.Words.{IsUndeclared, GivesAsked};
+
+use crate::command::{Asked, GREATEST_UNSIZED, UNDECLARED, WordsFault};
+use crate::number::number_of;
+use crate::words::matches::word_of;
+use clap::ArgMatches;
+use gql_base::Text;
+use std::alloc::{AllocError, Global};
+
+/// The word at a place.
+pub fn place_word<'a>(matches: &ArgMatches<'a>, id: &str) -> Result<&'a str, WordsFault>
+    ensures found { IfOk result (λ word. first_of id.now (rows_of (found_of matches.now)) ≡ Some word.now) }
+    ensures usage { result ≡ Err WordsFault.Usage → first_of id.now (rows_of (found_of matches.now)) ≡ None }
+{
+    match word_of(matches, id) {
+        Some(word) => Ok(word),
+        None => Err(WordsFault::Usage),
+    }
+}
+
+/// A copy of the word at a place.
+pub fn place_text(alloc: Global, matches: &ArgMatches, id: &str) -> Result<Text, WordsFault>
+    ensures found { IfOk result (λ word. first_of id.now (rows_of (found_of matches.now)) ≡ Some word) }
+    ensures usage { result ≡ Err WordsFault.Usage → first_of id.now (rows_of (found_of matches.now)) ≡ None }
+{
+    let word = match place_word(matches, id) {
+        Ok(word) => word,
+        Err(fault) => return Err(fault),
+    };
+    match Text::copy_of(alloc, word) {
+        Ok(word) => Ok(word),
+        Err(_) => Err(WordsFault::Memory),
+    }
+}
+
+// A copy of the word of an option.
+fn option_text(alloc: Global, matches: &ArgMatches, id: &str) -> Result<Option<Text>, AllocError>
+    ensures { IfOk result (λ word. first_of id.now (rows_of (found_of matches.now)) ≡ word) }
+{
+    match word_of(matches, id) {
+        Some(word) => Ok(Some(Text::copy_of(alloc, word)?)),
+        None => Ok(None),
+    }
+}
+
+// The size of lists that declare none.
+fn undeclared_of(matches: &ArgMatches) -> Result<u32, WordsFault>
+    ensures found { IfOk result (λ n. IsUndeclared (first_of (codes "unsized") (rows_of (found_of matches.now))) n) }
+    ensures usage { result ≡ Err WordsFault.Usage → (n : ℕ) → IsUndeclared (first_of (codes "unsized") (rows_of (found_of matches.now))) n → ⊥ }
+{
+    match word_of(matches, "unsized") {
+        Some(word) => match number_of(word, GREATEST_UNSIZED) {
+            Some(number) => Ok(number),
+            None => Err(WordsFault::Usage),
+        },
+        None => Ok(UNDECLARED),
+    }
+}
+
+/// The operation that words ask for.
+pub fn asked_of(alloc: Global, matches: &ArgMatches) -> Result<Asked, WordsFault>
+    ensures found { IfOk result (λ asked. GivesAsked (rows_of (found_of matches.now)) asked) }
+    ensures usage { result ≡ Err WordsFault.Usage → (asked : AskedType) → GivesAsked (rows_of (found_of matches.now)) asked → ⊥ }
+{
+    let schema = match place_text(alloc, matches, "schema") {
+        Ok(schema) => schema,
+        Err(fault) => return Err(fault),
+    };
+    let document = match place_text(alloc, matches, "document") {
+        Ok(document) => document,
+        Err(fault) => return Err(fault),
+    };
+    let undeclared = match undeclared_of(matches) {
+        Ok(undeclared) => undeclared,
+        Err(fault) => return Err(fault),
+    };
+    let Ok(variables) = option_text(alloc, matches, "variables") else {
+        return Err(WordsFault::Memory);
+    };
+    let Ok(operation) = option_text(alloc, matches, "operation") else {
+        return Err(WordsFault::Memory);
+    };
+    Ok(Asked {
+        schema,
+        document,
+        variables,
+        operation,
+        undeclared,
+    })
+}

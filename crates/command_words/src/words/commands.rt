@@ -1,0 +1,150 @@
+//! The commands, each by the words behind its name.
+
+ghost use Rattle.std.specs.Prelude.{◌≡◌, IfOk, Err, Some, map, ℕ, List};
+ghost use Rattle.clap.specs.Walk.{rows_of, first_of};
+ghost use Rattle.clap.specs.Matches.{found_of};
+ghost use Rattle.static_cost.specs.declared.part.Part.{Part as PartType};
+ghost use Rattle.command_words.specs.declared.command.Command.{Command as CommandType};
+ghost use Rattle.command_words.specs.Words.{GivesPart, GivesCheck, GivesPrice, GivesWorst, GivesMeter, AsksCheck, AsksPrice, AsksWorst, AsksMeter};
+
+use crate::builder::{check_command, meter_command, price_command, worst_command};
+use crate::command::{Command, WordsFault};
+use crate::words::asked::{asked_of, place_text, place_word};
+use crate::words::matches::matches_of;
+use clap::ArgMatches;
+use static_cost::Part;
+use std::alloc::Global;
+
+// The check that words ask for.
+fn check_of(alloc: Global, matches: &ArgMatches) -> Result<Command, WordsFault>
+    ensures found { IfOk result (GivesCheck (rows_of (found_of matches.now))) }
+    ensures usage { result ≡ Err WordsFault.Usage → (command : CommandType) → GivesCheck (rows_of (found_of matches.now)) command → ⊥ }
+{
+    match place_text(alloc, matches, "schema") {
+        Ok(schema) => Ok(Command::Check { schema }),
+        Err(fault) => Err(fault),
+    }
+}
+
+/// `check SCHEMA`
+pub fn check<'a>(alloc: Global, words: &'a [&'a str]) -> Result<Command, WordsFault>
+    ensures found { IfOk result (AsksCheck (map (λ s. s.now) words.entry.now)) }
+    ensures usage { result ≡ Err WordsFault.Usage → (command : CommandType) → AsksCheck (map (λ s. s.now) words.entry.now) command → ⊥ }
+{
+    let Ok(command) = check_command(alloc) else {
+        return Err(WordsFault::Memory);
+    };
+    match matches_of(command, words) {
+        Ok(matches) => check_of(alloc, &matches),
+        Err(fault) => Err(fault),
+    }
+}
+
+// The price that words ask for.
+fn price_of(alloc: Global, matches: &ArgMatches) -> Result<Command, WordsFault>
+    ensures found { IfOk result (GivesPrice (rows_of (found_of matches.now))) }
+    ensures usage { result ≡ Err WordsFault.Usage → (command : CommandType) → GivesPrice (rows_of (found_of matches.now)) command → ⊥ }
+{
+    match asked_of(alloc, matches) {
+        Ok(asked) => Ok(Command::Price { asked }),
+        Err(fault) => Err(fault),
+    }
+}
+
+/// `price SCHEMA DOCUMENT`
+pub fn price<'a>(alloc: Global, words: &'a [&'a str]) -> Result<Command, WordsFault>
+    ensures found { IfOk result (AsksPrice (map (λ s. s.now) words.entry.now)) }
+    ensures usage { result ≡ Err WordsFault.Usage → (command : CommandType) → AsksPrice (map (λ s. s.now) words.entry.now) command → ⊥ }
+{
+    let Ok(command) = price_command(alloc) else {
+        return Err(WordsFault::Memory);
+    };
+    match matches_of(command, words) {
+        Ok(matches) => price_of(alloc, &matches),
+        Err(fault) => Err(fault),
+    }
+}
+
+// The part of the cost.
+fn part_of(matches: &ArgMatches) -> Result<Part, WordsFault>
+    ensures found { IfOk result (GivesPart (rows_of (found_of matches.now))) }
+    ensures usage { result ≡ Err WordsFault.Usage → (part : PartType) → GivesPart (rows_of (found_of matches.now)) part → ⊥ }
+{
+    let word = match place_word(matches, "part") {
+        Ok(word) => word,
+        Err(fault) => return Err(fault),
+    };
+    if word == "types" {
+        return Ok(Part::Types);
+    }
+    if word == "fields" {
+        return Ok(Part::Fields);
+    }
+    Err(WordsFault::Usage)
+}
+
+// The worst response that words ask for.
+fn worst_of(alloc: Global, matches: &ArgMatches) -> Result<Command, WordsFault>
+    ensures found { IfOk result (GivesWorst (rows_of (found_of matches.now))) }
+    ensures usage { result ≡ Err WordsFault.Usage → (command : CommandType) → GivesWorst (rows_of (found_of matches.now)) command → ⊥ }
+{
+    let part = match part_of(matches) {
+        Ok(part) => part,
+        Err(fault) => return Err(fault),
+    };
+    match asked_of(alloc, matches) {
+        Ok(asked) => Ok(Command::Worst { asked, part }),
+        Err(fault) => Err(fault),
+    }
+}
+
+/// `worst SCHEMA DOCUMENT PART`
+pub fn worst<'a>(alloc: Global, words: &'a [&'a str]) -> Result<Command, WordsFault>
+    ensures found { IfOk result (AsksWorst (map (λ s. s.now) words.entry.now)) }
+    ensures usage { result ≡ Err WordsFault.Usage → (command : CommandType) → AsksWorst (map (λ s. s.now) words.entry.now) command → ⊥ }
+{
+    let Ok(command) = worst_command(alloc) else {
+        return Err(WordsFault::Memory);
+    };
+    match matches_of(command, words) {
+        Ok(matches) => worst_of(alloc, &matches),
+        Err(fault) => Err(fault),
+    }
+}
+
+// The measure of a reply that words ask for.
+fn meter_of(alloc: Global, matches: &ArgMatches) -> Result<Command, WordsFault>
+    ensures found { IfOk result (GivesMeter (rows_of (found_of matches.now))) }
+    ensures usage { result ≡ Err WordsFault.Usage → (command : CommandType) → GivesMeter (rows_of (found_of matches.now)) command → ⊥ }
+{
+    let schema = match place_text(alloc, matches, "schema") {
+        Ok(schema) => schema,
+        Err(fault) => return Err(fault),
+    };
+    let document = match place_text(alloc, matches, "document") {
+        Ok(document) => document,
+        Err(fault) => return Err(fault),
+    };
+    match place_text(alloc, matches, "reply") {
+        Ok(reply) => Ok(Command::Meter {
+            schema,
+            document,
+            reply,
+        }),
+        Err(fault) => Err(fault),
+    }
+}
+
+/// `meter SCHEMA DOCUMENT REPLY`
+pub fn meter<'a>(alloc: Global, words: &'a [&'a str]) -> Result<Command, WordsFault>
+    ensures found { IfOk result (AsksMeter (map (λ s. s.now) words.entry.now)) }
+    ensures usage { result ≡ Err WordsFault.Usage → (command : CommandType) → AsksMeter (map (λ s. s.now) words.entry.now) command → ⊥ }
+{
+    let Ok(command) = meter_command(alloc) else {
+        return Err(WordsFault::Memory);
+    };
+    match matches_of(command, words) {
+        Ok(matches) => meter_of(alloc, &matches),
+        Err(fault) => Err(fault),
+    }
+}
