@@ -1,9 +1,7 @@
 //! The command line tool: it prices GraphQL operations.
 #![tactic(auto)]
 
-ghost use Rattle.std.specs.Prelude.{◌≡◌, ◌↔◌, ◌<◌, IsTrue, codes, length};
-ghost use Rattle.std.specs.Str.{bytes_eq};
-ghost use Rattle.gateway_cli.specs.Words.{has_mark, without_mark};
+ghost use Rattle.std.specs.Prelude.{◌≡◌, ◌↔◌};
 
 pub use gateway_run::run;
 use gateway_run::{WordsFault, end_without_command};
@@ -39,36 +37,12 @@ fn words_given(rt: &HostRuntime, alloc: Global) -> Result<Vec<Text>, WordsFault>
     Ok(words)
 }
 
-fn is_mark(word: &Text) -> bool
-    ensures { result ≡ bytes_eq word.now (codes "--") }
-{
-    word.as_str() == "--"
-}
-
-// Whether the second word is `--`.
-fn has_mark(words: &[Text]) -> bool
-    ensures answer { result ≡ has_mark words.now }
-    ensures within { IsTrue result → 1 < length words.now }
-{
-    words.len() > 1 && is_mark(&words[1])
-}
-
-// The words without a `--` behind the command's name, which says that no option follows.
-fn without_mark(mut words: Vec<Text>) -> Vec<Text>
-    ensures { result.items ≡ without_mark words.items }
-{
-    if has_mark(words.as_slice()) {
-        words.remove(1);
-    }
-    words
-}
-
 fn main(rt: HostRuntime) -> ExitCode {
     let alloc = rt.alloc();
     let mut out = StdSink::new(rt.stdout());
     let mut err = StdSink::new(rt.stderr());
     let words = match words_given(&rt, alloc) {
-        Ok(words) => without_mark(words),
+        Ok(words) => words,
         Err(fault) => return ExitCode::from(end_without_command(fault, &mut out, &mut err)),
     };
     let Ok(reached) = rt.clone() else {

@@ -1,4 +1,3 @@
-mod Words
 mod Refusals
 mod Replies
 mod Exclusions
@@ -6,3 +5,5 @@ mod OneAnswer
 mod Checks
 mod Statuses
 mod MisusedDirectives
+mod AskedFiles
+mod AskedRefusals

@@ -6,7 +6,7 @@ use Rattle.schema_model.specs.SchemaViews.{schema_data}
 use Rattle.cost_directives.specs.declared.fault.DirectiveFault.{DirectiveFault}
 use Rattle.cost_directives.specs.declared.fault.DirectiveFault.TheVariants.{Memory as NoWeights}
 use Rattle.cost_directives.specs.DirectiveFaults.{Weighs}
-use Rattle.gateway_run.specs.declared.checked.TheConstants.{UNDECLARED}
+use Rattle.command_words.specs.declared.command.TheConstants.{UNDECLARED}
 use Rattle.gateway_run.specs.declared.checked.SchemaRefusal.TheVariants.{TooLarge, NotText, NoSchemaText, Fails, Misuses}
 use Rattle.gateway_run.specs.declared.checked.CheckFault.{CheckFault}
 use Rattle.gateway_run.specs.declared.checked.CheckFault.TheVariants.{Refused, Memory as CheckMemory}

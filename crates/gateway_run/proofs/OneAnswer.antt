@@ -1,4 +1,4 @@
--- Two files have one price, and a reply to their operation one measure.
+-- A reply to an operation has one measure.
 use Rattle.std.proofs.Common.{◌≡◌, ◌∙◌, ℕ, List, [], Bool, Option, sym, ap, ap₂, subst}
 use Rattle.cost_num.proofs.Costs.{cost_eq}
 use Rattle.serde_json.specs.Data.{Data}
@@ -23,19 +23,6 @@ use Rattle.response_meter.specs.Metered.{IsMetered}
 
 pub plan_alike : (operation other : List FirstNode) → firsts_of operation ≡ firsts_of other → plan_of operation ≡ plan_of other
 plan_alike operation other same = ap (λ firsts. value_plan Object (nodes_of_firsts firsts)) same
-
--- A plan has one bound for each part of the cost.
-abbrev pub OneBound : Type 0
-OneBound = (holds : ℕ → Data → Bool) (part : Part) (plan : Plan) (a b : ℕ) → IsBound holds part plan a → IsBound holds part plan b → a ≡ b
-
-bound_alike : (part : Part) (n : ℕ) (plan other : Plan) → plan ≡ other → IsBound holds part plan n → IsBound holds part other n
-bound_alike part n plan other same bound = subst (λ p. IsBound holds part p n) same bound
-
-pub one_price : OneBound → (operation other : List FirstNode) (cost cost_2 : Cost) → plan_of operation ≡ plan_of other → IsBoundOf operation cost → IsBoundOf other cost_2 → cost ≡ cost_2
-one_price one operation other cost cost_2 same a b =
-    cost_eq cost cost_2
-    (one holds types (plan_of other) cost.types cost_2.types (bound_alike types cost.types (plan_of operation) (plan_of other) same a.of_types) b.of_types)
-    (one holds fields (plan_of other) cost.fields cost_2.fields (bound_alike fields cost.fields (plan_of operation) (plan_of other) same a.of_fields) b.of_fields)
 
 own_names_differ : NamesDiffer own_name
 own_names_differ T U same = cc

@@ -1,21 +1,32 @@
 -- What a run with a status says.
-use Rattle.std.proofs.Common.{◌≡◌, ◌≤◌, ◌⊎◌, inl, inr, refl, sym, subst, ℕ, List, Vec, arith}
+use Rattle.std.proofs.Common.{◌≡◌, ◌≤◌, ◌⊎◌, inl, inr, refl, sym, ap, subst, ℕ, List, Option, None, Some, Vec, arith}
+use Rattle.gateway_run.specs.declared.operation.TheConstants.{SCHEMA_LIMIT, DOCUMENT_LIMIT}
+use Rattle.gateway_run.specs.declared.asked.TheConstants.{VARIABLES_LIMIT}
 use Rattle.std.specs.declared.alloc.Global.{Global}
 use Rattle.outside.specs.Faults.{Rose}
 use Rattle.gateway_run.specs.Texts.{line}
 use Rattle.response_meter.specs.declared.fault.MeterFault.{MeterFault}
 use Rattle.response_meter.specs.declared.fault.MeterFault.TheVariants.{NotResponse, SizeBroken, Memory as MeterMemory}
-use Rattle.gateway_run.specs.declared.command.Command.{Command}
-use Rattle.gateway_run.specs.declared.command.Command.TheVariants.{Check, Price, Meter}
+use Rattle.command_words.specs.declared.command.Command.{Command}
+use Rattle.command_words.specs.declared.command.Command.TheVariants.{Help, Version, Check, Price, Worst, Meter}
+use Rattle.command_words.specs.declared.command.Asked.{Asked}
+use Rattle.static_cost.specs.declared.part.Part.{Part}
 use Rattle.gateway_run.specs.declared.outcome.Outcome.{Outcome}
 use Rattle.gateway_run.specs.declared.outcome.Outcome.TheVariants.{Done, Refused, FileFailed, Faulty, Usage, Memory}
 use Rattle.gateway_run.specs.declared.outcome.TheConstants.{DONE, REFUSED, USAGE, FILE_FAILED, STREAM_FAILED, NO_MEMORY, SIZE_BROKEN, NOT_RESPONSE}
-use Rattle.gateway_run.specs.Commands.{Asks, IsNoCommand}
+use Rattle.command_words.specs.Words.{Asks, IsNoCommand}
 use Rattle.gateway_run.specs.Outcomes.{FilesTold, StreamTold, IsKept, Writes, Ends}
 use Rattle.gateway_run.specs.Check.{CheckOf}
+use Rattle.gateway_run.specs.declared.asked.AskedTexts.{AskedTexts}
+use Rattle.gateway_run.specs.Reading.{IsNoText, HasNoText}
+use Rattle.gateway_run.specs.Asked.{HasNoVariables, HaveNoTexts}
 use Rattle.gateway_run.specs.Price.{PriceOf}
+use Rattle.response_model.specs.Plan.{Plan as PlanTree}
+use Rattle.acceptance.specs.Requests.{plan_tree}
+use Rattle.gateway_run.specs.Asked.{request_in}
+use Rattle.gateway_run.specs.Worst.{WorstOfTree, WorstOf}
 use Rattle.gateway_run.specs.Meter.{status_of, MeterOf}
-use Rattle.gateway_run.specs.Program.{CommandCameTo, IsCommandOf, ComeTo, IsFileOf, NamesFile, OneFailed, PrintsOutput, PrintsRefusal, PrintsFault, IsSilent}
+use Rattle.gateway_run.specs.Program.{CommandCameTo, IsCommandOf, ComeTo, IsAskedFile, IsFileOf, NamesFile, OneFailed, PrintsOutput, PrintsRefusal, PrintsFault, IsSilent}
 
 -- the bytes that were read come to no file that failed, and to no wrong use
 check_file : (schema bytes name : List ℕ) → CheckOf schema bytes (FileFailed name) → ⊥
@@ -33,20 +44,102 @@ check_faulty schema bytes text status (inl memory) = absurd (cc)
 check_faulty schema bytes text status (inr (inl done)) = absurd done.2
 check_faulty schema bytes text status (inr (inr refused)) = absurd refused.2
 
-price_file : (schema document name : List ℕ) → PriceOf schema document (FileFailed name) → ⊥
-price_file schema document name (inl memory) = absurd (cc)
-price_file schema document name (inr (inl done)) = absurd done.2
-price_file schema document name (inr (inr refused)) = absurd refused.2
+price_file : (asked : Asked) (texts : AskedTexts) (name : List ℕ) → PriceOf asked texts (FileFailed name) → ⊥
+price_file asked texts name (inl memory) = absurd (cc)
+price_file asked texts name (inr (inl done)) = absurd done.2
+price_file asked texts name (inr (inr refused)) = absurd refused.2
 
-price_usage : (schema document : List ℕ) → PriceOf schema document Usage → ⊥
-price_usage schema document (inl memory) = absurd (cc)
-price_usage schema document (inr (inl done)) = absurd done.2
-price_usage schema document (inr (inr refused)) = absurd refused.2
+tree_file : (part : Part) (tree : PlanTree) (name : List ℕ) → WorstOfTree part tree (FileFailed name) → ⊥
+tree_file part tree name (inl memory) = absurd (cc)
+tree_file part tree name (inr (inl done)) = absurd done.1
+tree_file part tree name (inr (inr large)) = absurd large.1
 
-price_faulty : (schema document text : List ℕ) (status : ℕ) → PriceOf schema document (Faulty status text) → ⊥
-price_faulty schema document text status (inl memory) = absurd (cc)
-price_faulty schema document text status (inr (inl done)) = absurd done.2
-price_faulty schema document text status (inr (inr refused)) = absurd refused.2
+worst_file : (asked : Asked) (part : Part) (texts : AskedTexts) (name : List ℕ) → WorstOf asked part texts (FileFailed name) → ⊥
+worst_file asked part texts name (inl memory) = absurd (cc)
+worst_file asked part texts name (inr (inl accepted)) = tree_file part (plan_tree (request_in asked accepted.0) accepted.2.2.is_planned.prepared) name accepted.2.3
+worst_file asked part texts name (inr (inr refused)) = absurd refused.2
+
+price_usage : (asked : Asked) (texts : AskedTexts) → PriceOf asked texts Usage → ⊥
+price_usage asked texts (inl memory) = absurd (cc)
+price_usage asked texts (inr (inl done)) = absurd done.2
+price_usage asked texts (inr (inr refused)) = absurd refused.2
+
+tree_usage : (part : Part) (tree : PlanTree) → WorstOfTree part tree Usage → ⊥
+tree_usage part tree (inl memory) = absurd (cc)
+tree_usage part tree (inr (inl done)) = absurd done.1
+tree_usage part tree (inr (inr large)) = absurd large.1
+
+worst_usage : (asked : Asked) (part : Part) (texts : AskedTexts) → WorstOf asked part texts Usage → ⊥
+worst_usage asked part texts (inl memory) = absurd (cc)
+worst_usage asked part texts (inr (inl accepted)) = tree_usage part (plan_tree (request_in asked accepted.0) accepted.2.2.is_planned.prepared) accepted.2.3
+worst_usage asked part texts (inr (inr refused)) = absurd refused.2
+
+price_faulty : (asked : Asked) (texts : AskedTexts) (text : List ℕ) (status : ℕ) → PriceOf asked texts (Faulty status text) → ⊥
+price_faulty asked texts text status (inl memory) = absurd (cc)
+price_faulty asked texts text status (inr (inl done)) = absurd done.2
+price_faulty asked texts text status (inr (inr refused)) = absurd refused.2
+
+tree_faulty : (part : Part) (tree : PlanTree) (text : List ℕ) (status : ℕ) → WorstOfTree part tree (Faulty status text) → ⊥
+tree_faulty part tree text status (inl memory) = absurd (cc)
+tree_faulty part tree text status (inr (inl done)) = absurd done.1
+tree_faulty part tree text status (inr (inr large)) = absurd large.1
+
+worst_faulty : (asked : Asked) (part : Part) (texts : AskedTexts) (text : List ℕ) (status : ℕ) → WorstOf asked part texts (Faulty status text) → ⊥
+worst_faulty asked part texts text status (inl memory) = absurd (cc)
+worst_faulty asked part texts text status (inr (inl accepted)) = tree_faulty part (plan_tree (request_in asked accepted.0) accepted.2.2.is_planned.prepared) text status accepted.2.3
+worst_faulty asked part texts text status (inr (inr refused)) = absurd refused.2
+
+-- files that hold no texts
+no_text_file : (limit : ℕ) (name other : List ℕ) (files : FilesTold) → HasNoText limit name files (FileFailed other) → (other ≡ name) × Rose (files.faults_before other) (files.faults_after other)
+no_text_file limit name other files (inl stopped) = stopped
+no_text_file limit name other files (inr read) = absurd (no_file limit name read.0 other read.2)
+  where
+    no_file : (limit : ℕ) (name bytes other : List ℕ) → IsNoText limit name bytes (FileFailed other) → ⊥
+    no_file limit name bytes other (inl large) = large.1
+    no_file limit name bytes other (inr none) = none.2
+
+no_text_usage : (limit : ℕ) (name : List ℕ) (files : FilesTold) → HasNoText limit name files Usage → ⊥
+no_text_usage limit name files (inl stopped) = stopped
+no_text_usage limit name files (inr read) = no_usage limit name read.0 read.2
+  where
+    no_usage : (limit : ℕ) (name bytes : List ℕ) → IsNoText limit name bytes Usage → ⊥
+    no_usage limit name bytes (inl large) = large.1
+    no_usage limit name bytes (inr none) = none.2
+
+no_text_faulty : (limit : ℕ) (name text : List ℕ) (status : ℕ) (files : FilesTold) → HasNoText limit name files (Faulty status text) → ⊥
+no_text_faulty limit name text status files (inl stopped) = stopped
+no_text_faulty limit name text status files (inr read) = no_fault limit name read.0 text status read.2
+  where
+    no_fault : (limit : ℕ) (name bytes text : List ℕ) (status : ℕ) → IsNoText limit name bytes (Faulty status text) → ⊥
+    no_fault limit name bytes text status (inl large) = large.1
+    no_fault limit name bytes text status (inr none) = none.2
+
+variables_file : (name : Option (List ℕ)) (other : List ℕ) (files : FilesTold) → HasNoVariables name files (FileFailed other) → (name ≡ Some other) × Rose (files.faults_before other) (files.faults_after other)
+variables_file None other files none = absurd none
+variables_file (Some name) other files none = let found = no_text_file VARIABLES_LIMIT name other files none in (ap Some (sym found.0), found.1)
+
+variables_usage : (name : Option (List ℕ)) (files : FilesTold) → HasNoVariables name files Usage → ⊥
+variables_usage None files none = none
+variables_usage (Some name) files none = no_text_usage VARIABLES_LIMIT name files none
+
+variables_faulty : (name : Option (List ℕ)) (text : List ℕ) (status : ℕ) (files : FilesTold) → HasNoVariables name files (Faulty status text) → ⊥
+variables_faulty None text status files none = none
+variables_faulty (Some name) text status files none = no_text_faulty VARIABLES_LIMIT name text status files none
+
+asked_file : (asked : Asked) (name : List ℕ) (files : FilesTold) → HaveNoTexts asked files (FileFailed name) → IsAskedFile asked name × Rose (files.faults_before name) (files.faults_after name)
+asked_file asked name files (inl none) = let found = no_text_file SCHEMA_LIMIT asked.schema name files none in (inl found.0, found.1)
+asked_file asked name files (inr (inl none)) = let found = no_text_file DOCUMENT_LIMIT asked.document name files none.1 in (inr (inl found.0), found.1)
+asked_file asked name files (inr (inr none)) = let found = variables_file asked.variables name files none.2 in (inr (inr found.0), found.1)
+
+asked_usage : (asked : Asked) (files : FilesTold) → HaveNoTexts asked files Usage → ⊥
+asked_usage asked files (inl none) = no_text_usage SCHEMA_LIMIT asked.schema files none
+asked_usage asked files (inr (inl none)) = no_text_usage DOCUMENT_LIMIT asked.document files none.1
+asked_usage asked files (inr (inr none)) = variables_usage asked.variables files none.2
+
+asked_faulty : (asked : Asked) (text : List ℕ) (status : ℕ) (files : FilesTold) → HaveNoTexts asked files (Faulty status text) → ⊥
+asked_faulty asked text status files (inl none) = no_text_faulty SCHEMA_LIMIT asked.schema text status files none
+asked_faulty asked text status files (inr (inl none)) = no_text_faulty DOCUMENT_LIMIT asked.document text status files none.1
+asked_faulty asked text status files (inr (inr none)) = variables_faulty asked.variables text status files none.2
 
 meter_file : (schema document reply name : List ℕ) → MeterOf schema document reply (FileFailed name) → ⊥
 meter_file schema document reply name (inl memory) = absurd (cc)
@@ -77,28 +170,40 @@ meter_faulty schema document reply text status (inr (inr (inr refused))) = absur
 
 -- what commands come to
 came_file : (command : Command) (files : FilesTold) (name : List ℕ) → CommandCameTo command files (FileFailed name) → IsFileOf command name × Rose (files.faults_before name) (files.faults_after name)
+came_file Help files name came = absurd came
+came_file Version files name came = absurd came
 came_file (Check schema) files name (inl stopped) = stopped
 came_file (Check schema) files name (inr read) = absurd (check_file schema read.0 name read.2)
-came_file (Price schema document) files name (inl stopped) = stopped
-came_file (Price schema document) files name (inr read) = absurd (price_file read.0 read.1 name read.4)
+came_file (Price asked) files name (inl none) = asked_file asked name files none
+came_file (Price asked) files name (inr read) = absurd (price_file asked read.0 name read.2)
+came_file (Worst asked part) files name (inl none) = asked_file asked name files none
+came_file (Worst asked part) files name (inr read) = absurd (worst_file asked part read.0 name read.2)
 came_file (Meter schema document reply) files name (inl stopped) = stopped
 came_file (Meter schema document reply) files name (inr (inl large)) = absurd large.1
 came_file (Meter schema document reply) files name (inr (inr read)) = absurd (meter_file read.0 read.1 read.4.0 name read.4.3)
 
 came_usage : (command : Command) (files : FilesTold) → CommandCameTo command files Usage → ⊥
+came_usage Help files came = came
+came_usage Version files came = came
 came_usage (Check schema) files (inl stopped) = stopped
 came_usage (Check schema) files (inr read) = check_usage schema read.0 read.2
-came_usage (Price schema document) files (inl stopped) = stopped
-came_usage (Price schema document) files (inr read) = price_usage read.0 read.1 read.4
+came_usage (Price asked) files (inl none) = asked_usage asked files none
+came_usage (Price asked) files (inr read) = price_usage asked read.0 read.2
+came_usage (Worst asked part) files (inl none) = asked_usage asked files none
+came_usage (Worst asked part) files (inr read) = worst_usage asked part read.0 read.2
 came_usage (Meter schema document reply) files (inl stopped) = stopped
 came_usage (Meter schema document reply) files (inr (inl large)) = large.1
 came_usage (Meter schema document reply) files (inr (inr read)) = meter_usage read.0 read.1 read.4.0 read.4.3
 
 came_faulty : (command : Command) (files : FilesTold) (status : ℕ) (text : List ℕ) → CommandCameTo command files (Faulty status text) → IsReplyStatus status
+came_faulty Help files status text came = absurd came
+came_faulty Version files status text came = absurd came
 came_faulty (Check schema) files status text (inl stopped) = absurd stopped
 came_faulty (Check schema) files status text (inr read) = absurd (check_faulty schema read.0 text status read.2)
-came_faulty (Price schema document) files status text (inl stopped) = absurd stopped
-came_faulty (Price schema document) files status text (inr read) = absurd (price_faulty read.0 read.1 text status read.4)
+came_faulty (Price asked) files status text (inl none) = absurd (asked_faulty asked text status files none)
+came_faulty (Price asked) files status text (inr read) = absurd (price_faulty asked read.0 text status read.2)
+came_faulty (Worst asked part) files status text (inl none) = absurd (asked_faulty asked text status files none)
+came_faulty (Worst asked part) files status text (inr read) = absurd (worst_faulty asked part read.0 text status read.2)
 came_faulty (Meter schema document reply) files status text (inl stopped) = absurd stopped
 came_faulty (Meter schema document reply) files status text (inr (inl large)) = absurd large.1
 came_faulty (Meter schema document reply) files status text (inr (inr read)) = meter_faulty read.0 read.1 read.4.0 text status read.4.3
@@ -107,38 +212,38 @@ came_faulty (Meter schema document reply) files status text (inr (inr read)) = m
 come_faulty : (words : List (List ℕ)) (files : FilesTold) (status : ℕ) (text : List ℕ) → ComeTo words files (Faulty status text) → IsReplyStatus status
 come_faulty words files status text (inl came) = came_faulty came.0 files status text came.2
 come_faulty words files status text (inr (inl none)) = let no = none.1 in absurd (cc)
-come_faulty words files status text (inr (inr memory)) = let no = memory.1 in absurd (cc)
+come_faulty words files status text (inr (inr memory)) = absurd (cc)
 
 come_usage : (words : List (List ℕ)) (files : FilesTold) → ComeTo words files Usage → IsNoCommand words
 come_usage words files (inl came) = absurd (came_usage came.0 files came.2)
 come_usage words files (inr (inl none)) = none.0
-come_usage words files (inr (inr memory)) = let no = memory.1 in absurd (cc)
+come_usage words files (inr (inr memory)) = absurd (cc)
 
 come_file : (words : List (List ℕ)) (files : FilesTold) (name : List ℕ) → ComeTo words files (FileFailed name)
     → (command : Command) × Asks words command × IsFileOf command name × Rose (files.faults_before name) (files.faults_after name)
 come_file words files name (inl came) = let file = came_file came.0 files name came.2 in (came.0, came.1, file.0, file.1)
 come_file words files name (inr (inl none)) = let no = none.1 in absurd (cc)
-come_file words files name (inr (inr memory)) = let no = memory.1 in absurd (cc)
+come_file words files name (inr (inr memory)) = absurd (cc)
 
-come_none : (words : List (List ℕ)) (files : FilesTold) (outcome : Outcome) → IsNoCommand words → ComeTo words files outcome → outcome ≡ Usage
+come_none : (words : List (List ℕ)) (files : FilesTold) (outcome : Outcome) → IsNoCommand words → ComeTo words files outcome → (outcome ≡ Usage) ⊎ (outcome ≡ Memory)
 come_none words files outcome none (inl came) = absurd (none came.0 came.1)
-come_none words files outcome none (inr (inl usage)) = usage.1
-come_none words files outcome none (inr (inr memory)) = absurd (memory.0 none)
+come_none words files outcome none (inr (inl usage)) = inl usage.1
+come_none words files outcome none (inr (inr memory)) = inr memory
 
 come_done : (words : List (List ℕ)) (files : FilesTold) (output : Vec ℕ Global) → ComeTo words files (Done output) → IsCommandOf words files (Done output)
 come_done words files output (inl came) = came
 come_done words files output (inr (inl none)) = let no = none.1 in absurd (cc)
-come_done words files output (inr (inr memory)) = let no = memory.1 in absurd (cc)
+come_done words files output (inr (inr memory)) = absurd (cc)
 
 come_refused : (words : List (List ℕ)) (files : FilesTold) (text : List ℕ) → ComeTo words files (Refused text) → IsCommandOf words files (Refused text)
 come_refused words files text (inl came) = came
 come_refused words files text (inr (inl none)) = let no = none.1 in absurd (cc)
-come_refused words files text (inr (inr memory)) = let no = memory.1 in absurd (cc)
+come_refused words files text (inr (inr memory)) = absurd (cc)
 
 come_fault : (words : List (List ℕ)) (files : FilesTold) (status : ℕ) (text : List ℕ) → ComeTo words files (Faulty status text) → IsCommandOf words files (Faulty status text)
 come_fault words files status text (inl came) = came
 come_fault words files status text (inr (inl none)) = let no = none.1 in absurd (cc)
-come_fault words files status text (inr (inr memory)) = let no = memory.1 in absurd (cc)
+come_fault words files status text (inr (inr memory)) = absurd (cc)
 
 -- the status of an outcome
 abbrev Ended : ℕ → ℕ → Type 0
@@ -268,6 +373,10 @@ faulty words files status out err (Faulty number text) large come ends = fault_w
 faulty words files status out err Usage large come ends = absurd (omega (arith, large, ends.1.0))
 faulty words files status out err Memory large come ends = absurd (omega (arith, large, ends.0))
 
-pub other_words : (words : List (List ℕ)) (files : FilesTold) (status : ℕ) (out err : StreamTold) (outcome : Outcome) → IsNoCommand words → ComeTo words files outcome → Ends outcome status out err → status ≡ USAGE
-other_words words files status out err outcome none come ends =
-    let same = come_none words files outcome none come in (subst (λ o. Ends o status out err) same ends).1.0
+ends_none : (status : ℕ) (out err : StreamTold) (outcome : Outcome) → (outcome ≡ Usage) ⊎ (outcome ≡ Memory) → Ends outcome status out err → (status ≡ USAGE) ⊎ (status ≡ NO_MEMORY)
+ends_none status out err outcome (inl usage) ends = inl (subst (λ o. Ends o status out err) usage ends).1.0
+ends_none status out err outcome (inr memory) ends = inr (subst (λ o. Ends o status out err) memory ends).0
+
+pub other_words : (words : List (List ℕ)) (files : FilesTold) (status : ℕ) (out err : StreamTold) (outcome : Outcome) → IsNoCommand words → ComeTo words files outcome → Ends outcome status out err
+    → (status ≡ USAGE) ⊎ (status ≡ NO_MEMORY)
+other_words words files status out err outcome none come ends = ends_none status out err outcome (come_none words files outcome none come) ends

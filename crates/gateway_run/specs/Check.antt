@@ -14,7 +14,7 @@ use Rattle.cost_directives.specs.declared.fault.DirectiveFault.TheVariants.{Memo
 use Rattle.cost_directives.specs.declared.weights.Weights.{Weights}
 use Rattle.cost_directives.specs.DirectiveFaults.{Weighs}
 use Rattle.gateway_run.specs.declared.operation.TheConstants.{SCHEMA_LIMIT}
-use Rattle.gateway_run.specs.declared.checked.TheConstants.{UNDECLARED}
+use Rattle.command_words.specs.declared.command.TheConstants.{UNDECLARED}
 use Rattle.gateway_run.specs.declared.checked.SchemaRefusal.{SchemaRefusal}
 use Rattle.gateway_run.specs.declared.checked.SchemaRefusal.TheVariants.{TooLarge, NotText, NoSchemaText, Fails, Misuses}
 use Rattle.gateway_run.specs.declared.checked.CheckFault.{CheckFault}
@@ -41,6 +41,10 @@ HoldsChecked bytes schema = OfDefinitions bytes (λ definitions. Builds definiti
 -- Its cost directives pass every test too.
 abbrev pub HoldsWeighed : List ℕ → Schema → Type 0
 HoldsWeighed bytes schema = HoldsChecked bytes schema × ((weights : Weights) × Weighs (schema_data schema) UNDECLARED (Ok weights))
+
+-- It holds this schema, with these weights where lists that declare no size have this one.
+abbrev pub HoldsWith : List ℕ → ℕ → Schema → Weights → Type 0
+HoldsWith bytes undeclared schema weights = HoldsChecked bytes schema × Weighs (schema_data schema) undeclared (Ok weights)
 
 -- It holds a checked schema whose cost directives have this first fault.
 abbrev pub HoldsMisused : List ℕ → DirectiveFault → Type 0

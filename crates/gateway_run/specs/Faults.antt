@@ -2,7 +2,7 @@
 use Rattle.std.specs.Prelude.{Bool, true, false}
 use Rattle.document_reader.specs.declared.document.DocFault.{DocFault}
 use Rattle.document_reader.specs.declared.document.DocFault.TheVariants.{Lex, Unexpected, TooDeep, Memory as DocumentMemory}
-use Rattle.static_cost.specs.declared.bound.TooCostly.{TooCostly}
+use Rattle.static_cost.specs.declared.too_costly.TooCostly.{TooCostly}
 use Rattle.gateway_run.specs.declared.operation.Refusal.{Refusal}
 use Rattle.gateway_run.specs.declared.operation.Refusal.TheVariants.{NoDocument, TypesTooCostly, FieldsTooCostly, BothTooCostly}
 use Rattle.gateway_run.specs.declared.operation.OperationFault.{OperationFault}

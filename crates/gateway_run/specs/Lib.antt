@@ -1,4 +1,3 @@
-pub mod Commands
 pub mod Reading
 pub mod Texts
 pub mod Operations
@@ -7,6 +6,8 @@ pub mod Outcomes
 pub mod Refusals
 pub mod SchemaTexts
 pub mod Check
+pub mod Asked
 pub mod Price
+pub mod Worst
 pub mod Meter
 pub mod Program

@@ -62,10 +62,6 @@ pub record HoldOperation (schema document : List ℕ) (operation : List FirstNod
 abbrev pub OfOperation : List ℕ → List ℕ → (List FirstNode → Type 0) → Type 0
 OfOperation schema document P = (operation : List FirstNode) × HoldOperation schema document operation × P operation
 
--- The operation of the two files has this bound, which is within the cap, in both components.
-abbrev pub HasPrice : List ℕ → List ℕ → Cost → Type 0
-HasPrice schema document cost = OfOperation schema document (λ operation. IsBoundOf operation cost × IsWithinCap cost)
-
 -- Some response of the operation costs more than the cap, in just the components that the refusal names.
 abbrev pub IsTooCostly : List FirstNode → Refusal → Type 0
 IsTooCostly operation SchemaNotBuilt = ⊥

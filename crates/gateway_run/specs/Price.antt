@@ -2,20 +2,26 @@
 use Rattle.std.specs.Prelude.{◌≡◌, ◌⊎◌, ℕ, List}
 use Rattle.cost_num.specs.declared.Cost.{Cost}
 use Rattle.cost_num.specs.CostText.{cost_text}
+use Rattle.plan_table.specs.declared.table.Plan.{Plan}
+use Rattle.command_words.specs.declared.command.Asked.{Asked}
+use Rattle.acceptance.specs.Bounds.{IsAccepted}
+use Rattle.gateway_run.specs.declared.asked.AskedTexts.{AskedTexts}
+use Rattle.gateway_run.specs.declared.asking.Inputs.{Inputs}
 use Rattle.gateway_run.specs.declared.outcome.Outcome.{Outcome}
 use Rattle.gateway_run.specs.declared.outcome.Outcome.TheVariants.{Memory}
-use Rattle.gateway_run.specs.Reading.{OfFiles}
-use Rattle.gateway_run.specs.Operations.{HasPrice}
-use Rattle.gateway_run.specs.Refusals.{IsRefusedOperation}
-use Rattle.gateway_run.specs.Outcomes.{FilesTold, IsStopped, IsDone}
+use Rattle.gateway_run.specs.Outcomes.{FilesTold, IsDone}
+use Rattle.gateway_run.specs.Asked.{HoldTexts, HaveNoTexts, HoldInputs, request_in, IsAskedRefused}
 
--- By the bytes that were read of both files: the price is the output, or the operation is refused, or there was no memory.
-abbrev pub PriceOf : List ℕ → List ℕ → Outcome → Type 0
-PriceOf schema document outcome = (outcome ≡ Memory)
-    ⊎ ((cost : Cost) × HasPrice schema document cost × IsDone (cost_text cost) outcome)
-    ⊎ IsRefusedOperation schema document outcome
+-- The operation of the texts is accepted with this bound.
+abbrev pub HasPrice : Asked → AskedTexts → Cost → Type 0
+HasPrice asked texts cost = (inputs : Inputs) × HoldInputs asked texts inputs × ((plan : Plan) × IsAccepted (request_in asked inputs) plan cost)
 
--- A file was not read, or both were, and came to that.
-abbrev pub PriceCameTo : List ℕ → List ℕ → FilesTold → Outcome → Type 0
-PriceCameTo schema document files outcome = IsStopped (λ name. (name ≡ schema) ⊎ (name ≡ document)) files outcome
-    ⊎ OfFiles (files.content schema) (files.content document) (λ s d. PriceOf s d outcome)
+-- By the texts: the price is the output, or the operation is refused, or there was no memory.
+abbrev pub PriceOf : Asked → AskedTexts → Outcome → Type 0
+PriceOf asked texts outcome = (outcome ≡ Memory)
+    ⊎ ((cost : Cost) × HasPrice asked texts cost × IsDone (cost_text cost) outcome)
+    ⊎ IsAskedRefused asked texts outcome
+
+-- The files hold no texts, or they do, and came to that.
+abbrev pub PriceCameTo : Asked → FilesTold → Outcome → Type 0
+PriceCameTo asked files outcome = HaveNoTexts asked files outcome ⊎ ((texts : AskedTexts) × HoldTexts asked files.content texts × PriceOf asked texts outcome)

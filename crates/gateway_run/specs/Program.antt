@@ -1,24 +1,30 @@
 -- What the program does.
-use Rattle.std.specs.Prelude.{◌≡◌, ◌⊎◌, ℕ, List, Vec}
+use Rattle.std.specs.Prelude.{◌≡◌, ◌⊎◌, ℕ, List, Some, Vec}
 use Rattle.std.specs.declared.alloc.Global.{Global}
-use Rattle.gateway_run.specs.declared.command.Command.{Command}
-use Rattle.gateway_run.specs.declared.command.Command.TheVariants.{Check, Price, Meter}
-use Rattle.gateway_run.specs.declared.command.WordsFault.{WordsFault}
-use Rattle.gateway_run.specs.declared.command.WordsFault.TheVariants.{Usage as NoCommand, Memory as NoMemory}
+use Rattle.command_words.specs.declared.command.Command.{Command}
+use Rattle.command_words.specs.declared.command.Command.TheVariants.{Help, Version, Check, Price, Worst, Meter}
+use Rattle.command_words.specs.declared.command.Asked.{Asked}
+use Rattle.command_words.specs.declared.command.WordsFault.{WordsFault}
+use Rattle.command_words.specs.declared.command.WordsFault.TheVariants.{Usage as NoCommand, Memory as NoMemory}
 use Rattle.gateway_run.specs.declared.outcome.Outcome.{Outcome}
 use Rattle.gateway_run.specs.declared.outcome.Outcome.TheVariants.{Done, Refused, Faulty, Usage, Memory}
-use Rattle.gateway_run.specs.Commands.{Asks, IsNoCommand}
+use Rattle.command_words.specs.Words.{Asks, IsNoCommand}
+use Rattle.gateway_run.specs.declared.finish.TheConstants.{HELP_TEXT, VERSION_TEXT}
 use Rattle.outside.specs.Faults.{Rose}
 use Rattle.gateway_run.specs.Texts.{line, file_text}
-use Rattle.gateway_run.specs.Outcomes.{FilesTold, StreamTold, Gains, IsKept, HasFailed, FailsAmid, Ends}
+use Rattle.gateway_run.specs.Outcomes.{FilesTold, StreamTold, Gains, IsKept, IsDone, HasFailed, FailsAmid, Ends}
 use Rattle.gateway_run.specs.Check.{CheckCameTo}
 use Rattle.gateway_run.specs.Price.{PriceCameTo}
+use Rattle.gateway_run.specs.Worst.{WorstCameTo}
 use Rattle.gateway_run.specs.Meter.{MeterCameTo}
 
 -- What a command came to.
 abbrev pub CommandCameTo : Command → FilesTold → Outcome → Type 0
+CommandCameTo Help files outcome = IsDone HELP_TEXT.now outcome
+CommandCameTo Version files outcome = IsDone VERSION_TEXT.now outcome
 CommandCameTo (Check schema) files outcome = CheckCameTo schema files outcome
-CommandCameTo (Price schema document) files outcome = PriceCameTo schema document files outcome
+CommandCameTo (Price asked) files outcome = PriceCameTo asked files outcome
+CommandCameTo (Worst asked part) files outcome = WorstCameTo asked part files outcome
 CommandCameTo (Meter schema document reply) files outcome = MeterCameTo schema document reply files outcome
 
 -- The outcome of words that were not read into a command.
@@ -30,20 +36,27 @@ no_command NoMemory = Memory
 abbrev pub IsCommandOf : List (List ℕ) → FilesTold → Outcome → Type 0
 IsCommandOf words files outcome = (command : Command) × Asks words command × CommandCameTo command files outcome
 
--- What words came to: those of a command, what it came to; those of none, a wrong use; and there was no memory only for words of a command.
+-- What words came to: those of a command, what it came to; those of none, a wrong use; or there was no memory for them.
 abbrev pub ComeTo : List (List ℕ) → FilesTold → Outcome → Type 0
 ComeTo words files outcome = IsCommandOf words files outcome
     ⊎ (IsNoCommand words × (outcome ≡ Usage))
-    ⊎ ((¬ IsNoCommand words) × (outcome ≡ Memory))
+    ⊎ (outcome ≡ Memory)
 
 -- What words came to was written, and the status is its own.
 abbrev pub Runs : List (List ℕ) → ℕ → FilesTold → StreamTold → StreamTold → Type 0
 Runs words status files out err = (outcome : Outcome) × ComeTo words files outcome × Ends outcome status out err
 
+-- The names of an operation's files.
+abbrev pub IsAskedFile : Asked → List ℕ → Type 0
+IsAskedFile asked name = (name ≡ asked.schema) ⊎ (name ≡ asked.document) ⊎ (asked.variables ≡ Some name)
+
 -- The names of the command's files.
 abbrev pub IsFileOf : Command → List ℕ → Type 0
+IsFileOf Help name = ⊥
+IsFileOf Version name = ⊥
 IsFileOf (Check schema) name = name ≡ schema
-IsFileOf (Price schema document) name = (name ≡ schema) ⊎ (name ≡ document)
+IsFileOf (Price asked) name = IsAskedFile asked name
+IsFileOf (Worst asked part) name = IsAskedFile asked name
 IsFileOf (Meter schema document reply) name = (name ≡ schema) ⊎ (name ≡ document) ⊎ (name ≡ reply)
 
 -- A file of the command that the words ask for was not read; just the line that names it was written, or the error stream failed.

@@ -1,6 +1,9 @@
 -- What a read took of a file.
-use Rattle.std.specs.Prelude.{◌≡◌, ℕ, ◌+◌, ◌≤◌, List, Option, IfSome, IsUtf8, take, length}
+use Rattle.std.specs.Prelude.{◌≡◌, ℕ, ◌+◌, ◌≤◌, ◌<◌, ◌⊎◌, List, Option, IfSome, IsUtf8, take, length}
 use Rattle.gateway_run.specs.declared.operation.TheConstants.{SCHEMA_LIMIT, DOCUMENT_LIMIT}
+use Rattle.gateway_run.specs.declared.outcome.Outcome.{Outcome}
+use Rattle.gateway_run.specs.Texts.{too_large_text, not_text_text}
+use Rattle.gateway_run.specs.Outcomes.{FilesTold, IsStopped, IsRefusedAs}
 
 -- these bytes were read: the file's content, or of a longer file its first `limit` + 1 bytes, where its content is told
 abbrev pub IsRead : ℕ → Option (List ℕ) → List ℕ → Type 0
@@ -14,3 +17,17 @@ pub record IsText (limit : ℕ) (bytes : List ℕ) : Type 0 where
 -- The bytes that were read of a schema file and of a document file are ones for which this holds.
 abbrev pub OfFiles : Option (List ℕ) → Option (List ℕ) → (List ℕ → List ℕ → Type 0) → Type 0
 OfFiles schema document P = (s d : List ℕ) × IsRead SCHEMA_LIMIT schema s × IsRead DOCUMENT_LIMIT document d × P s d
+
+-- The file is this text.
+abbrev pub IsTextOf : ℕ → Option (List ℕ) → List ℕ → Type 0
+IsTextOf limit content text = IsRead limit content text × IsText limit text
+
+-- The bytes of the file of this name are longer than the limit, or no text, and that is told.
+abbrev pub IsNoText : ℕ → List ℕ → List ℕ → Outcome → Type 0
+IsNoText limit name bytes outcome = ((limit < length bytes) × IsRefusedAs (too_large_text name) outcome)
+    ⊎ ((length bytes ≤ limit) × (¬ IsUtf8 bytes) × IsRefusedAs (not_text_text name) outcome)
+
+-- The file of this name was not read, or holds no text within the limit.
+abbrev pub HasNoText : ℕ → List ℕ → FilesTold → Outcome → Type 0
+HasNoText limit name files outcome = IsStopped (λ other. other ≡ name) files outcome
+    ⊎ ((bytes : List ℕ) × IsRead limit (files.content name) bytes × IsNoText limit name bytes outcome)

@@ -10,7 +10,8 @@ use Rattle.cost_directives.specs.declared.fault.DirectiveFault.{DirectiveFault}
 use Rattle.cost_directives.specs.declared.fault.DirectiveFault.TheVariants as directive
 use Rattle.gateway_run.specs.declared.checked.SchemaRefusal.{SchemaRefusal}
 use Rattle.gateway_run.specs.declared.checked.SchemaRefusal.TheVariants.{TooLarge, NotText, NoSchemaText, Fails, Misuses}
-use Rattle.gateway_run.specs.Texts.{placed, naming, lexical_text, too_large_text, not_text_text}
+use Rattle.acceptance.specs.Texts.{placed, naming, lexical_text}
+use Rattle.gateway_run.specs.Texts.{too_large_text, not_text_text}
 
 -- how many types and fields a schema has
 abbrev pub counts_text : ℕ → ℕ → List ℕ

@@ -1,10 +1,7 @@
 -- The lines that the commands write.
 use Rattle.std.specs.Prelude.{ℕ, List, [], ◌∷◌, ◌++◌, codes}
 use Rattle.std.specs.Fmt.{decimal}
-use Rattle.gql_base.specs.declared.lexical.lexing.LexFault.{LexFault}
-use Rattle.gql_base.specs.declared.lexical.lexing.LexFault.TheVariants as lexical
-use Rattle.document_reader.specs.declared.document.DocFault.{DocFault}
-use Rattle.document_reader.specs.declared.document.DocFault.TheVariants.{Lex, Unexpected, TooDeep, Memory as DocumentMemory}
+use Rattle.acceptance.specs.Texts.{naming, document_text}
 use Rattle.response_meter.specs.declared.fault.Why.{Why}
 use Rattle.response_meter.specs.declared.fault.Why.TheVariants.{NotJson, NotObject, NoData, BadErrors, MissingKey, ExtraKey, NullHere, NotList, BadLeaf, BadType, BadObject}
 use Rattle.response_meter.specs.declared.fault.MeterFault.{MeterFault}
@@ -15,30 +12,6 @@ use Rattle.gateway_run.specs.declared.operation.Refusal.TheVariants.{SchemaNotBu
 -- a text and its line end
 abbrev pub line : List ℕ → List ℕ
 line text = text ++ (10 ∷ [])
-
--- a text, a space, and a place
-abbrev pub placed : List ℕ → ℕ → List ℕ
-placed text at = text ++ (32 ∷ decimal at)
-
--- a text, a space, and the name or the place of what is at fault
-abbrev pub naming : List ℕ → List ℕ → List ℕ
-naming text name = text ++ (32 ∷ name)
-
--- what is wrong with the tokens of a text, with its place; want of memory has no text
-abbrev pub lexical_text : LexFault → List ℕ
-lexical_text (lexical.BadChar at) = placed (codes "1 Lex 1 BadChar") at
-lexical_text (lexical.BadNumber at) = placed (codes "1 Lex 2 BadNumber") at
-lexical_text (lexical.OpenText at) = placed (codes "1 Lex 3 OpenText") at
-lexical_text (lexical.BadEscape at) = placed (codes "1 Lex 4 BadEscape") at
-lexical_text (lexical.FloatValue at) = placed (codes "1 Lex 5 FloatValue") at
-lexical_text lexical.Memory = []
-
--- a fault of a document with its place; want of memory has no text
-abbrev pub document_text : DocFault → List ℕ
-document_text (Lex fault) = codes "document " ++ lexical_text fault
-document_text (Unexpected at) = placed (codes "document 2 Unexpected") at
-document_text (TooDeep at) = placed (codes "document 3 TooDeep") at
-document_text DocumentMemory = []
 
 -- the stage, the number of the fault, its name and its fields
 abbrev pub refusal_text : Refusal → List ℕ

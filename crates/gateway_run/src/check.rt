@@ -10,7 +10,7 @@ use crate::inputs::read_file;
 use crate::operation::SCHEMA_LIMIT;
 use crate::outcome::Outcome;
 use crate::schema_texts::refused_schema;
-use crate::texts::placed;
+use acceptance::texts::placed;
 use gql_base::Text;
 use outside::Files;
 use std::alloc::{AllocError, Global};

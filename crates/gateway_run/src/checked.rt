@@ -4,9 +4,10 @@ ghost use Rattle.std.specs.Prelude.{◌≡◌, IfOk, IfErr};
 ghost use Rattle.schema_reader.specs.SchemaAnswers.{HasSchema};
 ghost use Rattle.schema_reader.specs.Trees.{schema_trees};
 ghost use Rattle.gateway_run.specs.Reading.{IsText};
-ghost use Rattle.gateway_run.specs.Check.{HoldsDefinitions, HoldsChecked, HoldsWeighed, IsUnchecked, IfUnchecked, TellsText, TellsTest, TellsDirective};
+ghost use Rattle.gateway_run.specs.Check.{HoldsDefinitions, HoldsChecked, HoldsWeighed, HoldsWith, IsUnchecked, IfUnchecked, TellsText, TellsTest, TellsDirective};
 
 use crate::operation::SCHEMA_LIMIT;
+use command_words::UNDECLARED;
 use cost_directives::{DirectiveFault, Weights};
 use gql_base::Text;
 use schema_model::{Schema, SchemaFault};
@@ -14,8 +15,12 @@ use schema_reader::{SchemaText, SchemaTextFault, read_schema_text};
 use std::alloc::Global;
 use thiserror::Error;
 
-/// The size of lists that declare none, where no other is given.
-pub const UNDECLARED: u32 = 10;
+/// A checked schema, and its weights.
+#[derive(Drop)]
+pub struct Weighed {
+    pub schema: Schema,
+    pub weights: Weights,
+}
 
 /// Why a schema file is refused.
 #[derive(Debug, Drop, Error)]
@@ -120,18 +125,18 @@ fn schema_in(alloc: Global, text: &str) -> Result<Schema, CheckFault>
     }
 }
 
-// The same, where its cost directives pass every test too.
-fn weighed_in(alloc: Global, text: &str) -> Result<Schema, CheckFault>
+/// The schema that the definitions of a text are, with its weights, where lists that declare no size have this one.
+pub fn weighed_in(alloc: Global, text: &str, undeclared: u32) -> Result<Weighed, CheckFault>
     requires text { IsText SCHEMA_LIMIT text.now }
-    ensures held { IfOk result (HoldsWeighed text.now) }
+    ensures held { IfOk result (λ w. HoldsWith text.now undeclared w.schema w.weights) }
     ensures refused { IfErr result (λ fault. IfUnchecked fault text.now) }
 {
     let schema = match schema_in(alloc, text) {
         Ok(schema) => schema,
         Err(fault) => return Err(fault),
     };
-    match Weights::build(alloc, &schema, UNDECLARED) {
-        Ok(_) => Ok(schema),
+    match Weights::build(alloc, &schema, undeclared) {
+        Ok(weights) => Ok(Weighed { schema, weights }),
         Err(fault) => Err(directive_fault(fault)),
     }
 }
@@ -142,7 +147,10 @@ pub fn checked_schema(alloc: Global, read: Vec<u8>) -> Result<Schema, CheckFault
     ensures refused { IfErr result (λ fault. IfUnchecked fault read.items) }
 {
     match schema_text_of(read) {
-        Ok(text) => weighed_in(alloc, text.as_str()),
+        Ok(text) => match weighed_in(alloc, text.as_str(), UNDECLARED) {
+            Ok(weighed) => Ok(weighed.schema),
+            Err(fault) => Err(fault),
+        },
         Err(refusal) => Err(CheckFault::Refused(refusal)),
     }
 }

@@ -14,11 +14,30 @@ use outside::{Sink, WriteFault, write_whole};
 /// How the program is used.
 pub const USAGE_TEXT: &[u8] = b"usage: tellcrock check SCHEMA
   prints how many types and fields a schema has, or which test it doesn't pass
-usage: tellcrock price SCHEMA DOCUMENT
+usage: tellcrock price SCHEMA DOCUMENT [--variables FILE] [--operation NAME] [--unsized N]
   prints the greatest type cost and the greatest field cost that a response can have
+usage: tellcrock worst SCHEMA DOCUMENT types|fields [--variables FILE] [--operation NAME] [--unsized N]
+  prints a response that costs as much as any
 usage: tellcrock meter SCHEMA DOCUMENT REPLY
   prints what a reply cost, and the answer for its client
+usage: tellcrock --help
+usage: tellcrock --version
 ";
+
+/// The same, as the output of a command.
+pub const HELP_TEXT: &[u8] = b"usage: tellcrock check SCHEMA
+  prints how many types and fields a schema has, or which test it doesn't pass
+usage: tellcrock price SCHEMA DOCUMENT [--variables FILE] [--operation NAME] [--unsized N]
+  prints the greatest type cost and the greatest field cost that a response can have
+usage: tellcrock worst SCHEMA DOCUMENT types|fields [--variables FILE] [--operation NAME] [--unsized N]
+  prints a response that costs as much as any
+usage: tellcrock meter SCHEMA DOCUMENT REPLY
+  prints what a reply cost, and the answer for its client
+usage: tellcrock --help
+usage: tellcrock --version";
+
+/// The program and its version.
+pub const VERSION_TEXT: &[u8] = b"tellcrock 1.0";
 
 // Writes a text and its line end.
 fn write_line<K: Sink>(to: &mut K, text: &[u8]) -> Result<(), WriteFault>

@@ -1,20 +1,17 @@
 //! What holds of all files and replies. These functions do nothing: their contracts are the laws.
 
 ghost use Rattle.std.specs.Prelude.{◌≡◌, ℕ, List};
-ghost use Rattle.cost_num.specs.declared.Cost.{Cost as CostType};
 ghost use Rattle.response_meter.specs.declared.metered.FirstMetered.{FirstMetered};
 ghost use Rattle.response_meter.specs.declared.fault.MeterFault.{MeterFault};
 ghost use Rattle.gateway_run.specs.declared.operation.Refusal.{Refusal};
-ghost use Rattle.gateway_run.specs.Operations.{HasPrice, IsRefused, IsMeasured, IsFaulty};
+ghost use Rattle.gateway_run.specs.Operations.{IsRefused, IsMeasured, IsFaulty};
 
 use document_reader::a_text_is_a_document_or_has_one_fault;
 use first_form::{a_document_stands_for_one_operation, a_text_is_one_schema};
 use response_meter::laws::one_reply;
-use response_model::laws::one_bound;
 
-/// An operation that is refused has no price, and no reply to it is measured or faulty.
+/// No reply to an operation that is refused is measured or faulty.
 pub fn a_refusal_excludes_all_else()
-    ensures price { (schema document : List ℕ) (refusal : Refusal) (cost : CostType) → IsRefused schema document refusal → HasPrice schema document cost → ⊥ }
     ensures measure { (schema document reply : List ℕ) (refusal : Refusal) (metered : FirstMetered) → IsRefused schema document refusal → IsMeasured schema document reply metered → ⊥ }
     ensures fault { (schema document reply : List ℕ) (refusal : Refusal) (fault : MeterFault) → IsRefused schema document refusal → IsFaulty schema document reply fault → ⊥ }
 {
@@ -30,15 +27,6 @@ pub fn two_files_have_one_refusal()
     a_text_is_one_schema();
     a_document_stands_for_one_operation();
     a_text_is_a_document_or_has_one_fault();
-}
-
-/// Two files have one price at most.
-pub fn two_files_have_one_price()
-    ensures { (schema document : List ℕ) (cost other : CostType) → HasPrice schema document cost → HasPrice schema document other → cost ≡ other }
-{
-    a_text_is_one_schema();
-    a_document_stands_for_one_operation();
-    one_bound();
 }
 
 /// A reply is measured in one way at most.

@@ -3,10 +3,11 @@
 //! Words are read into a command, a command comes to an outcome, and an outcome is written.
 #![tactic(auto)]
 
+mod asked;
+mod asking;
 mod check;
 mod check_laws;
 mod checked;
-mod command;
 mod finish;
 mod inputs;
 mod laws;
@@ -21,12 +22,13 @@ mod status_laws;
 #[cfg(test)]
 mod tests;
 mod texts;
+mod worst;
 
 pub use check_laws::a_schema_file_has_one_check;
-pub use command::WordsFault;
+pub use command_words::WordsFault;
 pub use laws::{
     a_refusal_excludes_all_else, a_reply_has_one_measure, a_reply_is_measured_or_has_one_fault,
-    two_files_have_one_price, two_files_have_one_refusal,
+    two_files_have_one_refusal,
 };
 pub use outcome::{
     DONE, FILE_FAILED, NO_MEMORY, NOT_RESPONSE, REFUSED, SIZE_BROKEN, STREAM_FAILED, USAGE,

@@ -1,23 +1,31 @@
 //! The command `price SCHEMA DOCUMENT`.
 
-ghost use Rattle.std.specs.Prelude.{◌≡◌, IfOk};
+ghost use Rattle.std.specs.Prelude.{◌≡◌, ◌≤◌, IfOk, IfErr};
 ghost use Rattle.cost_num.specs.CostText.{cost_text};
-ghost use Rattle.static_cost.specs.FirstBound.{IsWithinCap};
+ghost use Rattle.response_model.specs.Cost.{Part as PartOfCost};
+ghost use Rattle.static_cost.specs.Worst.{IsCounted};
+ghost use Rattle.acceptance.specs.Bounds.{IsAccepted};
+ghost use Rattle.acceptance.specs.Requests.{request_data, IsOfSchema};
+ghost use Rattle.gateway_run.specs.Reading.{IsText};
 ghost use Rattle.gateway_run.specs.Outcomes.{files_told, IsDone};
-ghost use Rattle.gateway_run.specs.Price.{PriceOf, PriceCameTo};
+ghost use Rattle.gateway_run.specs.Asked.{HoldInputs, request_in, IsNoOperationOf, IsRefusalOf, IfAskedRefused};
+ghost use Rattle.gateway_run.specs.Price.{HasPrice, PriceOf, PriceCameTo};
 
-use crate::inputs::read_inputs;
-use crate::operation::{OperationFault, bounded_operation};
+use crate::asked::{AskedTexts, read_asked};
+use crate::asking::{AskedFault, AskedRefusal, Inputs, inputs_in, refused_asked, request_of};
+use crate::operation::SCHEMA_LIMIT;
 use crate::outcome::Outcome;
-use crate::texts::refused;
-use cost_num::{Cost, cost_bytes};
-use gql_base::Text;
+use acceptance::{AcceptFault, Accepted, Request, accept};
+use command_words::Asked;
+use cost_num::{CAP, Cost, cost_bytes};
 use outside::Files;
+use plan_model::laws::built_schemas_can_be_filled;
 use std::alloc::{AllocError, Global};
 
 /// The text of a cost.
 pub fn text_of_cost(alloc: Global, cost: Cost) -> Result<Vec<u8>, AllocError>
-    requires within_cap { IsWithinCap cost }
+    requires types_within { cost.types ≤ CAP }
+    requires fields_within { cost.fields ≤ CAP }
     ensures { IfOk result (λ text. text.items ≡ cost_text cost) }
 {
     let mut buffer = [0u8; 48];
@@ -27,7 +35,8 @@ pub fn text_of_cost(alloc: Global, cost: Cost) -> Result<Vec<u8>, AllocError>
 
 // The outcome of an operation that has this price.
 fn priced(alloc: Global, cost: Cost) -> Outcome
-    requires within_cap { IsWithinCap cost }
+    requires types_within { cost.types ≤ CAP }
+    requires fields_within { cost.fields ≤ CAP }
     ensures { IsDone (cost_text cost) result }
 {
     match text_of_cost(alloc, cost) {
@@ -36,23 +45,80 @@ fn priced(alloc: Global, cost: Cost) -> Outcome
     }
 }
 
-// What the bytes of a schema file and of a document file come to.
-fn price_bytes(alloc: Global, schema: Vec<u8>, document: Vec<u8>) -> Outcome
-    ensures { PriceOf schema.items document.items result }
+// What is asked, where it is accepted.
+fn accepted_request<'a>(alloc: Global, request: &Request<'a>) -> Result<Accepted<'a>, AskedFault>
+    requires of_schema { IsOfSchema (request_data request.now) }
+    ensures accepted { IfOk result (λ a. IsAccepted (request_data request.now) a.plan a.bound) }
+    ensures schema { IfOk result (λ a. a.plan.schema.now ≡ request.now.schema.now) }
+    ensures counted { IfOk result (λ a. (part : PartOfCost) → IsCounted a.plan part) }
+    ensures refused { IfErr result (λ fault. IfAskedRefused fault (IsNoOperationOf (request_data request.now))) }
 {
-    match bounded_operation(alloc, schema, document) {
-        Ok(bounded) => priced(alloc, bounded.bound),
-        Err(OperationFault::Refused(refusal)) => refused(alloc, refusal),
-        Err(OperationFault::Memory) => Outcome::Memory,
+    match accept(alloc, request) {
+        Ok(accepted) => Ok(accepted),
+        Err(AcceptFault::Refused(refusal)) => {
+            Err(AskedFault::Refused(AskedRefusal::NoOperation(refusal)))
+        }
+        Err(AcceptFault::Memory) => Err(AskedFault::Memory),
     }
 }
 
-/// Prices the operation that two files hold.
-pub fn price<F: Files>(alloc: Global, schema: Text, document: Text, files: &mut F) -> Outcome
-    ensures { PriceCameTo schema document (files_told (F.content files.old) (F.faults files.old) (F.faults files.new)) result }
+/// The operation of these inputs, where it is accepted.
+pub fn accepted<'a>(
+    alloc: Global,
+    asked: &'a Asked,
+    texts: &AskedTexts,
+    inputs: &'a Inputs,
+) -> Result<Accepted<'a>, AskedFault>
+    requires held { HoldInputs asked.now texts.now inputs.now }
+    ensures accepted { IfOk result (λ a. IsAccepted (request_in asked.now inputs.now) a.plan a.bound) }
+    ensures schema { IfOk result (λ a. a.plan.schema.now ≡ inputs.now.weighed.schema) }
+    ensures counted { IfOk result (λ a. (part : PartOfCost) → IsCounted a.plan part) }
+    ensures refused { IfErr result (λ fault. IfAskedRefused fault (IsRefusalOf asked.now texts.now)) }
 {
-    match read_inputs(alloc, schema, document, files) {
-        Ok(read) => price_bytes(alloc, read.schema, read.document),
+    built_schemas_can_be_filled();
+    let request = request_of(asked, inputs);
+    match accepted_request(alloc, &request) {
+        Ok(accepted) => Ok(accepted),
+        Err(fault) => Err(fault),
+    }
+}
+
+// The bound of the operation of these texts.
+fn bound_in(alloc: Global, asked: &Asked, texts: &AskedTexts) -> Result<Cost, AskedFault>
+    requires text { IsText SCHEMA_LIMIT texts.now.schema }
+    ensures bound { IfOk result (HasPrice asked.now texts.now) }
+    ensures types_within { IfOk result (λ cost. cost.types ≤ CAP) }
+    ensures fields_within { IfOk result (λ cost. cost.fields ≤ CAP) }
+    ensures refused { IfErr result (λ fault. IfAskedRefused fault (IsRefusalOf asked.now texts.now)) }
+{
+    let inputs = match inputs_in(alloc, asked, texts) {
+        Ok(inputs) => inputs,
+        Err(fault) => return Err(fault),
+    };
+    match accepted(alloc, asked, texts, &inputs) {
+        Ok(accepted) => Ok(accepted.bound),
+        Err(fault) => Err(fault),
+    }
+}
+
+// What the texts of an operation's files come to.
+fn price_texts(alloc: Global, asked: &Asked, texts: &AskedTexts) -> Outcome
+    requires text { IsText SCHEMA_LIMIT texts.now.schema }
+    ensures { PriceOf asked.now texts.now result }
+{
+    match bound_in(alloc, asked, texts) {
+        Ok(bound) => priced(alloc, bound),
+        Err(AskedFault::Refused(refusal)) => refused_asked(alloc, asked, refusal),
+        Err(AskedFault::Memory) => Outcome::Memory,
+    }
+}
+
+/// Prices the operation that files hold.
+pub fn price<F: Files>(alloc: Global, asked: &Asked, files: &mut F) -> Outcome
+    ensures { PriceCameTo asked.now (files_told (F.content files.old) (F.faults files.old) (F.faults files.new)) result }
+{
+    match read_asked(alloc, asked, files) {
+        Ok(texts) => price_texts(alloc, asked, &texts),
         Err(outcome) => outcome,
     }
 }

@@ -1,26 +1,40 @@
 //! The one call that does all of the program.
 
 ghost use Rattle.std.specs.Prelude.{◌≡◌};
-ghost use Rattle.gateway_run.specs.Outcomes.{files_told, stream_told, Ends};
+ghost use Rattle.gateway_run.specs.Outcomes.{files_told, stream_told, IsDone, Ends};
 ghost use Rattle.gateway_run.specs.Program.{no_command, CommandCameTo, ComeTo, Runs};
 
 use crate::check::check;
-use crate::command::{Command, WordsFault, command_of};
-use crate::finish::finish;
+use crate::finish::{HELP_TEXT, VERSION_TEXT, finish};
 use crate::meter::meter;
 use crate::outcome::Outcome;
 use crate::price::price;
+use crate::worst::worst;
+use command_words::{Command, WordsFault, command_of};
 use gql_base::Text;
 use outside::{Files, Sink};
 use std::alloc::Global;
+
+// The outcome of a command with this output.
+fn done(alloc: Global, output: &[u8]) -> Outcome
+    ensures { IsDone output.now result }
+{
+    match Vec::from_slice(alloc, output) {
+        Ok(output) => Outcome::Done(output),
+        Err(_) => Outcome::Memory,
+    }
+}
 
 // Does a command, and gives what it came to.
 fn outcome_of<F: Files>(alloc: Global, command: Command, files: &mut F) -> Outcome
     ensures { CommandCameTo command (files_told (F.content files.old) (F.faults files.old) (F.faults files.new)) result }
 {
     match command {
+        Command::Help => done(alloc, HELP_TEXT),
+        Command::Version => done(alloc, VERSION_TEXT),
         Command::Check { schema } => check(alloc, schema, files),
-        Command::Price { schema, document } => price(alloc, schema, document, files),
+        Command::Price { asked } => price(alloc, &asked, files),
+        Command::Worst { asked, part } => worst(alloc, &asked, part, files),
         Command::Meter {
             schema,
             document,

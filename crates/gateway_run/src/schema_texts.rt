@@ -6,9 +6,8 @@ ghost use Rattle.gateway_run.specs.Outcomes.{IsRefusedAs};
 
 use crate::checked::SchemaRefusal;
 use crate::outcome::Outcome;
-use crate::texts::{
-    placed, refused_as, refused_at, refused_lexical, refused_naming, refused_naming_both,
-};
+use crate::texts::{refused_as, refused_at, refused_lexical, refused_naming, refused_naming_both};
+use acceptance::texts::placed;
 use cost_directives::DirectiveFault;
 use cost_num::WeightFault;
 use gql_base::Text;

@@ -1,52 +1,16 @@
 //! The texts of refusals.
 
-ghost use Rattle.std.specs.Prelude.{◌≡◌, ◌++◌, IfOk, IfSome, IfNone, string_bytes};
-ghost use Rattle.gateway_run.specs.Texts.{placed, naming, lexical_text, document_text, refusal_text};
+ghost use Rattle.std.specs.Prelude.{◌++◌};
+ghost use Rattle.acceptance.specs.Texts.{placed, naming, lexical_text, document_text};
+ghost use Rattle.gateway_run.specs.Texts.{refusal_text};
 ghost use Rattle.gateway_run.specs.Outcomes.{IsRefusedAs};
 
 use crate::operation::Refusal;
 use crate::outcome::Outcome;
+use acceptance::texts::{lexical_place, named, named_twice, placed, placed_in};
 use document_reader::DocFault;
 use gql_base::{LexFault, Text};
-use std::alloc::{AllocError, Global};
-
-// What stands before the place of what is wrong with the tokens of a text, and the place; nothing where the fault is want
-// of memory.
-fn lexical_place(fault: LexFault) -> Option<(&'static str, usize)>
-    ensures text { IfSome result (λ told. placed told.0.now told.1 ≡ lexical_text fault) }
-    ensures none { IfNone result (fault ≡ LexFault.Memory) }
-{
-    match fault {
-        LexFault::BadChar { at } => Some(("1 Lex 1 BadChar", at)),
-        LexFault::BadNumber { at } => Some(("1 Lex 2 BadNumber", at)),
-        LexFault::OpenText { at } => Some(("1 Lex 3 OpenText", at)),
-        LexFault::BadEscape { at } => Some(("1 Lex 4 BadEscape", at)),
-        LexFault::FloatValue { at } => Some(("1 Lex 5 FloatValue", at)),
-        LexFault::Memory => None,
-    }
-}
-
-/// A text, a space, and a place or a number.
-pub fn placed(alloc: Global, text: &str, at: usize) -> Result<String, AllocError>
-    ensures { IfOk result (λ told. string_bytes told ≡ placed text.now at) }
-{
-    format!(in alloc; "{text} {at}")
-}
-
-// The same behind a stage.
-fn placed_in(alloc: Global, stage: &str, text: &str, at: usize) -> Result<String, AllocError>
-    ensures { IfOk result (λ told. string_bytes told ≡ stage.now ++ placed text.now at) }
-{
-    format!(in alloc; "{stage}{text} {at}")
-}
-
-// A text and a name after it.
-fn named(alloc: Global, text: &str, name: &Text) -> Result<String, AllocError>
-    ensures { IfOk result (λ told. string_bytes told ≡ naming text.now name.now) }
-{
-    let name = name.as_str();
-    format!(in alloc; "{text} {name}")
-}
+use std::alloc::Global;
 
 /// The outcome of a refusal with this text.
 pub fn refused_as(alloc: Global, text: &str) -> Outcome
@@ -76,14 +40,6 @@ pub fn refused_naming(alloc: Global, text: &str, name: &Text) -> Outcome
         Ok(text) => Outcome::Refused(Text::from(text)),
         Err(_) => Outcome::Memory,
     }
-}
-
-// A text and two names after it.
-fn named_twice(alloc: Global, text: &str, name: &Text, other: &Text) -> Result<String, AllocError>
-    ensures { IfOk result (λ told. string_bytes told ≡ naming (naming text.now name.now) other.now) }
-{
-    let first = named(alloc, text, name)?;
-    named(alloc, first.as_str(), other)
 }
 
 /// The outcome of a refusal with this text, a place and a name.

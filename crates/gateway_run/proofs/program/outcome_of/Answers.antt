@@ -6,3 +6,11 @@ use Rattle.gateway_run.proofs.program.outcome_of.Goals as goal
 pub returns-in-Check : goal.returns-in-Check
 returns-in-Check g c =
     subst (λ command. CommandCameTo command (files_told (g.F.Files.content c.args.files.now) (g.F.Files.faults c.args.files.now) (g.F.Files.faults c.check.new.files)) c.check.result) (sym c.in-Check.is) c.check.ensures
+
+pub returns-in-Price : goal.returns-in-Price
+returns-in-Price g c =
+    subst (λ command. CommandCameTo command (files_told (g.F.Files.content c.args.files.now) (g.F.Files.faults c.args.files.now) (g.F.Files.faults c.price.new.files)) c.price.result) (sym c.in-Price.is) c.price.ensures
+
+pub returns-in-Worst : goal.returns-in-Worst
+returns-in-Worst g c =
+    subst (λ command. CommandCameTo command (files_told (g.F.Files.content c.args.files.now) (g.F.Files.faults c.args.files.now) (g.F.Files.faults c.worst.new.files)) c.worst.result) (sym c.in-Worst.is) c.worst.ensures

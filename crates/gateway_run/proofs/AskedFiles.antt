@@ -1,0 +1,31 @@
+-- Files that are read one after another.
+use Rattle.std.proofs.Common.{◌≡◌, ◌≤◌, ◌<◌, ◌⊎◌, inl, inr, ℕ, List, Option, None, Some, subst, arith}
+use Rattle.outside.specs.Faults.{Rose}
+use Rattle.gateway_run.specs.declared.outcome.Outcome.{Outcome}
+use Rattle.gateway_run.specs.declared.outcome.Outcome.TheVariants.{Done, Refused, FileFailed, Faulty, Usage, Memory}
+use Rattle.gateway_run.specs.declared.asked.TheConstants.{VARIABLES_LIMIT}
+use Rattle.gateway_run.specs.Outcomes.{FilesTold, files_told, IsStopped}
+use Rattle.gateway_run.specs.Reading.{IsRead, IsNoText, HasNoText}
+use Rattle.gateway_run.specs.Asked.{HasNoVariables}
+
+rose_sooner : (before at after : ℕ) → before ≤ at → Rose at after → Rose before after
+rose_sooner before at after later (inl less) = inl (omega (arith, later, less))
+rose_sooner before at after later (inr last) = inr last
+
+module _ (content later : List ℕ → Option (List ℕ)) (before at after : List ℕ → ℕ) (same : later ≡ content) (rising : (name : List ℕ) → before name ≤ at name) where
+  stopped_sooner : (IsName : List ℕ → Type 0) (outcome : Outcome) → IsStopped IsName (files_told later at after) outcome → IsStopped IsName (files_told content before after) outcome
+  stopped_sooner IsName (Done output) stopped = absurd stopped
+  stopped_sooner IsName (Refused text) stopped = absurd stopped
+  stopped_sooner IsName (FileFailed name) stopped = (stopped.0, rose_sooner (before name) (at name) (after name) (rising name) stopped.1)
+  stopped_sooner IsName (Faulty status text) stopped = absurd stopped
+  stopped_sooner IsName Usage stopped = absurd stopped
+  stopped_sooner IsName Memory stopped = tt
+
+  -- a file that holds no text after another one was read
+  pub no_text_sooner : (limit : ℕ) (name : List ℕ) (outcome : Outcome) → HasNoText limit name (files_told later at after) outcome → HasNoText limit name (files_told content before after) outcome
+  no_text_sooner limit name outcome (inl stopped) = inl (stopped_sooner (λ other. other ≡ name) outcome stopped)
+  no_text_sooner limit name outcome (inr read) = inr (subst (λ c. (bytes : List ℕ) × IsRead limit (c name) bytes × IsNoText limit name bytes outcome) same read)
+
+  pub no_variables_sooner : (name : Option (List ℕ)) (outcome : Outcome) → HasNoVariables name (files_told later at after) outcome → HasNoVariables name (files_told content before after) outcome
+  no_variables_sooner None outcome none = none
+  no_variables_sooner (Some name) outcome none = no_text_sooner VARIABLES_LIMIT name outcome none

@@ -1,0 +1,109 @@
+//! The files of an operation: reading them, and what they hold.
+
+ghost use Rattle.std.specs.Prelude.{◌≡◌, ◌≤◌, ℕ, List, IfOk, IfErr};
+ghost use Rattle.gateway_run.specs.Reading.{IsText, IsTextOf, IsNoText, HasNoText};
+ghost use Rattle.gateway_run.specs.Outcomes.{files_told};
+ghost use Rattle.gateway_run.specs.Asked.{HoldVariables, HasNoVariables, HoldTexts, HaveNoTexts};
+
+use crate::inputs::read_file;
+use crate::operation::{DOCUMENT_LIMIT, SCHEMA_LIMIT};
+use crate::outcome::Outcome;
+use crate::texts::refused_naming;
+use command_words::Asked;
+use gql_base::Text;
+use outside::Files;
+use std::alloc::Global;
+
+/// How many bytes a file of variables may have.
+pub const VARIABLES_LIMIT: usize = 4_194_304;
+
+/// The texts of an operation's files.
+#[derive(Drop)]
+pub struct AskedTexts {
+    pub schema: Text,
+    pub document: Text,
+    /// The values that are given for variables, where a file of them is named.
+    pub variables: Option<Text>,
+}
+
+// The text that the bytes of a file are.
+fn text_in(alloc: Global, name: &Text, limit: usize, read: Vec<u8>) -> Result<Text, Outcome>
+    ensures text { IfOk result (λ text. (text ≡ read.items) × IsText limit read.items) }
+    ensures refused { IfErr result (IsNoText limit name.now read.items) }
+{
+    if read.len() > limit {
+        return Err(refused_naming(alloc, "input 1 TooLarge", name));
+    }
+    match Text::from_utf8(read) {
+        Ok(text) => Ok(text),
+        Err(_) => Err(refused_naming(alloc, "input 2 NotText", name)),
+    }
+}
+
+// The text that a file holds.
+fn read_text<F: Files>(
+    alloc: Global,
+    name: &Text,
+    limit: usize,
+    files: &mut F,
+) -> Result<Text, Outcome>
+    ensures held { IfOk result (IsTextOf limit (F.content files.old name.now)) }
+    ensures same { F.content files.new ≡ F.content files.old }
+    ensures count { (other : List ℕ) → F.faults files.old other ≤ F.faults files.new other }
+    ensures none { IfErr result (HasNoText limit name.now (files_told (F.content files.old) (F.faults files.old) (F.faults files.new))) }
+{
+    let Ok(own) = Text::copy_of(alloc, name.as_str()) else {
+        return Err(Outcome::Memory);
+    };
+    match read_file(alloc, own, limit, files) {
+        Ok(read) => text_in(alloc, name, limit, read),
+        Err(outcome) => Err(outcome),
+    }
+}
+
+// The text that the file of the variables holds, where one is named.
+fn read_variables<F: Files>(
+    alloc: Global,
+    name: &Option<Text>,
+    files: &mut F,
+) -> Result<Option<Text>, Outcome>
+    ensures held { IfOk result (HoldVariables name.now (F.content files.old)) }
+    ensures same { F.content files.new ≡ F.content files.old }
+    ensures count { (other : List ℕ) → F.faults files.old other ≤ F.faults files.new other }
+    ensures none { IfErr result (HasNoVariables name.now (files_told (F.content files.old) (F.faults files.old) (F.faults files.new))) }
+{
+    match name {
+        Some(name) => match read_text(alloc, name, VARIABLES_LIMIT, files) {
+            Ok(text) => Ok(Some(text)),
+            Err(outcome) => Err(outcome),
+        },
+        None => Ok(None),
+    }
+}
+
+/// Reads the files of an operation, each whole before the next.
+pub fn read_asked<F: Files>(
+    alloc: Global,
+    asked: &Asked,
+    files: &mut F,
+) -> Result<AskedTexts, Outcome>
+    ensures held { IfOk result (HoldTexts asked.now (F.content files.old)) }
+    ensures none { IfErr result (HaveNoTexts asked.now (files_told (F.content files.old) (F.faults files.old) (F.faults files.new))) }
+{
+    let schema = match read_text(alloc, &asked.schema, SCHEMA_LIMIT, files) {
+        Ok(schema) => schema,
+        Err(outcome) => return Err(outcome),
+    };
+    let document = match read_text(alloc, &asked.document, DOCUMENT_LIMIT, files) {
+        Ok(document) => document,
+        Err(outcome) => return Err(outcome),
+    };
+    match read_variables(alloc, &asked.variables, files) {
+        Ok(variables) => Ok(AskedTexts {
+            schema,
+            document,
+            variables,
+        }),
+        Err(outcome) => Err(outcome),
+    }
+}
