@@ -18,9 +18,10 @@ use gql_base::{
 };
 use std::alloc::{AllocError, Global};
 
-/// Arguments in parentheses, or nothing where there are none.
+/// Writes arguments in parentheses, or nothing where there are none (GraphQL October 2021, 2.6). It fails for want of memory
+/// alone.
 #[tactic(auto, using(crate::proofs::PrintingSteps::list_steps))]
-fn write_argument_list(printer: &mut Printer, arguments: &[Argument]) -> Result<(), AllocError>
+pub fn write_argument_list(printer: &mut Printer, arguments: &[Argument]) -> Result<(), AllocError>
     ensures { OnOk result (printed_by printer.new ≡ put_all (printed_by printer.old) (arguments_symbols (map named_value arguments.now))) }
 {
     if arguments.is_empty() {
@@ -40,8 +41,8 @@ fn write_directive(printer: &mut Printer, directive: &Directive) -> Result<(), A
     write_argument_list(printer, directive.arguments.as_slice())
 }
 
-/// Directives, one after the other.
-fn write_directives(printer: &mut Printer, directives: &[Directive]) -> Result<(), AllocError>
+/// Writes directives, one after the other (GraphQL October 2021, 2.12). It fails for want of memory alone.
+pub fn write_directives(printer: &mut Printer, directives: &[Directive]) -> Result<(), AllocError>
     ensures { OnOk result (printed_by printer.new ≡ put_all (printed_by printer.old) (directives_symbols (map directive_tree directives.now))) }
 {
     for directive in directives {
@@ -50,9 +51,13 @@ fn write_directives(printer: &mut Printer, directives: &[Directive]) -> Result<(
     Ok(())
 }
 
-/// The name of a field, after its alias if it has one.
+/// Writes the name of a field, after its alias if it has one (GraphQL October 2021, 2.7). It fails for want of memory alone.
 #[tactic(auto, using(crate::proofs::PrintingSteps::printing_steps))]
-fn write_names(printer: &mut Printer, alias: &Option<Name>, name: &Name) -> Result<(), AllocError>
+pub fn write_names(
+    printer: &mut Printer,
+    alias: &Option<Name>,
+    name: &Name,
+) -> Result<(), AllocError>
     ensures { OnOk result (printed_by printer.new ≡ put_all (printed_by printer.old) (names_symbols (names_of alias.now name.now))) }
 {
     match alias {
@@ -65,9 +70,10 @@ fn write_names(printer: &mut Printer, alias: &Option<Name>, name: &Name) -> Resu
     }
 }
 
-/// The type of an inline fragment, after `on`, or nothing.
+/// Writes the type of an inline fragment, after `on`, or nothing (GraphQL October 2021, 2.8.2). It fails for want of memory
+/// alone.
 #[tactic(auto, using(crate::proofs::PrintingSteps::printing_steps))]
-fn write_condition(printer: &mut Printer, on: &Option<Name>) -> Result<(), AllocError>
+pub fn write_condition(printer: &mut Printer, on: &Option<Name>) -> Result<(), AllocError>
     ensures { OnOk result (printed_by printer.new ≡ put_all (printed_by printer.old) (condition_symbols (maybe_identifier on.now))) }
 {
     match on {
@@ -176,9 +182,13 @@ fn write_variables(printer: &mut Printer, variables: &[VariableDef]) -> Result<(
     Ok(())
 }
 
-/// Variables in parentheses, or nothing where there are none.
+/// Writes the definitions of variables in parentheses, or nothing where there are none (GraphQL October 2021, 2.10). It fails
+/// for want of memory alone.
 #[tactic(auto, using(crate::proofs::PrintingSteps::list_steps))]
-fn write_variable_list(printer: &mut Printer, variables: &[VariableDef]) -> Result<(), AllocError>
+pub fn write_variable_list(
+    printer: &mut Printer,
+    variables: &[VariableDef],
+) -> Result<(), AllocError>
     ensures { OnOk result (printed_by printer.new ≡ put_all (printed_by printer.old) (variables_symbols (map variable_tree variables.now))) }
 {
     if variables.is_empty() {
@@ -189,7 +199,8 @@ fn write_variable_list(printer: &mut Printer, variables: &[VariableDef]) -> Resu
     printer.mark(TokenKind::CloseParen)
 }
 
-fn kind_name(kind: OperationKind) -> &'static str
+/// The word with which an operation of this kind begins (GraphQL October 2021, 2.3).
+pub fn kind_name(kind: OperationKind) -> &'static str
     ensures { result.now ≡ kind_name kind }
 {
     match kind {
@@ -199,9 +210,9 @@ fn kind_name(kind: OperationKind) -> &'static str
     }
 }
 
-/// The name of an operation, or nothing.
+/// Writes the name of an operation, or nothing. It fails for want of memory alone.
 #[tactic(auto, using(crate::proofs::PrintingSteps::printing_steps))]
-fn write_maybe_name(printer: &mut Printer, name: &Option<Name>) -> Result<(), AllocError>
+pub fn write_maybe_name(printer: &mut Printer, name: &Option<Name>) -> Result<(), AllocError>
     ensures { OnOk result (printed_by printer.new ≡ put_all (printed_by printer.old) (maybe_name_symbols (maybe_identifier name.now))) }
 {
     match name {
