@@ -46,7 +46,7 @@ setting_of_schema r p of = record { weights = of.0.1; fills = of.1 }
 pub is_sound : PlanLaws → (r : RequestData) (p : Prepared r) → plan_answer r p ≡ planned_well → IsOfSchema r → IsSound (holds r.schema) (plan_tree r p)
 is_sound laws r p well of = laws.sound (setting r p) p.root p.operation well of.0.0 (setting_of_schema r p of)
 
-bound_for : PlanLaws → (r : RequestData) (p : Prepared r) (part : Part) (n : ℕ) → plan_answer r p ≡ planned_well → IsOfSchema r → n ≤ CAP → IsBound (holds r.schema) part (plan_tree r p) n → IsBoundFor r p part n
+pub bound_for : PlanLaws → (r : RequestData) (p : Prepared r) (part : Part) (n : ℕ) → plan_answer r p ≡ planned_well → IsOfSchema r → n ≤ CAP → IsBound (holds r.schema) part (plan_tree r p) n → IsBoundFor r p part n
 bound_for laws r p part n well of within bound =
     let sound = is_sound laws r p well of in
     (laws.bounds (setting r p) p.root p.operation well of.0.0 (setting_of_schema r p of) part n within).1
@@ -61,7 +61,7 @@ over a b same more = elim (cases_lt CAP b) [
     below : (b : ℕ) → b ≤ CAP → b ≤ CAP + 1
     below b h = omega (arith, h)
 
-exceeds_for : PlanLaws → (r : RequestData) (p : Prepared r) (part : Part) → plan_answer r p ≡ planned_well → Exceeds (holds r.schema) part (plan_tree r p) CAP ↔ ExceedsCap r p part
+pub exceeds_for : PlanLaws → (r : RequestData) (p : Prepared r) (part : Part) → plan_answer r p ≡ planned_well → Exceeds (holds r.schema) part (plan_tree r p) CAP ↔ ExceedsCap r p part
 exceeds_for laws r p part well =
     let is_plan = laws.is_plan (setting r p) p.root p.operation well in
     let place = root_place p.root in

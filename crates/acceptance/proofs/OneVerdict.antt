@@ -74,7 +74,7 @@ no_pick : (r : RequestData) (o : Operation) (fault : PickFault) → picked r.nam
 no_pick r o fault none asks = ok_differs asks.0 fault (picked r.name r.document) asks.1 none
 
 -- a property of operation, root and values that holds of one holds of the other
-moved : (r : RequestData) (P : Operation → ℕ → List VariableData → Type 0) (p q : Prepared r) → P p.operation p.root p.values → P q.operation q.root q.values
+pub moved : (r : RequestData) (P : Operation → ℕ → List VariableData → Type 0) (p q : Prepared r) → P p.operation p.root p.values → P q.operation q.root q.values
 moved r P p q holds =
     let same = same_operation r p.operation q.operation p.keeps.0 q.keeps.0 in
     let root = same_Some p.root q.root (sym (subst (λ (o : Operation). type_of_kind r.schema o.kind ≡ Some p.root) same p.on_root) ∙ q.on_root) in

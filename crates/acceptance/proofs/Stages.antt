@@ -27,7 +27,7 @@ use Rattle.acceptance.specs.Requests.{RequestData, KeepsRules, IsCheckFor, AreVa
 use Rattle.acceptance.specs.Bounds.{IsPlanned}
 use Rattle.acceptance.specs.Refusals.{NamesBreach, NamesVariable, NamesNode, IsRefusedFor, IfRefused, TellsRule, TellsVariable, TellsPlan}
 
-the_some : {X : Type 0} → (o : Option X) → IsSome o → (x : X) × (o ≡ Some x)
+pub the_some : {X : Type 0} → (o : Option X) → IsSome o → (x : X) × (o ≡ Some x)
 the_some None there = absurd (cc)
 the_some (Some x) there = (x, refl)
 

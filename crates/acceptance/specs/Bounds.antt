@@ -43,6 +43,10 @@ pub record HasBound (r : RequestData) (p : Prepared r) (cost : Cost) : Type 0 wh
   pub types_within : cost.types ≤ CAP
   pub fields_within : cost.fields ≤ CAP
 
+-- The operation is planned well, and this is its bound, within the cap. So the request is accepted, if there is memory for it.
+abbrev pub IsAffordable : RequestData → Cost → Type 0
+IsAffordable r cost = (p : Prepared r) × (plan_answer r p ≡ planned_well) × HasBound r p cost
+
 -- A request is accepted with this plan and this bound where its operation is planned well, and no response costs more than the cap.
 -- The plan is sound.
 pub record IsAccepted (r : RequestData) (plan : Plan) (bound : Cost) : Type 0 where

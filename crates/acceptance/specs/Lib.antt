@@ -2,4 +2,5 @@
 pub mod Requests
 pub mod Bounds
 pub mod Refusals
+pub mod AskAlike
 pub mod Texts

@@ -1,12 +1,16 @@
-//! What holds of all requests. This function does nothing: its contract is the law.
+//! What holds of all requests. These functions do nothing: their contracts are the laws.
 
-ghost use Rattle.std.specs.Prelude.{◌≡◌};
+ghost use Rattle.std.specs.Prelude.{◌≡◌, ◌⊎◌};
 ghost use Rattle.cost_num.specs.declared.Cost.{Cost as CostType};
 ghost use Rattle.plan_table.specs.declared.table.Plan.{Plan as PlanType};
 ghost use Rattle.acceptance.specs.declared.fault.Refusal.{Refusal};
-ghost use Rattle.acceptance.specs.Requests.{RequestData};
-ghost use Rattle.acceptance.specs.Bounds.{IsAccepted};
+ghost use Rattle.acceptance.specs.Requests.{RequestData, IsOfSchema, Prepared, plan_tree};
+ghost use Rattle.acceptance.specs.Bounds.{IsAffordable, IsAccepted};
 ghost use Rattle.acceptance.specs.Refusals.{IsRefusedFor};
+ghost use Rattle.acceptance.specs.AskAlike.{AskAlike};
+
+use plan_model::laws::{operations_planned_well, responses_of_a_plan};
+use response_model::laws::{greatest_is_bound, one_bound};
 
 /// A request that is accepted isn't refused. It is accepted with one bound, and refused in one way, at most.
 pub fn a_request_has_one_verdict()
@@ -14,3 +18,30 @@ pub fn a_request_has_one_verdict()
     ensures one_bound { (r : RequestData) (plan other : PlanType) (bound cost : CostType) → IsAccepted r plan bound → IsAccepted r other cost → bound ≡ cost }
     ensures one_refusal { (r : RequestData) (refusal other : Refusal) → IsRefusedFor r refusal → IsRefusedFor r other → refusal ≡ other }
 {}
+
+/// Of two requests that ask the same, where one is accepted, the other is, with the same plan and the same bound; where one
+/// is refused, the other is, for the same reason.
+pub fn alike_requests_are_answered_alike()
+    ensures accepted { (r q : RequestData) (plan : PlanType) (bound : CostType) → AskAlike r q → IsAccepted r plan bound → IsAccepted q plan bound }
+    ensures refused { (r q : RequestData) (refusal : Refusal) → AskAlike r q → IsRefusedFor r refusal → IsRefusedFor q refusal }
+    ensures one_plan { (r q : RequestData) (p : Prepared r) (other : Prepared q) → AskAlike r q → plan_tree r p ≡ plan_tree q other }
+{}
+
+/// So one of them isn't accepted where the other is refused, both are accepted with one bound, and both are refused in one way,
+/// at most.
+pub fn alike_requests_have_one_verdict()
+    ensures not_both { (r q : RequestData) (plan : PlanType) (bound : CostType) (refusal : Refusal) → AskAlike r q → IsAccepted r plan bound → IsRefusedFor q refusal → ⊥ }
+    ensures one_bound { (r q : RequestData) (plan other : PlanType) (bound cost : CostType) → AskAlike r q → IsAccepted r plan bound → IsAccepted q other cost → bound ≡ cost }
+    ensures one_refusal { (r q : RequestData) (refusal other : Refusal) → AskAlike r q → IsRefusedFor r refusal → IsRefusedFor q other → refusal ≡ other }
+{}
+
+/// Each request is refused, or its operation has a bound within the cap, with which it is accepted if there is memory for its
+/// plan. It asks that the weights are those of the schema, and that leaves of the schema can be filled.
+pub fn a_request_has_a_verdict()
+    ensures { (r : RequestData) → IsOfSchema r → ((refusal : Refusal) × IsRefusedFor r refusal) ⊎ ((bound : CostType) × IsAffordable r bound) }
+{
+    operations_planned_well();
+    responses_of_a_plan();
+    greatest_is_bound();
+    one_bound();
+}

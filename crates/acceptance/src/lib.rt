@@ -11,6 +11,9 @@ pub mod texts;
 
 pub use accepting::{Accepted, accept, read};
 pub use fault::{AcceptFault, Refusal};
-pub use laws::a_request_has_one_verdict;
+pub use laws::{
+    a_request_has_a_verdict, a_request_has_one_verdict, alike_requests_are_answered_alike,
+    alike_requests_have_one_verdict,
+};
 pub use request::Request;
 pub use telling::refusal_text;

@@ -7,3 +7,4 @@ mod Statuses
 mod MisusedDirectives
 mod AskedFiles
 mod AskedRefusals
+mod OnePrice

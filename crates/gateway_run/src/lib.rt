@@ -15,6 +15,7 @@ mod meter;
 mod operation;
 mod outcome;
 mod price;
+mod price_laws;
 mod program;
 mod reply_texts;
 mod schema_texts;
@@ -33,5 +34,6 @@ pub use laws::{
 pub use outcome::{
     DONE, FILE_FAILED, NO_MEMORY, NOT_RESPONSE, REFUSED, SIZE_BROKEN, STREAM_FAILED, USAGE,
 };
+pub use price_laws::{an_operation_has_a_price_or_one_refusal, two_files_have_one_price};
 pub use program::{end_without_command, run};
 pub use status_laws::a_status_says_what_was_done;

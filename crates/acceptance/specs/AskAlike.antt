@@ -1,0 +1,15 @@
+-- When two requests ask the same.
+use Rattle.std.specs.Prelude.{◌≡◌, map}
+use Rattle.document_reader.specs.Trees.{definition_tree}
+use Rattle.document_reader.specs.Places.{operation_offset}
+use Rattle.acceptance.specs.Requests.{RequestData}
+
+-- They differ in their documents alone, whose definitions have the same trees, and whose operations have the same offsets. So
+-- it is with two documents that are read from one text.
+pub record AskAlike (r q : RequestData) : Type 0 where
+  pub schema : r.schema ≡ q.schema
+  pub weights : r.weights ≡ q.weights
+  pub name : r.name ≡ q.name
+  pub given : r.given ≡ q.given
+  pub trees : map definition_tree r.document ≡ map definition_tree q.document
+  pub offsets : map operation_offset r.document ≡ map operation_offset q.document
