@@ -51,7 +51,7 @@ holds_then : {P : Type 0} → P → IsTrue true ↔ P
 holds_then p = (λ is. p, λ p. refl)
 
 fails_then : {P : Type 0} → (P → ⊥) → IsTrue false ↔ P
-fails_then no = (λ is. absurd (differ is), λ p. absurd (no p))
+fails_then never = (λ is. absurd (differ is), λ p. absurd (never p))
   where
     differ : false ≡ true → ⊥
     differ same = cc
@@ -181,7 +181,7 @@ by_values laws r of o keeps (Ok values) is = by_plan laws r of prepared (plan_an
   where
     prepared : Prepared r
     prepared = let root = kept_root r o keeps.1 in record { operation = o; root = root.0; values = values; keeps = keeps; on_root = root.1; are_values = is }
-by_values laws r of o keeps (Err refusal) is = inl (Variable (variable_fault refusal), (o, keeps, refusal, variable_named refusal, is))
+by_values laws r of o keeps (Err refusal) is = inl (Variable (variable_fault refusal), (o, keeps, (refusal, variable_named refusal, is)))
 
 by_rules : PlanLaws → (r : RequestData) → IsOfSchema r → (o : Operation) → AsksFor r o → (first : Option Breach) → first_broken r.schema r.document o ≡ first → Verdict r
 by_rules laws r of o asks None is = by_values laws r of o (asks, is) (variables_answer r.schema o.variables.items r.given) refl

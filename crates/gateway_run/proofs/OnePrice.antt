@@ -81,7 +81,7 @@ one_price reading one_bound asked texts cost other a b =
 
 pub one_plan : OneReading → ((r q : RequestData) (p : Prepared r) (other : Prepared q) → AskAlike r q → plan_tree r p ≡ plan_tree q other)
     → (asked : Asked) (texts : AskedTexts) (plan other : PlanTree) → OfPlan asked texts (λ tree. tree ≡ plan) → OfPlan asked texts (λ tree. tree ≡ other) → plan ≡ other
-one_plan reading one_tree asked texts plan other (a, held, table, bound, accepted, is) (b, held_too, table_too, bound_too, accepted_too, is_too) =
+one_plan reading one_tree asked texts plan other (a, held, (table, bound, accepted, is)) (b, held_too, (table_too, bound_too, accepted_too, is_too)) =
     sym is ∙ (one_tree (request_in asked a) (request_in asked b) accepted.is_planned.prepared accepted_too.is_planned.prepared (ask_alike reading asked texts a b held held_too) ∙ is_too)
 
 -- ---- what is refused
@@ -106,8 +106,8 @@ no_object (Some text) given is not = differ (sym not.2 ∙ (ap (λ json. is_some
     differ same = cc
 
 json_or_not : (variables : Option (List ℕ)) → IsUngiven variables NotJson → IsUngiven variables BadVariables → ⊥
-json_or_not None no not = no
-json_or_not (Some text) no not = none-some not.0 (sym no ∙ not.1)
+json_or_not None unread other = unread
+json_or_not (Some text) unread other = none-some other.0 (sym unread ∙ other.1)
 
 -- the text of a document that was read isn't refused, nor in two ways
 no_document : OneRefusal → (text : List ℕ) (document : Document) (refusal : Refusal) → IsDocumentOf text document → IsUnread text refusal → ⊥
