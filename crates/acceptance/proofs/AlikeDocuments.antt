@@ -17,7 +17,6 @@ use Rattle.schema_rules.specs.First.{or_else, told, first_of}
 use Rattle.document_rules.specs.Parts.{FragmentData, fragment_data, operations_of, fragments_of, operation_in, operation_at, repeated_at}
 use Rattle.document_rules.specs.Rules.{before_names, operation_names, name_of_fragment, earlier, anonymous_at, lone_anonymous, repeated_name}
 use Rattle.document_rules.specs.Checking.{fragments_in}
-use Rattle.document_rules.proofs.Lists.{map_twice}
 
 -- ---- lists of which the same is seen
 

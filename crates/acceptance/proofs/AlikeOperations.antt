@@ -1,6 +1,6 @@
 -- What becomes of an operation depends on its tree and offset, and on what is seen of its document.
 use Rattle.std.proofs.Common.{◌≡◌, ◌∙◌, ℕ, true, List, [], ◌∷◌, ◌++◌, map, Option, None, Some, refl, sym, ap, ap₂}
-use Rattle.std.specs.Prelude.{slice_get, option_map, is_some, not, ◌&&◌, Result}
+use Rattle.std.specs.Prelude.{slice_get, option_map, is_some, not, ◌&&◌}
 use Rattle.std.proofs.lemmas.Option.{same_Some, slice_get-map}
 use Rattle.gql_base.specs.declared.parts.trees.OperationKind.{OperationKind}
 use Rattle.gql_base.specs.declared.parts.trees.OperationKind.TheVariants.{Query}
@@ -9,9 +9,8 @@ use Rattle.gql_base.specs.parts.Trees.{directive_tree}
 use Rattle.document_reader.specs.declared.trees.Operation.{Operation}
 use Rattle.document_reader.specs.declared.trees.Fragment.{Fragment}
 use Rattle.document_reader.specs.declared.trees.Definition.{Definition}
-use Rattle.document_reader.specs.Documents.{SelectionTrees, no_selection, VariableTree, DefinitionTree, operation_tree, fragment_tree}
+use Rattle.document_reader.specs.Documents.{SelectionTrees, VariableTree, DefinitionTree, operation_tree, fragment_tree}
 use Rattle.document_reader.specs.Trees.{variable_tree, set_tree, definition_tree}
-use Rattle.document_reader.specs.Places.{operation_offset}
 use Rattle.serde_json.specs.Data.{Data}
 use Rattle.input_values.specs.coercion.Literals.{Environment}
 use Rattle.schema_rules.specs.First.{or_else, told}
@@ -23,11 +22,9 @@ use Rattle.variable_coercion.specs.Variables.{Declared, shape_in, declared_of, v
 use Rattle.document_rules.specs.declared.rule.Rule.TheVariants.{RepeatedName, LoneAnonymous, Subscription, NoRoot}
 use Rattle.document_rules.specs.Parts.{FragmentData, fragment_data, fragments_of}
 use Rattle.document_rules.specs.Met.{Met, reached, before_reached, fragments_met}
-use Rattle.document_rules.specs.Sites.{Site, variable_site, operation_site, type_of_kind, sites_in, sites_of_met}
-use Rattle.document_rules.specs.Rules.{is_subscription, subscription, is_mutation, no_root}
-use Rattle.document_rules.specs.Checking.{Breach, breach, breach_of_sites, breach_of_parts, fragments_in, reached_by, breach_before_parts, first_broken}
-use Rattle.plan_model.specs.SelectedFields.{Setting}
-use Rattle.plan_model.specs.Merging.{Position}
+use Rattle.document_rules.specs.Sites.{variable_site, operation_site, type_of_kind, sites_in, sites_of_met}
+use Rattle.document_rules.specs.Rules.{is_subscription, is_mutation}
+use Rattle.document_rules.specs.Checking.{Breach, breach, breach_of_sites, fragments_in, reached_by, breach_before_parts, first_broken}
 use Rattle.plan_model.specs.Operations.{setting_of, root_position}
 use Rattle.acceptance.proofs.AlikeDocuments.{Seen, seen_in, seen_of, seen_alike, same_fragments, same_repeated_name, same_lone_anonymous}
 
@@ -125,7 +122,7 @@ setting_alike s w values ds es o p trees alike = ap (λ fragments. record { sche
   where
     same : map fragment_data (fragments_met (fragments_of ds) (reached_by ds o)) ≡ map fragment_data (fragments_met (fragments_of es) (reached_by es p))
     same = met_by_data (fragments_of ds) (reached_by ds o)
-      ∙ (ap₂ (λ fs below. data_met fs (reached fs below)) (same_fragments ds es trees) alike.below ∙ sym (met_by_data (fragments_of es) (reached_by es p)))
+        ∙ (ap₂ (λ fs below. data_met fs (reached fs below)) (same_fragments ds es trees) alike.below ∙ sym (met_by_data (fragments_of es) (reached_by es p)))
 
 pub position_alike : (root : ℕ) (o p : Operation) → AreAlike o p → root_position root o ≡ root_position root p
 position_alike root o p alike = ap (λ below. record { selections = (Some root, below) ∷ []; handed = None }) alike.below

@@ -1,5 +1,5 @@
 -- What becomes of a request becomes of each that asks the same.
-use Rattle.std.proofs.Common.{◌≡◌, ◌<◌, ◌∙◌, ℕ, List, [], ◌∷◌, map, Option, None, Some, refl, sym, ap, ap₂, subst}
+use Rattle.std.proofs.Common.{◌≡◌, ◌<◌, ◌∙◌, ℕ, [], ◌∷◌, map, refl, sym, ap, ap₂, subst}
 use Rattle.std.specs.Prelude.{◌↔◌, IsTrue}
 use Rattle.cost_num.specs.declared.TheConstants.{CAP}
 use Rattle.cost_num.specs.declared.Cost.{Cost}
@@ -21,7 +21,7 @@ use Rattle.plan_table.specs.declared.table.Plan.{Plan}
 use Rattle.plan_table.specs.Tables.{HasRows}
 use Rattle.acceptance.specs.declared.fault.Refusal.{Refusal}
 use Rattle.acceptance.specs.declared.fault.Refusal.TheVariants.{Document, Pick, Rule, Variable, Plan as NoPlan, Bound}
-use Rattle.acceptance.specs.Requests.{RequestData, AsksFor, KeepsRules, Prepared, setting, plan_answer, plan_tree}
+use Rattle.acceptance.specs.Requests.{RequestData, AsksFor, KeepsRules, Prepared, setting, plan_tree}
 use Rattle.acceptance.specs.Bounds.{IsAccepted}
 use Rattle.acceptance.specs.Refusals.{NamesBreach, NamesVariable, NamesNode, IsRefusedFor}
 use Rattle.acceptance.specs.AskAlike.{AskAlike}
@@ -135,12 +135,15 @@ refused_alike r q (Variable fault) alike refused =
 refused_alike r q (NoPlan fault) alike refused =
     (other r q alike refused.0, subst (NamesNode fault) (ap answer_by (planned_alike r q alike refused.0)) refused.1)
 refused_alike r q (Bound fault) alike refused =
-    let same = planned_alike r q alike refused.0 in
-    (other r q alike refused.0, sym (ap answer_by same) ∙ refused.1, record {
-      of_types = subst (λ x. IsTrue fault.types ↔ ExceedsBy types x) same refused.2.of_types;
-      of_fields = subst (λ x. IsTrue fault.fields ↔ ExceedsBy fields x) same refused.2.of_fields;
-      some = refused.2.some;
-    })
+    let same = planned_alike r q alike refused.0 in (
+      other r q alike refused.0,
+      sym (ap answer_by same) ∙ refused.1,
+      record {
+        of_types = subst (λ x. IsTrue fault.types ↔ ExceedsBy types x) same refused.2.of_types;
+        of_fields = subst (λ x. IsTrue fault.fields ↔ ExceedsBy fields x) same refused.2.of_fields;
+        some = refused.2.some;
+      },
+    )
 
 -- ---- one verdict
 

@@ -1,5 +1,5 @@
 -- Each request is refused, or its operation has a bound within the cap.
-use Rattle.std.proofs.Common.{◌≡◌, ◌≤◌, ◌<◌, ◌⊎◌, inl, inr, ◌∙◌, ℕ, List, Bool, true, false, Option, None, Some, Result, Ok, Err, refl, sym, ap, subst, arith}
+use Rattle.std.proofs.Common.{◌≡◌, ◌≤◌, ◌<◌, ◌⊎◌, inl, inr, ℕ, List, true, false, Option, None, Some, Result, Ok, Err, refl, sym, subst, arith}
 use Rattle.std.specs.Prelude.{◌≢◌, ◌↔◌, IsTrue, ◌&&◌, not, is_some}
 use Rattle.std.proofs.lemmas.Bool.{cases_lt}
 use Rattle.cost_num.specs.declared.TheConstants.{CAP}
@@ -12,6 +12,7 @@ use Rattle.document_reader.specs.declared.trees.Operation.{Operation}
 use Rattle.document_reader.specs.declared.picking.PickFault.{PickFault}
 use Rattle.document_reader.specs.Picking.{picked}
 use Rattle.schema_rules.specs.First.{or_else, told}
+use Rattle.schema_rules.proofs.FirstFaults.{neither}
 use Rattle.schema_model.specs.SchemaData.{SchemaData}
 use Rattle.document_rules.specs.declared.rule.Rule.TheVariants.{RepeatedName, LoneAnonymous, Subscription as SubscriptionRule, NoRoot}
 use Rattle.document_rules.specs.declared.rule.Rule.{Rule as RuleName}
@@ -27,7 +28,6 @@ use Rattle.variable_coercion.specs.declared.faults.ArgFault.TheVariants.{Missing
 use Rattle.variable_coercion.specs.Refusals.{Refusal as Unvalued, missing, bad_value, too_large as too_large_value}
 use Rattle.variable_coercion.specs.Variables.{VariableData, variables_answer}
 use Rattle.variable_coercion.specs.Calls.{variable_told, argument_told}
-use Rattle.cost_directives.specs.declared.sizes.SizeFault.{SizeFault}
 use Rattle.merged_selections.specs.declared.fault.PlanFault.{PlanFault}
 use Rattle.merged_selections.specs.declared.fault.PlanFault.TheVariants.{Argument, Conflict, Size, NoPossibleType, TooLarge, TooDeep, Memory as NoPlanMemory}
 use Rattle.merged_selections.specs.Faults.{path_text, IsTold}
@@ -73,27 +73,55 @@ module _ (laws : PlanLaws) (r : RequestData) (of : IsOfSchema r) (p : Prepared r
       let some = (exceeds_for laws r p part well).1 exceeds in omega (arith, (is_bound part).upper some.0 some.1, some.2, within)
 
   by_costs : (CAP < greatest types) ⊎ (greatest types ≤ CAP) → (CAP < greatest fields) ⊎ (greatest fields ≤ CAP) → Verdict r
-  by_costs (inl over) (inl over_too) = inl (Bound record { types = true; fields = true }, (p, well, record {
-    of_types = holds_then (exceeds types over);
-    of_fields = holds_then (exceeds fields over_too);
-    some = inl refl;
-  }))
-  by_costs (inl over) (inr within) = inl (Bound record { types = true; fields = false }, (p, well, record {
-    of_types = holds_then (exceeds types over);
-    of_fields = fails_then (exceeds_not fields within);
-    some = inl refl;
-  }))
-  by_costs (inr within) (inl over) = inl (Bound record { types = false; fields = true }, (p, well, record {
-    of_types = fails_then (exceeds_not types within);
-    of_fields = holds_then (exceeds fields over);
-    some = inr refl;
-  }))
-  by_costs (inr within) (inr within_too) = inr (record { types = greatest types; fields = greatest fields }, (p, well, record {
-    of_types = bound_for laws r p types (greatest types) well of within (is_bound types);
-    of_fields = bound_for laws r p fields (greatest fields) well of within_too (is_bound fields);
-    types_within = within;
-    fields_within = within_too;
-  }))
+  by_costs (inl over) (inl over_too) = inl (
+    Bound record { types = true; fields = true },
+    (
+      p,
+      well,
+      record {
+        of_types = holds_then (exceeds types over);
+        of_fields = holds_then (exceeds fields over_too);
+        some = inl refl;
+      },
+    ),
+  )
+  by_costs (inl over) (inr within) = inl (
+    Bound record { types = true; fields = false },
+    (
+      p,
+      well,
+      record {
+        of_types = holds_then (exceeds types over);
+        of_fields = fails_then (exceeds_not fields within);
+        some = inl refl;
+      },
+    ),
+  )
+  by_costs (inr within) (inl over) = inl (
+    Bound record { types = false; fields = true },
+    (
+      p,
+      well,
+      record {
+        of_types = fails_then (exceeds_not types within);
+        of_fields = holds_then (exceeds fields over);
+        some = inr refl;
+      },
+    ),
+  )
+  by_costs (inr within) (inr within_too) = inr (
+    record { types = greatest types; fields = greatest fields },
+    (
+      p,
+      well,
+      record {
+        of_types = bound_for laws r p types (greatest types) well of within (is_bound types);
+        of_fields = bound_for laws r p fields (greatest fields) well of within_too (is_bound fields);
+        types_within = within;
+        fields_within = within_too;
+      },
+    ),
+  )
 
 -- ---- plans
 
@@ -150,10 +178,6 @@ variable_named (missing name) = refl
 variable_named (bad_value path) = refl
 variable_named (too_large_value name) = refl
 
-first_none : {F : Type 0} (a b : Option F) → or_else a b ≡ None → (a ≡ None) × (b ≡ None)
-first_none None b none = (refl, none)
-first_none (Some fault) b none = absurd (cc)
-
 keeps_rule : (rule : RuleName) (found : Option ℕ) → breach rule found ≡ None → found ≡ None
 keeps_rule rule None none = refl
 keeps_rule rule (Some at) none = absurd (cc)
@@ -170,10 +194,10 @@ root_there s Subscription at none rooted = absurd (cc)
 kept_root : (r : RequestData) (o : Operation) → first_broken r.schema r.document o ≡ None → (root : ℕ) × (type_of_kind r.schema o.kind ≡ Some root)
 kept_root r o none =
     let last : Option Breach = or_else (breach SubscriptionRule (subscription o)) (breach NoRoot (no_root r.schema o)) in
-    let before = first_none (breach_before_parts r.schema r.document o) (breach_of_parts r.schema (fragments_in r.document) o (reached_by r.document o)) none in
-    let named = first_none (breach RepeatedName (repeated_name r.document)) (or_else (breach LoneAnonymous (lone_anonymous r.document)) last) before.0 in
-    let alone = first_none (breach LoneAnonymous (lone_anonymous r.document)) last named.1 in
-    let kinds = first_none (breach SubscriptionRule (subscription o)) (breach NoRoot (no_root r.schema o)) alone.1 in
+    let before = neither (breach_before_parts r.schema r.document o) (breach_of_parts r.schema (fragments_in r.document) o (reached_by r.document o)) none in
+    let named = neither (breach RepeatedName (repeated_name r.document)) (or_else (breach LoneAnonymous (lone_anonymous r.document)) last) before.0 in
+    let alone = neither (breach LoneAnonymous (lone_anonymous r.document)) last named.1 in
+    let kinds = neither (breach SubscriptionRule (subscription o)) (breach NoRoot (no_root r.schema o)) alone.1 in
     root_there r.schema o.kind o.at (keeps_rule SubscriptionRule (subscription o) kinds.0) (keeps_rule NoRoot (no_root r.schema o) kinds.1)
 
 by_values : PlanLaws → (r : RequestData) → IsOfSchema r → (o : Operation) → KeepsRules r o → (answer : Result (List VariableData) Unvalued) → variables_answer r.schema o.variables.items r.given ≡ answer → Verdict r

@@ -1,10 +1,9 @@
 -- The texts of an operation are read in one way, and so it has one price or one refusal.
-use Rattle.std.proofs.Common.{◌≡◌, ◌⊎◌, inl, inr, ◌∙◌, ℕ, List, map, Bool, true, false, Option, None, Some, Ok, refl, sym, ap, subst}
+use Rattle.std.proofs.Common.{◌≡◌, inl, inr, ◌∙◌, ℕ, List, map, true, false, Option, None, Some, refl, sym, ap}
 use Rattle.std.proofs.lemmas.Option.{none-some, same_Some}
 use Rattle.cost_num.specs.declared.Cost.{Cost}
 use Rattle.response_model.specs.Plan.{Plan as PlanTree}
 use Rattle.serde_json.specs.Data.{Data}
-use Rattle.serde_json.specs.Read.{read as read_text}
 use Rattle.serde_json.specs.Find.{as_object}
 use Rattle.serde_json.specs.View.{view}
 use Rattle.std.specs.Option.{is_some}
@@ -15,11 +14,9 @@ use Rattle.document_reader.specs.Trees.{definition_tree}
 use Rattle.document_reader.specs.Places.{operation_offset}
 use Rattle.document_reader.specs.DocumentAnswers.{IsDocumentOf, HasDocument, HasDocumentFault}
 use Rattle.schema_model.specs.declared.schema.Schema.{Schema}
-use Rattle.schema_model.specs.SchemaData.{SchemaData}
 use Rattle.schema_model.specs.SchemaViews.{schema_data}
 use Rattle.cost_directives.specs.declared.weights.Weights.{Weights}
 use Rattle.cost_directives.specs.Weights.{WeightsData, weights_of}
-use Rattle.cost_directives.specs.WeightViews.{weights_data}
 use Rattle.command_words.specs.declared.command.Asked.{Asked}
 use Rattle.command_words.specs.declared.command.TheConstants.{UNDECLARED}
 use Rattle.plan_table.specs.declared.table.Plan.{Plan}
