@@ -3,4 +3,5 @@ pub mod Rewriting
 pub mod AddedNames
 pub mod ForwardedBodies
 -- What serves contracts.
+pub mod Endings
 pub mod Views

@@ -2,8 +2,15 @@
 //! is an interface or a union, and the body of the request.
 #![tactic(auto)]
 
+mod adding;
+mod alias;
 mod body;
+mod lookups;
+mod names;
 mod rewriting;
+#[cfg(test)]
+mod tests;
+mod words;
 
 pub use body::forwarded_body;
 pub use rewriting::{Rewritten, rewrite};
