@@ -1,0 +1,7 @@
+mod RewrittenFields
+mod RewrittenKeys
+mod SameCalls
+mod Stripping
+mod Filling
+mod FreeNames
+mod Sent

@@ -1,0 +1,2 @@
+-- Responses to a rewritten operation, without the names of types that were added.
+pub mod Stripping
