@@ -99,6 +99,10 @@ module _ (alias : List ℕ) where
   abbrev pub cost_sent : Setting → Part → Place → Position → Tree → ℕ
   cost_sent e part place q t = response_cost (rewritten_setting e) part place q t
 
+  -- This is a response to what is sent, without the names of types that were added.
+  abbrev pub ComesFromSent : Setting → Form → Option ℕ → Place → Position → Tree → Type 0
+  ComesFromSent e form size place q s = (t : Tree) × FitsSent e form place q t × KeepsSent e size place q t × (stripped t ≡ s)
+
   -- ---- whole operations
 
   -- The alias is no name of the document, and the operation stands in it.

@@ -1,12 +1,12 @@
 -- The body of the request in which an operation is sent (GraphQL over HTTP): a JSON object.
-use Rattle.std.specs.Prelude.{ℕ, Bool, List, [], ◌++◌, codes, map, Option, None, Some, if◌then◌else◌}
+use Rattle.std.specs.Prelude.{◌≡◌, ℕ, Bool, false, List, [], ◌++◌, codes, map, Option, None, Some, if◌then◌else◌}
 use Rattle.gql_base.specs.ways.Reading.{Identifier}
 use Rattle.gql_base.specs.names.Names.{has_name}
 use Rattle.document_reader.specs.declared.trees.Operation.{Operation}
 use Rattle.document_reader.specs.Documents.{VariableTree}
 use Rattle.document_reader.specs.Trees.{maybe_identifier, variable_tree}
 use Rattle.response_model.specs.ResponseText.{key_text}
-use Rattle.serde_json.specs.Written.{compact_text, comma_if}
+use Rattle.serde_json.specs.Written.{has_float, compact_text, comma_if}
 use Rattle.serde_json.specs.Data.{Data, null, boolean, number, string, array, object, Members, no_members, member}
 
 abbrev pub members_of : Data → Members
@@ -38,6 +38,10 @@ unfoldable pub body_data : Operation → List ℕ → Data → Data
 body_data o document given = body_with (maybe_identifier o.name) document (sent_variables (map variable_tree o.variables.items) given)
 
 -- ---- pieces of the body's text
+
+-- The compact text of an object with these members was added. Nothing is said where one of them holds a float.
+abbrev pub AppendsObject : List ℕ → List ℕ → Members → Type 0
+AppendsObject before after members = has_float (object members) ≡ false → after ≡ before ++ compact_text (object members)
 
 -- the operation's name as a member with a comma behind it, where the operation has a name
 abbrev pub name_text : Option Identifier → List ℕ

@@ -1,13 +1,12 @@
 //! The body of the request in which an operation is sent.
 
 ghost use Rattle.std.specs.Prelude.{◌≡◌, ◌++◌, false, string_bytes, map, IfOk, OnOk};
-ghost use Rattle.serde_json.specs.Data.{object};
 ghost use Rattle.serde_json.specs.View.{view, members_view};
 ghost use Rattle.serde_json.specs.Written.{has_float, compact_text};
 ghost use Rattle.gql_base.specs.names.Names.{has_name};
 ghost use Rattle.document_reader.specs.Trees.{maybe_identifier, variable_tree};
 ghost use Rattle.typename_rewrite.specs.Views.{word_text};
-ghost use Rattle.typename_rewrite.specs.ForwardedBodies.{variable_name, members_where, members_of, sent_variables, body_data, name_text, member_text};
+ghost use Rattle.typename_rewrite.specs.ForwardedBodies.{AppendsObject, variable_name, members_where, members_of, sent_variables, body_data, name_text, member_text};
 
 use crate::rewriting::Rewritten;
 use crate::words::{Word, add_name};
@@ -55,7 +54,7 @@ fn write_members(
     members: &Map<String, Value>,
     into: &mut String,
 ) -> Result<(), AllocError>
-    ensures { OnOk result (has_float (object (members_where (has_name word_text names.now.items.now) (members_view members.now.entries))) ≡ false → string_bytes into.new ≡ string_bytes into.old ++ compact_text (object (members_where (has_name word_text names.now.items.now) (members_view members.now.entries)))) }
+    ensures { OnOk result (AppendsObject (string_bytes into.old) (string_bytes into.new) (members_where (has_name word_text names.now.items.now) (members_view members.now.entries))) }
 {
     into.push_str("{")?;
     let mut later = false;
@@ -86,7 +85,7 @@ fn write_variables(
     given: &Value,
     into: &mut String,
 ) -> Result<(), AllocError>
-    ensures { OnOk result (has_float (object (sent_variables (map variable_tree variables.now) (view given.now))) ≡ false → string_bytes into.new ≡ string_bytes into.old ++ compact_text (object (sent_variables (map variable_tree variables.now) (view given.now)))) }
+    ensures { OnOk result (AppendsObject (string_bytes into.old) (string_bytes into.new) (sent_variables (map variable_tree variables.now) (view given.now))) }
 {
     let words = variable_words(alloc, variables)?;
     let names = index_of(alloc, words.as_slice())?;
