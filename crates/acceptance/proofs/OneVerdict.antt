@@ -33,7 +33,7 @@ use Rattle.static_cost.specs.declared.too_costly.TooCostly.{TooCostly}
 use Rattle.acceptance.specs.declared.fault.Refusal.{Refusal}
 use Rattle.acceptance.specs.declared.fault.Refusal.TheVariants.{Document, Pick, Rule, Variable, Plan as NoPlan, Bound}
 use Rattle.acceptance.specs.Requests.{RequestData, AsksFor, KeepsRules, AreValues, Prepared, setting, plan_answer}
-use Rattle.acceptance.specs.Bounds.{IsBoundFor, ExceedsCap, NamesExceeding, HasBound, IsAccepted}
+use Rattle.acceptance.specs.Bounds.{IsBoundFor, ExceedsCap, NamesExceeding, HasBound, IsAffordable, IsAccepted}
 use Rattle.cost_num.specs.declared.TheConstants.{CAP}
 use Rattle.response_model.specs.Response.{Tree}
 use Rattle.plan_model.specs.Responses.{IsResponseTo, response_cost}
@@ -338,11 +338,17 @@ same_bound r part p q a b is other =
     one_bound_of (setting r q) part q.root q.operation a b
     (moved r (λ o root values. IsOperationBound (setting_of r.schema r.weights (values_by_name values) r.document o) part root o a) p q is) other
 
-pub one_bound : (r : RequestData) (plan other : Plan) (bound cost : Cost) → IsAccepted r plan bound → IsAccepted r other cost → bound ≡ cost
-one_bound r plan other bound cost a b =
+pub is_affordable : (r : RequestData) (plan : Plan) (bound : Cost) → IsAccepted r plan bound → IsAffordable r bound
+is_affordable r plan bound accepted = (accepted.is_planned.prepared, accepted.is_planned.well, accepted.has_bound)
+
+pub one_affordable : (r : RequestData) (bound cost : Cost) → IsAffordable r bound → IsAffordable r cost → bound ≡ cost
+one_affordable r bound cost a b =
     cost_eq bound cost
-    (same_bound r types a.is_planned.prepared b.is_planned.prepared bound.types cost.types a.has_bound.of_types b.has_bound.of_types)
-    (same_bound r fields a.is_planned.prepared b.is_planned.prepared bound.fields cost.fields a.has_bound.of_fields b.has_bound.of_fields)
+    (same_bound r types a.0 b.0 bound.types cost.types a.2.of_types b.2.of_types)
+    (same_bound r fields a.0 b.0 bound.fields cost.fields a.2.of_fields b.2.of_fields)
+
+pub one_bound : (r : RequestData) (plan other : Plan) (bound cost : Cost) → IsAccepted r plan bound → IsAccepted r other cost → bound ≡ cost
+one_bound r plan other bound cost a b = one_affordable r bound cost (is_affordable r plan bound a) (is_affordable r other cost b)
 
 -- ---- refusals
 
@@ -373,14 +379,16 @@ some_exceeds : (r : RequestData) (p q : Prepared r) (fault : TooCostly) (bound :
 some_exceeds r p q fault bound has named (inl of_types) = exceeded r p q types bound.types has.of_types has.types_within (named.of_types.0 of_types)
 some_exceeds r p q fault bound has named (inr of_fields) = exceeded r p q fields bound.fields has.of_fields has.fields_within (named.of_fields.0 of_fields)
 
+pub affordable_or_refused : (r : RequestData) (bound : Cost) (refusal : Refusal) → IsAffordable r bound → IsRefusedFor r refusal → ⊥
+affordable_or_refused r bound (Document fault) a refused = refused
+affordable_or_refused r bound (Pick fault) a refused = before_plan r a.0 (Pick fault) refused tt
+affordable_or_refused r bound (Rule fault) a refused = before_plan r a.0 (Rule fault) refused tt
+affordable_or_refused r bound (Variable fault) a refused = before_plan r a.0 (Variable fault) refused tt
+affordable_or_refused r bound (NoPlan fault) a refused = no_node_fault fault (plan_answer r refused.0) (same_answer r refused.0 a.0 ∙ a.1) refused.1
+affordable_or_refused r bound (Bound fault) a refused = some_exceeds r a.0 refused.0 fault bound a.2 refused.2 refused.2.some
+
 pub not_both : (r : RequestData) (plan : Plan) (bound : Cost) (refusal : Refusal) → IsAccepted r plan bound → IsRefusedFor r refusal → ⊥
-not_both r plan bound (Document fault) accepted refused = refused
-not_both r plan bound (Pick fault) accepted refused = before_plan r accepted.is_planned.prepared (Pick fault) refused tt
-not_both r plan bound (Rule fault) accepted refused = before_plan r accepted.is_planned.prepared (Rule fault) refused tt
-not_both r plan bound (Variable fault) accepted refused = before_plan r accepted.is_planned.prepared (Variable fault) refused tt
-not_both r plan bound (NoPlan fault) accepted refused =
-    no_node_fault fault (plan_answer r refused.0) (same_answer r refused.0 accepted.is_planned.prepared ∙ accepted.is_planned.well) refused.1
-not_both r plan bound (Bound fault) accepted refused = some_exceeds r accepted.is_planned.prepared refused.0 fault bound accepted.has_bound refused.2 refused.2.some
+not_both r plan bound refusal accepted = affordable_or_refused r bound refusal (is_affordable r plan bound accepted)
 
 pub one_refusal : (r : RequestData) (refusal other : Refusal) → IsRefusedFor r refusal → IsRefusedFor r other → refusal ≡ other
 one_refusal r (Document f) (Document g) a b = absurd a

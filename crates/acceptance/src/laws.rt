@@ -12,8 +12,12 @@ ghost use Rattle.acceptance.specs.AskAlike.{AskAlike};
 use plan_model::laws::{operations_planned_well, responses_of_a_plan};
 use response_model::laws::{greatest_is_bound, one_bound};
 
-/// A request that is accepted isn't refused. It is accepted with one bound, and refused in one way, at most.
+/// A request whose operation has a bound within the cap isn't refused, and has one such bound; a request is refused in one way at most.
+/// So a request that is accepted isn't refused, and is accepted with one bound.
 pub fn a_request_has_one_verdict()
+    ensures accepted_is_affordable { (r : RequestData) (plan : PlanType) (bound : CostType) → IsAccepted r plan bound → IsAffordable r bound }
+    ensures affordable_or_refused { (r : RequestData) (bound : CostType) (refusal : Refusal) → IsAffordable r bound → IsRefusedFor r refusal → ⊥ }
+    ensures one_affordable { (r : RequestData) (bound cost : CostType) → IsAffordable r bound → IsAffordable r cost → bound ≡ cost }
     ensures not_both { (r : RequestData) (plan : PlanType) (bound : CostType) (refusal : Refusal) → IsAccepted r plan bound → IsRefusedFor r refusal → ⊥ }
     ensures one_bound { (r : RequestData) (plan other : PlanType) (bound cost : CostType) → IsAccepted r plan bound → IsAccepted r other cost → bound ≡ cost }
     ensures one_refusal { (r : RequestData) (refusal other : Refusal) → IsRefusedFor r refusal → IsRefusedFor r other → refusal ≡ other }

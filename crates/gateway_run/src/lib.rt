@@ -34,6 +34,6 @@ pub use laws::{
 pub use outcome::{
     DONE, FILE_FAILED, NO_MEMORY, NOT_RESPONSE, REFUSED, SIZE_BROKEN, STREAM_FAILED, USAGE,
 };
-pub use price_laws::{an_operation_has_a_price_or_one_refusal, two_files_have_one_price};
+pub use price_laws::{a_refused_operation_has_no_price, two_files_have_one_price};
 pub use program::{end_without_command, run};
 pub use status_laws::a_status_says_what_was_done;

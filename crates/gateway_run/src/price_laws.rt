@@ -26,7 +26,7 @@ pub fn two_files_have_one_price()
 }
 
 /// An operation of texts that is refused has no price, and is refused in one way at most.
-pub fn an_operation_has_a_price_or_one_refusal()
+pub fn a_refused_operation_has_no_price()
     ensures not_both { (asked : Asked) (texts : AskedTexts) (cost : CostType) (refusal : AskedRefusal) → IsRefusalOf asked texts refusal → HasPrice asked texts cost → ⊥ }
     ensures one_refusal { (asked : Asked) (texts : AskedTexts) (refusal other : AskedRefusal) → IsRefusalOf asked texts refusal → IsRefusalOf asked texts other → refusal ≡ other }
 {

@@ -1,6 +1,6 @@
 -- By cases on the refusals.
 use Rattle.gateway_run.proofs.OnePrice.{OneRefusal, one_refusal, not_both}
-use Rattle.gateway_run.proofs.price_laws.an_operation_has_a_price_or_one_refusal.Goals as goal
+use Rattle.gateway_run.proofs.price_laws.a_refused_operation_has_no_price.Goals as goal
 
 pub returns-clause-not_both : goal.returns-clause-not_both
 returns-clause-not_both c = not_both record {
