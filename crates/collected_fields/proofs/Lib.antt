@@ -6,3 +6,5 @@ pub mod WalkLaws
 pub mod GroupLaws
 pub mod CollectLaws
 pub mod WalkSteps
+pub mod Marking
+pub mod FieldlessLaws

@@ -14,7 +14,9 @@ use Rattle.plan_model.proofs.Thinning.{held_left, IsIn, all_go, seen_or_stays, i
 use Rattle.plan_model.proofs.Walking.{none_below_none, not_below_itself, opened}
 use Rattle.collected_fields.specs.Steps.{StepData, field_step, spread_step, inline_step, fields_of_steps, by_number, fields_of_fragment, IsRankedFragment, StepsRanked, LeavesOutUnknown, StandsFor}
 use Rattle.collected_fields.specs.Prepared.{ListData, EntryData, written_of, entry_seen, entry_wanted, ArePrepared, AreListed, AreSound}
-use Rattle.collected_fields.specs.Walks.{field_alone, WalkData, is_marked, marked, kept, IsBlank, steps_in, walk_steps, walk_entry, walk_fragment, walk_lists}
+use Rattle.collected_fields.specs.Fieldless.{steps_in, is_fieldless, are_fieldless}
+use Rattle.collected_fields.proofs.FieldlessLaws.{both_true}
+use Rattle.collected_fields.specs.Walks.{field_alone, WalkData, is_marked, marked, kept, IsBlank, steps_left, walk_steps, walk_entry, walk_fragment, walk_lists}
 
 -- ---- lists
 
@@ -93,7 +95,8 @@ unfolding fields_spread
 unknown_spread e T zero name none = refl
 unknown_spread e T (suc depth) name none = ap (fields_entered e T (fields_spread e T depth)) none
 
-module _ (rank : List ℕ → ℕ) (e : Setting) (T : ℕ) (ranks : FragmentsRanked rank e) (lists : List ListData) (entries : List EntryData) (sound : AreSound e lists entries) (depth : ℕ) where
+module _ (rank : List ℕ → ℕ) (e : Setting) (T : ℕ) (ranks : FragmentsRanked rank e) (lists : List ListData) (entries : List EntryData) (sound : AreSound e lists entries)
+    (none : ℕ → Bool) (empty : (number : ℕ) → none number ≡ true → are_fieldless e.schema T entries none 0 (steps_in (slice_get lists number)) ≡ true) (depth : ℕ) where
   abbrev whole : List ℕ → List CollectedField
   whole = fields_spread e T depth
 
@@ -162,11 +165,83 @@ module _ (rank : List ℕ → ℕ) (e : Setting) (T : ℕ) (ranks : FragmentsRan
       (steps_collected bound enter 0 xs v follows r.1 (known_after bound w (whole_at k) v known c))
   steps_collected bound enter zero (inline_step on count ∷ xs) w follows r known = steps_collected bound enter (if applies e.schema on T then 0 else count) xs w follows r known
 
+  -- ---- selection sets without fields
+
+  nothing_left : (xs : List CollectedField) → IsThinned [] xs [] → xs ≡ []
+  nothing_left [] h = refl
+  nothing_left (x ∷ xs) h = absurd h.0
+
+  where_none : (b n : Bool) (fields : List CollectedField) → (n ≡ true → fields ≡ []) → (if b then n else true) ≡ true → (if b then fields else []) ≡ []
+  where_none true n fields gone h = gone h
+  where_none false n fields gone h = refl
+
+  abbrev GivesNone : (List ℕ → List CollectedField) → Type 0
+  GivesNone spread = (bound k : ℕ) → IsRankedFragment e rank bound k → is_fieldless e.schema T entries none (slice_get entries k) ≡ true → by_number e spread k ≡ []
+
+  steps_give_none : (spread : List ℕ → List CollectedField) → GivesNone spread → (bound skip : ℕ) (xs : List StepData) → StepsRanked e rank bound xs → are_fieldless e.schema T entries none skip xs ≡ true → fields_of_steps e.schema T (by_number e spread) skip xs ≡ []
+  steps_give_none spread gives bound skip [] r h = refl
+  steps_give_none spread gives bound (suc n) (x ∷ xs) r h = steps_give_none spread gives bound n xs (ranked_rest e rank bound x xs r) h
+  steps_give_none spread gives bound zero (field_step f below ∷ xs) r h = absurd (true≢false (sym h))
+  steps_give_none spread gives bound zero (spread_step k ∷ xs) r h =
+      let both = both_true (is_fieldless e.schema T entries none (slice_get entries k)) (are_fieldless e.schema T entries none 0 xs) h in
+      ap (λ (fields : List CollectedField). fields ++ fields_of_steps e.schema T (by_number e spread) 0 xs) (gives bound k r.0 both.0) ∙ steps_give_none spread gives bound 0 xs r.1 both.1
+  steps_give_none spread gives bound zero (inline_step on count ∷ xs) r h = steps_give_none spread gives bound (if applies e.schema on T then 0 else count) xs r h
+
+  list_gives_none : (spread : List ℕ → List CollectedField) → GivesNone spread → (bound number : ℕ) (l : ListData) → slice_get lists number ≡ Some l → StepsRanked e rank bound l.steps → none number ≡ true → fields_of_steps e.schema T (by_number e spread) 0 l.steps ≡ []
+  list_gives_none spread gives bound number l there r is = steps_give_none spread gives bound 0 l.steps r (ap (λ o. are_fieldless e.schema T entries none 0 (steps_in o)) (sym there) ∙ empty number is)
+
+  -- the entry of a fragment, and its selection set
+  record EntryOf (k : ℕ) (f : FragmentData) : Type 0 where
+    entry : EntryData
+    there : slice_get entries k ≡ Some entry
+    on : entry.0 ≡ type_named e.schema f.on.0
+    list : ListData
+    listed : slice_get lists entry.1 ≡ Some list
+    written : written_of list ≡ written_in e.schema f
+
+  entry_of : (k : ℕ) (f : FragmentData) → slice_get e.fragments k ≡ Some f → EntryOf k f
+  entry_of k f there =
+      let wanted : slice_get (map (entry_seen lists) entries) k ≡ Some (entry_wanted e.schema f) = ap (λ xs. slice_get xs k) sound.entered ∙ (slice_get-map (entry_wanted e.schema) e.fragments k ∙ ap (seen_as (entry_wanted e.schema)) there) in
+      let entry = got_seen (entry_seen lists) entries k (entry_wanted e.schema f) wanted in
+      let list = got_seen written_of lists entry.0.1 (written_in e.schema f) (ap (λ p. p.1) entry.1.1) in
+      record { entry = entry.0; there = entry.1.0; on = ap (λ p. p.0) entry.1.1; list = list.0; listed = list.1.0; written = list.1.1 }
+
+  entered_none : (d bound k : ℕ) (f : FragmentData) → EntryOf k f → GivesNone (fields_spread e T d) → AreRanked rank bound f.below → is_fieldless e.schema T entries none (slice_get entries k) ≡ true → fields_entered e T (fields_spread e T d) (Some f) ≡ []
+  unfolding applies_by_name
+  entered_none d bound k f o gives r h =
+      let spread : List ℕ → List CollectedField = fields_spread e T d in
+      let stands = (prepared_at e lists lists o.entry.1 o.list sound.prepared o.listed).0 in
+      let ranked : StepsRanked e rank bound o.list.steps = stands.ranks rank bound (subst (λ (x : WrittenSelections). AreRanked rank bound x.1) (sym o.written) r) in
+      where_none (applies_where e.schema T (type_named e.schema f.on.0)) (none o.entry.1) (fields_written e T spread (written_in e.schema f))
+      (λ (is : none o.entry.1 ≡ true). ap (fields_written e T spread) (sym o.written) ∙ nothing_left (fields_written e T spread (written_of o.list)) (subst (λ (fields : List CollectedField). IsThinned [] (fields_written e T spread (written_of o.list)) fields) (list_gives_none spread gives bound o.entry.1 o.list o.listed ranked is) (stands.fields T spread (unknown_spread e T d))))
+      (ap (λ (on : Option ℕ). if applies_where e.schema T on then none o.entry.1 else true) (sym o.on) ∙ (ap (λ (x : Option EntryData). is_fieldless e.schema T entries none x) (sym o.there) ∙ h))
+
+  spread_gives_none : (d : ℕ) → GivesNone (fields_spread e T d)
+  unfolding fields_spread
+  spread_gives_none zero bound k r h = ap (fields_of_fragment (fields_spread e T 0)) r.there
+  spread_gives_none (suc d) bound k r h =
+      ap (fields_of_fragment (fields_spread e T (suc d))) r.there ∙ (ap (fields_entered e T (fields_spread e T d)) r.first
+      ∙ entered_none d (rank (fragment_name r.fragment)) k r.fragment (entry_of k r.fragment r.there) (spread_gives_none d) (ranks (fragment_name r.fragment) r.fragment r.first) h)
+
+  -- ---- selection sets by their numbers
+
+  abbrev left : ℕ → List StepData
+  left = steps_left none lists
+
+  left_collected : (b : Bool) (bound : ℕ) (enter : ℕ → WalkData → WalkData) (xs : List StepData) (w : WalkData) → (b ≡ true → fields_of_steps e.schema T whole_at 0 xs ≡ []) → Follows bound enter → StepsRanked e rank bound xs → IsKnown bound w
+      → Collects w (fields_of_steps e.schema T whole_at 0 xs) (walk_steps e.schema T enter 0 (if b then [] else xs) w)
+  left_collected true bound enter xs w gone follows r known = subst (λ (fields : List CollectedField). Collects w fields w) (sym (gone refl)) (none_added w [] (λ x h. absurd h))
+  left_collected false bound enter xs w gone follows r known = steps_collected bound enter 0 xs w follows r known
+
   -- a selection set that is listed
-  list_collected : (bound : ℕ) (enter : ℕ → WalkData → WalkData) (l : ListData) (w : WalkData) → StandsFor e [] l.parent l.selections l.steps → Follows bound enter → AreRanked rank bound (selections_from l.selections) → IsKnown bound w
-      → Collects w (fields_written e T whole (written_of l)) (walk_steps e.schema T enter 0 l.steps w)
-  list_collected bound enter l w stands follows r known =
-      let c : Collects w (fields_of_steps e.schema T whole_at 0 l.steps) (walk_steps e.schema T enter 0 l.steps w) = steps_collected bound enter 0 l.steps w follows (stands.ranks rank bound r) known in
+  list_collected : (bound : ℕ) (enter : ℕ → WalkData → WalkData) (number : ℕ) (l : ListData) (w : WalkData) → slice_get lists number ≡ Some l → Follows bound enter → AreRanked rank bound (selections_from l.selections) → IsKnown bound w
+      → Collects w (fields_written e T whole (written_of l)) (walk_steps e.schema T enter 0 (left number) w)
+  list_collected bound enter number l w there follows r known =
+      let stands = (prepared_at e lists lists number l sound.prepared there).0 in
+      let ranked : StepsRanked e rank bound l.steps = stands.ranks rank bound r in
+      let v : WalkData = walk_steps e.schema T enter 0 (left number) w in
+      let c : Collects w (fields_of_steps e.schema T whole_at 0 l.steps) v = subst (λ (o : Option ListData). Collects w (fields_of_steps e.schema T whole_at 0 l.steps) (walk_steps e.schema T enter 0 (if none number then [] else steps_in o) w)) (sym there)
+      (left_collected (none number) bound enter l.steps w (list_gives_none whole (spread_gives_none depth) bound number l there ranked) follows ranked known) in
       record {
         added = c.added;
         grown = c.grown;
@@ -176,26 +251,17 @@ module _ (rank : List ℕ → ℕ) (e : Setting) (T : ℕ) (ranks : FragmentsRan
 
   -- the selections of a fragment
   entry_walked : (bound : ℕ) (enter : ℕ → WalkData → WalkData) (k : ℕ) (f : FragmentData) (w : WalkData) → slice_get e.fragments k ≡ Some f → Follows bound enter → AreRanked rank bound f.below → IsKnown bound w
-      → Collects w (fields_entered e T whole (Some f)) (walk_entry e.schema T lists entries enter (slice_get entries k) w)
+      → Collects w (fields_entered e T whole (Some f)) (walk_entry e.schema T left entries enter (slice_get entries k) w)
   unfolding applies_by_name
   entry_walked bound enter k f w there follows r known =
-      let wanted : slice_get (map (entry_seen lists) entries) k ≡ Some (entry_wanted e.schema f) = ap (λ xs. slice_get xs k) sound.entered ∙ (slice_get-map (entry_wanted e.schema) e.fragments k ∙ ap (λ o. option_seen o) there) in
-      let entry = got_seen (entry_seen lists) entries k (entry_wanted e.schema f) wanted in
-      let on : entry.0.0 ≡ type_named e.schema f.on.0 = ap (λ p. p.0) entry.1.1 in
-      let list = got_seen written_of lists entry.0.1 (written_in e.schema f) (ap (λ p. p.1) entry.1.1) in
-      let l : ListData = list.0 in
-      let c : Collects w (fields_written e T whole (written_in e.schema f)) (walk_steps e.schema T enter 0 l.steps w) = subst (λ (x : WrittenSelections). Collects w (fields_written e T whole x) (walk_steps e.schema T enter 0 l.steps w)) list.1.1
-      (list_collected bound enter l w (prepared_at e lists lists entry.0.1 l sound.prepared list.1.0).0 follows (subst (λ (x : WrittenSelections). AreRanked rank bound x.1) (sym list.1.1) r) known) in
-      let so : Collects w (fields_entered e T whole (Some f)) (if applies_where e.schema T (type_named e.schema f.on.0) then walk_steps e.schema T enter 0 l.steps w else w) = where_so (applies_where e.schema T (type_named e.schema f.on.0)) w (fields_written e T whole (written_in e.schema f)) (walk_steps e.schema T enter 0 l.steps w) c in
-      subst (λ (v : WalkData). Collects w (fields_entered e T whole (Some f)) v)
-      (ap (λ (o : Option ℕ). if applies_where e.schema T o then walk_steps e.schema T enter 0 l.steps w else w) (sym on)
-      ∙ (ap (λ (xs : Option ListData). if applies_where e.schema T entry.0.0 then walk_steps e.schema T enter 0 (steps_in xs) w else w) (sym list.1.0)
-      ∙ ap (λ (o : Option EntryData). walk_entry e.schema T lists entries enter o w) (sym entry.1.0)))
+      let o : EntryOf k f = entry_of k f there in
+      let v : WalkData = walk_steps e.schema T enter 0 (left o.entry.1) w in
+      let c : Collects w (fields_written e T whole (written_in e.schema f)) v = subst (λ (x : WrittenSelections). Collects w (fields_written e T whole x) v) o.written
+      (list_collected bound enter o.entry.1 o.list w o.listed follows (subst (λ (x : WrittenSelections). AreRanked rank bound x.1) (sym o.written) r) known) in
+      let so : Collects w (fields_entered e T whole (Some f)) (if applies_where e.schema T (type_named e.schema f.on.0) then v else w) = where_so (applies_where e.schema T (type_named e.schema f.on.0)) w (fields_written e T whole (written_in e.schema f)) v c in
+      subst (λ (u : WalkData). Collects w (fields_entered e T whole (Some f)) u)
+      (ap (λ (on : Option ℕ). if applies_where e.schema T on then v else w) (sym o.on) ∙ ap (λ (x : Option EntryData). walk_entry e.schema T left entries enter x w) (sym o.there))
       so
-    where
-      option_seen : Option FragmentData → Option (Option ℕ × Option WrittenSelections)
-      option_seen None = None
-      option_seen (Some g) = Some (entry_wanted e.schema g)
 
   left_again : (k : ℕ) (f : FragmentData) (w v : WalkData) → slice_get e.fragments k ≡ Some f → Collects (marked k w) (whole (fragment_name f)) v → Collects w (whole (fragment_name f)) v
   left_again k f w v there c = record {
@@ -222,15 +288,15 @@ module _ (rank : List ℕ → ℕ) (e : Setting) (T : ℕ) (ranks : FragmentsRan
       (λ (before : IsMarked w j). subst (λ (xs : List CollectedField). IsIn (whole (fragment_name g)) xs) (sym (plain_marked k w)) (known j g at before (omega arith)))
       (marked_either w.marks k j h)
 
-  spread_collected : (n bound : ℕ) → bound ≤ n → bound ≤ depth → Follows bound (walk_fragment e.schema T lists entries n)
+  spread_collected : (n bound : ℕ) → bound ≤ n → bound ≤ depth → Follows bound (walk_fragment e.schema T left entries n)
   unfolding walk_fragment Follows
   spread_collected zero bound le within k r w known = absurd (none_below_none (rank (fragment_name r.fragment)) bound le r.less)
   spread_collected (suc n) bound le within k r w known =
       let f : FragmentData = r.fragment in
       let name : List ℕ = fragment_name f in
       let less : rank name < bound = r.less in
-      let v : WalkData = walk_entry e.schema T lists entries (walk_fragment e.schema T lists entries n) (slice_get entries k) (marked k w) in
-      let c : Collects (marked k w) (fields_entered e T whole (Some f)) v = entry_walked (rank name) (walk_fragment e.schema T lists entries n) k f (marked k w) r.there (spread_collected n (rank name) (omega arith) (omega arith)) (ranks name f r.first) (known_inside bound k f w r.there less known) in
+      let v : WalkData = walk_entry e.schema T left entries (walk_fragment e.schema T left entries n) (slice_get entries k) (marked k w) in
+      let c : Collects (marked k w) (fields_entered e T whole (Some f)) v = entry_walked (rank name) (walk_fragment e.schema T left entries n) k f (marked k w) r.there (spread_collected n (rank name) (omega arith) (omega arith)) (ranks name f r.first) (known_inside bound k f w r.there less known) in
       let d : Collects (marked k w) (whole name) v = subst (λ (fields : List CollectedField). Collects (marked k w) fields v) (sym (opened rank e T ranks depth name (omega arith) ∙ ap (fields_entered e T whole) r.first)) c in
       subst (λ (fields : List CollectedField). Collects w fields (if is_marked k w then w else v)) (sym (ap (fields_of_fragment whole) r.there))
       (passed_or_not (is_marked k w) k w v (whole name) refl (λ h. known k f r.there h less) (left_again k f w v r.there d))
@@ -240,31 +306,37 @@ module _ (rank : List ℕ → ℕ) (e : Setting) (T : ℕ) (ranks : FragmentsRan
   abbrev written_under : ℕ → WrittenSelections
   written_under number = get_or (map written_of lists) number (None, no_selection)
 
-  one_list : (number : ℕ) (o : Option ListData) (w : WalkData) → slice_get lists number ≡ o → Follows depth (walk_fragment e.schema T lists entries depth) → AreRanked rank depth (written_under number).1 → IsKnown depth w
-      → Collects w (fields_written e T whole (written_under number)) (walk_steps e.schema T (walk_fragment e.schema T lists entries depth) 0 (steps_in o) w)
-  one_list number None w is follows r known = subst (λ (x : WrittenSelections). Collects w (fields_written e T whole x) w) (sym (unlisted lists number is)) (none_added w [] (λ x h. absurd h))
+  one_list : (number : ℕ) (o : Option ListData) (w : WalkData) → slice_get lists number ≡ o → Follows depth (walk_fragment e.schema T left entries depth) → AreRanked rank depth (written_under number).1 → IsKnown depth w
+      → Collects w (fields_written e T whole (written_under number)) (walk_steps e.schema T (walk_fragment e.schema T left entries depth) 0 (left number) w)
+  one_list number None w is follows r known =
+      subst (λ (xs : List StepData). Collects w (fields_written e T whole (written_under number)) (walk_steps e.schema T (walk_fragment e.schema T left entries depth) 0 xs w)) (sym (ap (λ (o : Option ListData). if none number then [] else steps_in o) is ∙ either (none number)))
+      (subst (λ (x : WrittenSelections). Collects w (fields_written e T whole x) w) (sym (unlisted lists number is)) (none_added w [] (λ x h. absurd h)))
     where
+      either : (b : Bool) → (if b then [] else steps_in None) ≡ []
+      either true = refl
+      either false = refl
+
       unlisted : (all : List ListData) (n : ℕ) → slice_get all n ≡ None → get_or (map written_of all) n (None, no_selection) ≡ (None, no_selection)
       unlisted [] n h = refl
       unlisted (x ∷ all) zero h = absurd (none-some x (sym h))
       unlisted (x ∷ all) (suc n) h = unlisted all n h
   one_list number (Some l) w is follows r known =
       let same : written_under number ≡ written_of l = get_or_from_slice_get (map written_of lists) number (written_of l) (None, no_selection) (slice_get-map written_of lists number ∙ ap (seen_as written_of) is) in
-      subst (λ (x : WrittenSelections). Collects w (fields_written e T whole x) (walk_steps e.schema T (walk_fragment e.schema T lists entries depth) 0 l.steps w)) (sym same)
-      (list_collected depth (walk_fragment e.schema T lists entries depth) l w (prepared_at e lists lists number l sound.prepared is).0 follows (subst (λ (x : WrittenSelections). AreRanked rank depth x.1) same r) known)
+      subst (λ (x : WrittenSelections). Collects w (fields_written e T whole x) (walk_steps e.schema T (walk_fragment e.schema T left entries depth) 0 (left number) w)) (sym same)
+      (list_collected depth (walk_fragment e.schema T left entries depth) number l w is follows (subst (λ (x : WrittenSelections). AreRanked rank depth x.1) same r) known)
 
-  lists_collected : (numbers : List ℕ) (w : WalkData) → AllRanked rank depth (map written_under numbers) → IsKnown depth w → Collects w (collected_to e T depth (map written_under numbers)) (walk_lists e.schema T lists entries depth numbers w)
+  lists_collected : (numbers : List ℕ) (w : WalkData) → AllRanked rank depth (map written_under numbers) → IsKnown depth w → Collects w (collected_to e T depth (map written_under numbers)) (walk_lists e.schema T left entries depth numbers w)
   lists_collected [] w r known = none_added w [] (λ x h. absurd h)
   lists_collected (number ∷ numbers) w r known =
-      let enter : ℕ → WalkData → WalkData = walk_fragment e.schema T lists entries depth in
-      let v : WalkData = walk_steps e.schema T enter 0 (steps_in (slice_get lists number)) w in
+      let enter : ℕ → WalkData → WalkData = walk_fragment e.schema T left entries depth in
+      let v : WalkData = walk_steps e.schema T enter 0 (left number) w in
       let c : Collects w (fields_written e T whole (written_under number)) v = one_list number (slice_get lists number) w refl (spread_collected depth depth (omega arith) (omega arith)) r.0 known in
-      one_after w (fields_written e T whole (written_under number)) v (collected_to e T depth (map written_under numbers)) (walk_lists e.schema T lists entries depth numbers v) c
+      one_after w (fields_written e T whole (written_under number)) v (collected_to e T depth (map written_under numbers)) (walk_lists e.schema T left entries depth numbers v) c
       (lists_collected numbers v r.1 (known_after depth w (fields_written e T whole (written_under number)) v known c))
 
-  pub walked_lists : (numbers : List ℕ) (w : WalkData) → IsBlank w → AllRanked rank depth (map written_under numbers) → LeavesOutRepeats (collected_to e T depth (map written_under numbers)) (plain (walk_lists e.schema T lists entries depth numbers w))
+  pub walked_lists : (numbers : List ℕ) (w : WalkData) → IsBlank w → AllRanked rank depth (map written_under numbers) → LeavesOutRepeats (collected_to e T depth (map written_under numbers)) (plain (walk_lists e.schema T left entries depth numbers w))
   walked_lists numbers w blank r =
       let nothing : plain w ≡ [] = plain_none w blank.1 in
-      let c : Collects w (collected_to e T depth (map written_under numbers)) (walk_lists e.schema T lists entries depth numbers w) = lists_collected numbers w r (λ k f there h less. absurd (true≢false (sym h ∙ blank.0 k))) in
+      let c : Collects w (collected_to e T depth (map written_under numbers)) (walk_lists e.schema T left entries depth numbers w) = lists_collected numbers w r (λ k f there h less. absurd (true≢false (sym h ∙ blank.0 k))) in
       subst (λ (fs : List CollectedField). LeavesOutRepeats (collected_to e T depth (map written_under numbers)) fs) (sym (c.grown ∙ ap (λ (xs : List CollectedField). xs ++ c.added) nothing))
       (subst (λ (xs : List CollectedField). IsThinned xs (collected_to e T depth (map written_under numbers)) c.added) nothing c.thin)

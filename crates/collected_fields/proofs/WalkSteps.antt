@@ -9,17 +9,18 @@ use Rattle.collected_fields.specs.Steps.{StepData, step_data}
 use Rattle.collected_fields.specs.Prepared.{ListData, EntryData}
 use Rattle.collected_fields.specs.Walks.{WalkData, is_marked, marked, walk_steps, walk_entry, walk_fragment}
 
+-- the steps behind a place
+pub behind : (steps : List Step) (at skip place : ℕ) → (skip < length steps - at → place ≡ at + 1 + skip) → (length steps ≤ at + skip → place ≡ length steps) → drop place steps ≡ drop skip (drop (at + 1) steps)
+behind steps at skip place some all = ⊎_elim
+    (λ (less : at + skip < length steps). ap (λ n. drop n steps) (some (omega arith)) ∙ sym (drop-drop skip (at + 1) steps))
+    (λ (past : length steps ≤ at + skip). ap (λ n. drop n steps) (all past) ∙ (drop_all (length steps) steps (omega arith) ∙ sym (drop-drop skip (at + 1) steps ∙ drop_all (at + 1 + skip) steps (omega arith))))
+    (cases_lt (at + skip) (length steps))
+
 module _ (s : SchemaData) (T : ℕ) (enter : ℕ → WalkData → WalkData) where
   passing : (n : ℕ) (xs : List Step) (w : WalkData) → walk_steps s T enter n (map step_data xs) w ≡ walk_steps s T enter 0 (map step_data (drop n xs)) w
   passing zero xs w = refl
   passing (suc n) [] w = refl
   passing (suc n) (x ∷ xs) w = passing n xs w
-
-  behind : (steps : List Step) (at skip place : ℕ) → (skip < length steps - at → place ≡ at + 1 + skip) → (length steps ≤ at + skip → place ≡ length steps) → drop place steps ≡ drop skip (drop (at + 1) steps)
-  behind steps at skip place some all = ⊎_elim
-      (λ (less : at + skip < length steps). ap (λ n. drop n steps) (some (omega arith)) ∙ sym (drop-drop skip (at + 1) steps))
-      (λ (past : length steps ≤ at + skip). ap (λ n. drop n steps) (all past) ∙ (drop_all (length steps) steps (omega arith) ∙ sym (drop-drop skip (at + 1) steps ∙ drop_all (at + 1 + skip) steps (omega arith))))
-      (cases_lt (at + skip) (length steps))
 
   pub next_step : (steps : List Step) (at skip place : ℕ) (x : Step) (w v whole : WalkData) → at < length steps → x ≡ get_or steps at x → (skip < length steps - at → place ≡ at + 1 + skip) → (length steps ≤ at + skip → place ≡ length steps)
       → ((others : List StepData) → walk_steps s T enter skip others v ≡ walk_steps s T enter 0 (step_data x ∷ others) w) → walk_steps s T enter 0 (map step_data (drop at steps)) w ≡ whole → walk_steps s T enter 0 (map step_data (drop place steps)) v ≡ whole
@@ -32,8 +33,8 @@ module _ (s : SchemaData) (T : ℕ) (enter : ℕ → WalkData → WalkData) wher
 
 -- ---- a fragment
 
-module _ (s : SchemaData) (T : ℕ) (lists : List ListData) (entries : List EntryData) where
-  pub at_no_depth : (d k : ℕ) (w : WalkData) → d ≡ 0 → w ≡ walk_fragment s T lists entries d k w
+module _ (s : SchemaData) (T : ℕ) (steps : ℕ → List StepData) (entries : List EntryData) where
+  pub at_no_depth : (d k : ℕ) (w : WalkData) → d ≡ 0 → w ≡ walk_fragment s T steps entries d k w
   unfolding walk_fragment
   at_no_depth zero k w none = refl
   at_no_depth (suc d) k w none = absurd (no_zero d none)
@@ -41,12 +42,12 @@ module _ (s : SchemaData) (T : ℕ) (lists : List ListData) (entries : List Entr
       no_zero : (d : ℕ) → suc d ≡ 0 → ⊥
       no_zero d e = omega (arith, e)
 
-  pub passed_over : (d k : ℕ) (w : WalkData) → is_marked k w ≡ true → w ≡ walk_fragment s T lists entries d k w
+  pub passed_over : (d k : ℕ) (w : WalkData) → is_marked k w ≡ true → w ≡ walk_fragment s T steps entries d k w
   unfolding walk_fragment
   passed_over zero k w is = refl
   passed_over (suc d) k w is = rw (is) refl
 
-  pub gone_into : (d k : ℕ) (w v u : WalkData) → (d ≡ 0 → ⊥) → is_marked k w ≡ false → v ≡ marked k w → u ≡ walk_entry s T lists entries (walk_fragment s T lists entries (d - 1)) (slice_get entries k) v → u ≡ walk_fragment s T lists entries d k w
+  pub gone_into : (d k : ℕ) (w v u : WalkData) → (d ≡ 0 → ⊥) → is_marked k w ≡ false → v ≡ marked k w → u ≡ walk_entry s T steps entries (walk_fragment s T steps entries (d - 1)) (slice_get entries k) v → u ≡ walk_fragment s T steps entries d k w
   unfolding walk_fragment
   gone_into zero k w v u some new is walks = absurd (some refl)
-  gone_into (suc d) k w v u some new is walks = let less : suc d - 1 ≡ d = omega arith in rw (new) (walks ∙ (ap (λ n. walk_entry s T lists entries (walk_fragment s T lists entries n) (slice_get entries k) v) less ∙ ap (λ x. walk_entry s T lists entries (walk_fragment s T lists entries d) (slice_get entries k) x) is))
+  gone_into (suc d) k w v u some new is walks = let less : suc d - 1 ≡ d = omega arith in rw (new) (walks ∙ (ap (λ n. walk_entry s T steps entries (walk_fragment s T steps entries n) (slice_get entries k) v) less ∙ ap (λ x. walk_entry s T steps entries (walk_fragment s T steps entries d) (slice_get entries k) x) is))

@@ -12,6 +12,7 @@ use Rattle.collected_fields.specs.declared.collected.Group.{Group}
 use Rattle.collected_fields.specs.declared.collector.Collector.{Collector}
 use Rattle.collected_fields.specs.declared.tables.SelectionList.{SelectionList}
 use Rattle.collected_fields.specs.Prepared.{list_data, entry_data, AreSound}
+use Rattle.collected_fields.specs.Fieldless.{KnowsFieldless}
 use Rattle.collected_fields.specs.Views.{setting_of_planning, collected_field}
 
 -- the fields of each key, in the order in which the keys first stand
@@ -43,9 +44,9 @@ written_at c number = get_or (map written_in_list c.tables.lists.items) number (
 abbrev pub position_at : Collector → List ℕ → Position
 position_at c numbers = record { selections = map (written_at c) numbers; handed = None }
 
--- What a collector's selection sets keep, from the time it is made.
+-- What a collector's selection sets keep, from the time it is made; and those that it knows to have no fields have none.
 unfoldable pub IsReady : Collector → Type 0
-IsReady c = AreSound (setting_at c) (map list_data c.tables.lists.items) (map entry_data c.tables.entries.items)
+IsReady c = AreSound (setting_at c) (map list_data c.tables.lists.items) (map entry_data c.tables.entries.items) × KnowsFieldless c.tables c.known.none
 
 -- Each field has the number of its own selections.
 abbrev pub AreNumbered : Collector → List Group → Type 0

@@ -5,5 +5,6 @@ pub mod Gathering
 pub mod Steps
 pub mod Prepared
 pub mod Drafts
+pub mod Fieldless
 pub mod Walks
 pub mod Grouping

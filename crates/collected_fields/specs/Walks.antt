@@ -10,6 +10,8 @@ use Rattle.collected_fields.specs.declared.state.Walk.{Walk}
 use Rattle.collected_fields.specs.Views.{collected_field}
 use Rattle.collected_fields.specs.Steps.{StepData, field_step, spread_step, inline_step}
 use Rattle.collected_fields.specs.declared.tables.Tables.{Tables}
+use Rattle.collected_fields.specs.declared.marks.Marks.{Marks}
+use Rattle.collected_fields.specs.Fieldless.{steps_in, marked_for}
 use Rattle.collected_fields.specs.Prepared.{ListData, EntryData, list_data, entry_data}
 
 -- a field, and the number of its selections
@@ -43,10 +45,6 @@ kept f w = record w { fields = w.fields ++ (f ∷ []) }
 abbrev pub IsBlank : WalkData → Type 0
 IsBlank w = ((number : ℕ) → is_marked number w ≡ false) × (w.fields ≡ [])
 
-abbrev pub steps_in : Option ListData → List StepData
-steps_in None = []
-steps_in (Some l) = l.steps
-
 module _ (s : SchemaData) (T : ℕ) where
   -- behind as many steps as are passed over; `enter` walks the fragment of a number
   abbrev pub walk_steps : (ℕ → WalkData → WalkData) → ℕ → List StepData → WalkData → WalkData
@@ -56,10 +54,11 @@ module _ (s : SchemaData) (T : ℕ) where
   walk_steps enter zero (spread_step number ∷ xs) w = walk_steps enter zero xs (enter number w)
   walk_steps enter zero (inline_step on count ∷ xs) w = walk_steps enter (if applies s on T then 0 else count) xs w
 
-  module _ (lists : List ListData) (entries : List EntryData) where
+  -- `steps` are those of the selection set of a number
+  module _ (steps : ℕ → List StepData) (entries : List EntryData) where
     abbrev pub walk_entry : (ℕ → WalkData → WalkData) → Option EntryData → WalkData → WalkData
     walk_entry enter None w = w
-    walk_entry enter (Some entry) w = if applies_where s T entry.0 then walk_steps enter 0 (steps_in (slice_get lists entry.1)) w else w
+    walk_entry enter (Some entry) w = if applies_where s T entry.0 then walk_steps enter 0 (steps entry.1) w else w
 
     -- a fragment that was entered is passed over
     unfoldable pub walk_fragment : ℕ → ℕ → WalkData → WalkData
@@ -68,7 +67,7 @@ module _ (s : SchemaData) (T : ℕ) where
 
     abbrev pub walk_lists : ℕ → List ℕ → WalkData → WalkData
     walk_lists depth [] w = w
-    walk_lists depth (number ∷ numbers) w = walk_lists depth numbers (walk_steps (walk_fragment depth) 0 (steps_in (slice_get lists number)) w)
+    walk_lists depth (number ∷ numbers) w = walk_lists depth numbers (walk_steps (walk_fragment depth) 0 (steps number) w)
 
 -- ---- groups
 
@@ -79,21 +78,25 @@ numbered_by_key fields = map (λ key. filter (λ f. has_key key f.0) fields) (ke
 abbrev pub numbered_group : Group → List NumberedField
 numbered_group g = map numbered g.fields.items
 
--- ---- by the tables of a program, for objects of the type T, where fragments are entered to a depth
+-- ---- by the tables of a program, for objects of the type T, where fragments are entered to a depth and selection sets that are
+-- marked are passed over
 
-module _ (t : Tables) (T : ℕ) (depth : ℕ) where
+-- the steps that are left of the selection set of a number
+abbrev pub steps_left : (ℕ → Bool) → List ListData → ℕ → List StepData
+steps_left none lists number = if none number then [] else steps_in (slice_get lists number)
+
+module _ (t : Tables) (m : Marks) (T : ℕ) (depth : ℕ) where
+  abbrev pub list_steps : ℕ → List StepData
+  list_steps = steps_left (marked_for m T) (map list_data t.lists.items)
+
   abbrev pub enter_in : ℕ → WalkData → WalkData
-  enter_in = walk_fragment (schema_data t.planning.schema.now) T (map list_data t.lists.items) (map entry_data t.entries.items) depth
+  enter_in = walk_fragment (schema_data t.planning.schema.now) T list_steps (map entry_data t.entries.items) depth
 
   abbrev pub steps_from : ℕ → List StepData → WalkData → WalkData
   steps_from = walk_steps (schema_data t.planning.schema.now) T enter_in
 
   abbrev pub entry_in : ℕ → WalkData → WalkData
-  entry_in number = walk_entry (schema_data t.planning.schema.now) T (map list_data t.lists.items) (map entry_data t.entries.items) enter_in (slice_get (map entry_data t.entries.items) number)
-
-  -- the steps of the selection set of a number
-  abbrev pub list_steps : ℕ → List StepData
-  list_steps number = steps_in (slice_get (map list_data t.lists.items) number)
+  entry_in number = walk_entry (schema_data t.planning.schema.now) T list_steps (map entry_data t.entries.items) enter_in (slice_get (map entry_data t.entries.items) number)
 
   abbrev pub lists_in : List ℕ → WalkData → WalkData
-  lists_in = walk_lists (schema_data t.planning.schema.now) T (map list_data t.lists.items) (map entry_data t.entries.items) depth
+  lists_in = walk_lists (schema_data t.planning.schema.now) T list_steps (map entry_data t.entries.items) depth

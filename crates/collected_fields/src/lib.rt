@@ -3,9 +3,11 @@
 
 mod collected;
 mod collector;
+mod fieldless;
 mod group;
 mod included;
 mod lookups;
+mod marks;
 mod planning;
 mod prepare;
 mod source;

@@ -10,6 +10,7 @@ ghost use Rattle.collected_fields.specs.Prepared.{list_data, entry_data};
 ghost use Rattle.collected_fields.specs.Walks.{walk_data, numbered, is_marked, marked, kept, IsBlank, steps_from, list_steps, enter_in, entry_in, lists_in};
 
 use crate::collected::Collected;
+use crate::marks::Marks;
 use crate::state::Walk;
 use crate::steps::Step;
 use crate::tables::{Entry, Tables};
@@ -29,7 +30,7 @@ fn blanks(alloc: Global, count: usize) -> Result<Vec<bool>, AllocError>
 }
 
 /// Sets a mark, if there is such a place.
-fn set_mark(marks: &mut Vec<bool>, number: usize, mark: bool)
+pub fn set_mark(marks: &mut Vec<bool>, number: usize, mark: bool)
     ensures { marks.new.items ≡ slice_set marks.old.items number mark }
 {
     if number < marks.len() {
@@ -91,14 +92,14 @@ impl<'a> Walk<'a> {
 }
 
 /// The fragment of a number.
-fn entry_at(tables: &Tables<'_>, number: usize) -> Option<Entry>
+pub fn entry_at(tables: &Tables<'_>, number: usize) -> Option<Entry>
     ensures { option_map entry_data result ≡ slice_get (map entry_data tables.now.entries.items) number }
 {
     tables.entries.get(number).copied()
 }
 
 /// Whether a type applies to an object type; none applies to none.
-fn applies_where(schema: &Schema, on: Option<TypeId>, of: TypeId) -> bool
+pub fn applies_where(schema: &Schema, on: Option<TypeId>, of: TypeId) -> bool
     ensures { result ≡ applies_where (schema_data schema.now) of.number (option_map type_number on) }
 {
     match on {
@@ -108,7 +109,7 @@ fn applies_where(schema: &Schema, on: Option<TypeId>, of: TypeId) -> bool
 }
 
 /// The place behind a step and as many more as are passed over, where there are so many.
-fn place_behind(at: usize, skip: usize, end: usize) -> usize
+pub fn place_behind(at: usize, skip: usize, end: usize) -> usize
     requires { at < end }
     ensures some { skip < end - at → result ≡ at + 1 + skip }
     ensures all { end ≤ at + skip → result ≡ end }
@@ -122,12 +123,13 @@ fn place_behind(at: usize, skip: usize, end: usize) -> usize
 #[cycle(walk)]
 fn walk_step<'a>(
     tables: &Tables<'a>,
+    none: &Marks,
     of: TypeId,
     depth: usize,
     step: &Step<'a>,
     walk: &mut Walk<'a>,
 ) -> Result<usize, AllocError>
-    ensures { IfOk result (λ skip. (others : List StepData) → steps_from tables.now of.number depth skip others (walk_data walk.new) ≡ steps_from tables.now of.number depth 0 (step_data step.now ∷ others) (walk_data walk.old)) }
+    ensures { IfOk result (λ skip. (others : List StepData) → steps_from tables.now none.now of.number depth skip others (walk_data walk.new) ≡ steps_from tables.now none.now of.number depth 0 (step_data step.now ∷ others) (walk_data walk.old)) }
 {
     match step {
         Step::Field(field) => {
@@ -135,7 +137,7 @@ fn walk_step<'a>(
             Ok(0)
         }
         Step::Spread(number) => {
-            walk_fragment(tables, of, depth, *number, walk)?;
+            walk_fragment(tables, none, of, depth, *number, walk)?;
             Ok(0)
         }
         Step::Inline { on, count } => {
@@ -151,34 +153,39 @@ fn walk_step<'a>(
 #[cycle(walk)]
 fn walk_steps<'a>(
     tables: &Tables<'a>,
+    none: &Marks,
     of: TypeId,
     depth: usize,
     steps: &[Step<'a>],
     walk: &mut Walk<'a>,
 ) -> Result<(), AllocError>
-    ensures { OnOk result (walk_data walk.new ≡ steps_from tables.now of.number depth 0 (map step_data steps.now) (walk_data walk.old)) }
+    ensures { OnOk result (walk_data walk.new ≡ steps_from tables.now none.now of.number depth 0 (map step_data steps.now) (walk_data walk.old)) }
 {
     let mut at = 0;
     while at < steps.len() {
-        let skip = walk_step(tables, of, depth, &steps[at], walk)?;
+        let skip = walk_step(tables, none, of, depth, &steps[at], walk)?;
         at = place_behind(at, skip, steps.len());
     }
     Ok(())
 }
 
-/// The selection set of a number.
+/// The selection set of a number, where it isn't known to have no fields.
 #[cycle(walk)]
 fn walk_list<'a>(
     tables: &Tables<'a>,
+    none: &Marks,
     of: TypeId,
     depth: usize,
     list: usize,
     walk: &mut Walk<'a>,
 ) -> Result<(), AllocError>
-    ensures { OnOk result (walk_data walk.new ≡ steps_from tables.now of.number depth 0 (list_steps tables.now of.number depth list) (walk_data walk.old)) }
+    ensures { OnOk result (walk_data walk.new ≡ steps_from tables.now none.now of.number depth 0 (list_steps tables.now none.now of.number depth list) (walk_data walk.old)) }
 {
+    if none.has(list, of) {
+        return Ok(());
+    }
     match tables.lists.get(list) {
-        Some(list) => walk_steps(tables, of, depth, list.steps.as_slice(), walk),
+        Some(list) => walk_steps(tables, none, of, depth, list.steps.as_slice(), walk),
         None => Ok(()),
     }
 }
@@ -187,12 +194,13 @@ fn walk_list<'a>(
 #[cycle(walk)]
 fn walk_fragment<'a>(
     tables: &Tables<'a>,
+    none: &Marks,
     of: TypeId,
     depth: usize,
     number: usize,
     walk: &mut Walk<'a>,
 ) -> Result<(), AllocError>
-    ensures { OnOk result (walk_data walk.new ≡ enter_in tables.now of.number depth number (walk_data walk.old)) }
+    ensures { OnOk result (walk_data walk.new ≡ enter_in tables.now none.now of.number depth number (walk_data walk.old)) }
 {
     if depth == 0 {
         return Ok(());
@@ -201,24 +209,25 @@ fn walk_fragment<'a>(
         return Ok(());
     }
     walk.mark(number)?;
-    walk_entry(tables, of, depth - 1, number, walk)
+    walk_entry(tables, none, of, depth - 1, number, walk)
 }
 
 /// The selections of the fragment of a number, where its type applies.
 #[cycle(walk)]
 fn walk_entry<'a>(
     tables: &Tables<'a>,
+    none: &Marks,
     of: TypeId,
     depth: usize,
     number: usize,
     walk: &mut Walk<'a>,
 ) -> Result<(), AllocError>
-    ensures { OnOk result (walk_data walk.new ≡ entry_in tables.now of.number depth number (walk_data walk.old)) }
+    ensures { OnOk result (walk_data walk.new ≡ entry_in tables.now none.now of.number depth number (walk_data walk.old)) }
 {
     match entry_at(tables, number) {
         Some(entry) => {
             if applies_where(tables.planning.schema, entry.on, of) {
-                walk_list(tables, of, depth, entry.list, walk)
+                walk_list(tables, none, of, depth, entry.list, walk)
             } else {
                 Ok(())
             }
@@ -227,18 +236,19 @@ fn walk_entry<'a>(
     }
 }
 
-/// The selection sets of some numbers, where fragments are entered to a depth.
+/// The selection sets of some numbers, where fragments are entered to a depth. Those that are marked have no fields.
 pub fn walk_lists<'a>(
     tables: &Tables<'a>,
+    none: &Marks,
     of: TypeId,
     depth: usize,
     lists: &[usize],
     walk: &mut Walk<'a>,
 ) -> Result<(), AllocError>
-    ensures { OnOk result (walk_data walk.new ≡ lists_in tables.now of.number depth lists.now (walk_data walk.old)) }
+    ensures { OnOk result (walk_data walk.new ≡ lists_in tables.now none.now of.number depth lists.now (walk_data walk.old)) }
 {
     for list in lists {
-        walk_list(tables, of, depth, *list, walk)?;
+        walk_list(tables, none, of, depth, *list, walk)?;
     }
     Ok(())
 }

@@ -1,5 +1,5 @@
 -- Fields that are given the same have the same arguments.
-use Rattle.std.proofs.Common.{◌≡◌, ℕ, List, [], ◌∷◌, map, bytes_eq, find, true, false, not, Option, None, Result, Ok, refl, sym, ap, ◌∙◌, subst, ⊎_elim}
+use Rattle.std.proofs.Common.{◌≡◌, ℕ, List, [], ◌∷◌, map, bytes_eq, find, true, false, not, Option, Some, None, Result, Ok, refl, sym, ap, ◌∙◌, subst, ⊎_elim}
 use Rattle.std.specs.Prelude.{option_map}
 use Rattle.std.proofs.lemmas.Bool.{cases_Bool}
 use Rattle.gql_base.specs.declared.parts.trees.Argument.{Argument}
@@ -20,7 +20,9 @@ use Rattle.plan_model.specs.Collecting.{CollectedField}
 use Rattle.plan_model.specs.SameArguments.{same_arguments}
 use Rattle.plan_model.proofs.GivenArguments.{same_in_order, same_arguments_written}
 use Rattle.merged_selections.specs.Alike.{given_argument, AreGivenAlike}
-use Rattle.merged_selections.specs.NodeTests.{coerced_of, refused_in, differs_from}
+use Rattle.collected_fields.specs.Views.{collected_field}
+use Rattle.merged_selections.specs.declared.call.Call.{Call}
+use Rattle.merged_selections.specs.NodeTests.{coerced_of, refused_in, differs_from, IsCall, IsKept, IsAlike, Calls}
 use Rattle.merged_selections.proofs.NodeFaults.{same_themselves}
 
 abbrev value_under : List (List ℕ × Given) → List ℕ → Option Given
@@ -45,3 +47,15 @@ alike_is_same e field f g args alike is =
 
 pub answers_coerced : (e : Setting) (field : ℕ) (written listed : List Argument) (result : Result Args ArgFault) → listed ≡ written → Answers args_data argument_told result (arguments_answer e.schema field listed e.values) → Answers args_data argument_told result (coerced_arguments e.schema field (map named_value written) e.values)
 answers_coerced e field written listed result same h = subst (λ a. Answers args_data argument_told result a) (ap (λ l. arguments_answer e.schema field l e.values) same ∙ sym (same_arguments_written e.schema field written e.values)) h
+
+-- a call that is kept is that of a field whose arguments are given alike
+pub kept_call : (e : Setting) (field : ℕ) (f : CollectedField) (last : Option Call) (call : Call) → last ≡ Some call → IsAlike call field f → IsKept e last → Calls e field f (Ok call)
+kept_call e field f last call is alike kept =
+    let own : IsCall e call.of.number (collected_field call.field) call = subst (λ (o : Option Call). IsKept e o) is kept in (
+      subst (λ (n : ℕ). IsCall e n f call) alike.0 (record {
+        coerced = sym (coerced_alike e.schema call.of.number e.values (collected_field call.field).call.arguments f.call.arguments alike.1) ∙ own.coerced;
+        cost = own.cost;
+        hands = own.hands;
+      }),
+      own,
+    )

@@ -1,5 +1,5 @@
 -- The plan of an operation, from what is built at its root.
-use Rattle.std.proofs.Common.{◌≡◌, ℕ, suc, List, [], ◌∷◌, ◌++◌, map, Some, None, Result, Ok, Err, Bor, refl, sym, ap, ◌∙◌, subst}
+use Rattle.std.proofs.Common.{◌≡◌, ℕ, suc, List, [], ◌∷◌, ◌++◌, map, Option, Some, None, Result, Ok, Err, Bor, refl, sym, ap, ◌∙◌, subst}
 use Rattle.document_reader.specs.declared.trees.Fragment.{Fragment}
 use Rattle.document_reader.specs.Trees.{set_tree}
 use Rattle.schema_model.specs.declared.schema.Schema.{Schema}
@@ -30,9 +30,11 @@ use Rattle.collected_fields.specs.Gathering.{IsReady, planning_of, written_at}
 use Rattle.merged_selections.specs.declared.stop.Stop.{Stop}
 use Rattle.merged_selections.specs.declared.fault.PlanFault.{PlanFault}
 use Rattle.merged_selections.specs.declared.building.Building.{Building}
+use Rattle.merged_selections.specs.declared.call.Call.{Call}
 use Rattle.merged_selections.specs.Faults.{IsTold}
 use Rattle.merged_selections.specs.Building.{setting_for, answer_for, IsPlanned}
 use Rattle.merged_selections.specs.Outcomes.{Outcome, has_left, outcome, answer_from, IsStop}
+use Rattle.merged_selections.specs.NodeTests.{IsKept}
 use Rattle.merged_selections.specs.Stages.{types_rows, Frame, frame, setting_built, position_built, CanBuild, Builds, BuildsTypes}
 use Rattle.merged_selections.proofs.VisitedParts.{answer_of_outcome}
 
@@ -64,7 +66,7 @@ module _ (schema : Schema) (weights : Weights) (checked : Checked) (variables : 
       ∙ ap (λ (fs : List FragmentData). record { schema = schema_data schema; weights = weights_data weights; values = environment variables; fragments = fs }) fragments_there)))
 
   module _ (ready : IsReady building.collector) (written : written_at building.collector list ≡ (Some root, set_tree checked.operation.now.selections.items)) (plan_schema : building.plan.schema.now ≡ schema) (plan_weights : building.plan.weights.now ≡ weights)
-      (plan_root : building.plan.root.number ≡ root) (no_rows : table_rows building.plan ≡ []) (left : building.left ≡ node_limit) (same : frame new ≡ frame building) where
+      (plan_root : building.plan.root.number ≡ root) (no_rows : table_rows building.plan ≡ []) (left : building.left ≡ node_limit) (no_call : building.last ≡ None) (same : frame new ≡ frame building) where
     position_there : position_built building (list ∷ []) None ≡ root_position root checked.operation.now
     position_there = ap (λ (w : WrittenSelections). record { selections = w ∷ []; handed = None }) written
 
@@ -72,7 +74,7 @@ module _ (schema : Schema) (weights : Weights) (checked : Checked) (variables : 
     tied = ap (λ s. setting_without_values (schema_data s) (weights_data building.plan.weights.now)) plan_schema ∙ ap (λ w. setting_without_values (schema_data schema) (weights_data w)) plan_weights
 
     can_begin : CanBuild building
-    can_begin = record { collector = ready; plan = tied ∙ ap (λ (x : Setting). setting_without_values x.schema x.weights) (sym setting_there) }
+    can_begin = record { collector = ready; plan = tied ∙ ap (λ (x : Setting). setting_without_values x.schema x.weights) (sym setting_there); last = subst (λ (call : Option Call). IsKept (setting_built building) call) (sym no_call) tt }
 
     acyclic : IsAcyclic (setting_built building) (position_built building (list ∷ []) None)
     acyclic = subst (λ (x : Setting). IsAcyclic x (position_built building (list ∷ []) None)) (sym setting_there)

@@ -4,14 +4,14 @@ use Rattle.std.specs.List.{list_any}
 use Rattle.std.specs.Str.{bytes_eq}
 use Rattle.cost_num.specs.Capped.{capped}
 use Rattle.schema_rules.specs.First.{or_else, told, first_of}
-use Rattle.schema_model.specs.Arguments.{ArgData}
+use Rattle.schema_model.specs.Arguments.{ArgData, args_data}
 use Rattle.cost_directives.specs.Weights.{argument_cost_in}
 use Rattle.cost_directives.specs.declared.sizes.Size.{Size}
 use Rattle.cost_directives.specs.declared.sizes.Size.TheVariants.{Any, At}
 use Rattle.cost_directives.specs.declared.sizes.SizeFault.{SizeFault}
 use Rattle.variable_coercion.specs.declared.faults.ArgFault.{ArgFault}
 use Rattle.variable_coercion.specs.Refusals.{Refusal}
-use Rattle.variable_coercion.specs.Calls.{argument_told}
+use Rattle.variable_coercion.specs.Calls.{argument_told, IsTold}
 use Rattle.schema_model.specs.declared.entries.FieldId.{FieldId}
 use Rattle.document_rules.specs.Sites.{known_field}
 use Rattle.plan_model.specs.SelectedFields.{Setting, FieldCall, HandedSize, form_of, handed_in, coerced_arguments, refusal_of, if_coerced, size_answer, size_in, length_in, fault_in, sized_by, meaning_at, size_at, hands_at, cost_at}
@@ -23,11 +23,13 @@ use Rattle.collected_fields.specs.declared.planning.Planning.{Planning}
 use Rattle.collected_fields.specs.declared.collected.Collected.{Collected}
 use Rattle.collected_fields.specs.Views.{setting_of_planning, collected_field}
 use Rattle.plan_table.specs.Tables.{meaning_of}
+use Rattle.merged_selections.specs.declared.call.Call.{Call}
 use Rattle.merged_selections.specs.declared.lookups.Handed.{Handed}
 use Rattle.merged_selections.specs.declared.node.Looked.{Looked}
 use Rattle.merged_selections.specs.declared.why.Why.{Why}
 use Rattle.merged_selections.specs.declared.why.Why.TheVariants.{TooDeep, Conflict, Argument, Size as SizeWhy, NoPossibleType}
 use Rattle.merged_selections.specs.NodeParts.{handed_data, lacks_types_below}
+use Rattle.merged_selections.specs.Alike.{AreGivenAlike}
 
 -- ---- what a refusal tells; want of memory tells nothing
 
@@ -104,6 +106,29 @@ module _ (e : Setting) (field : ℕ) where
     LooksBehind (Ok args) = Looks (IsIt args) result (fault_of_others handed name args others)
     LooksBehind (Err refusal) = Looks (λ x. ⊥) result (Some (refused_argument refusal))
 
+-- ---- a field's call
+
+-- The arguments of the call are those of the field of this number where it is written so; what they cost, and the size that
+-- it hands down.
+pub record IsCall (e : Setting) (field : ℕ) (f : CollectedField) (call : Call) : Type 0 where
+  pub coerced : coerced_of e field f ≡ Ok (args_data call.args)
+  pub cost : call.cost ≡ capped (argument_cost_in e.weights field (args_data call.args))
+  pub hands : handed_data call.hands ≡ handed_by e field (args_data call.args)
+
+-- A call that is kept is that of its own field.
+abbrev pub IsKept : Setting → Option Call → Type 0
+IsKept e None = Unit {0}
+IsKept e (Some call) = IsCall e call.of.number (collected_field call.field) call
+
+-- The call is of the field of this number, whose arguments are given alike.
+abbrev pub IsAlike : Call → ℕ → CollectedField → Type 0
+IsAlike call field f = (call.of.number ≡ field) × AreGivenAlike (collected_field call.field).call.arguments f.call.arguments
+
+-- A call of a field that may be kept, or what its arguments are refused for.
+abbrev pub Calls : Setting → ℕ → CollectedField → Result Call ArgFault → Type 0
+Calls e field f (Ok call) = IsCall e field f call × IsKept e (Some call)
+Calls e field f (Err fault) = IsTold (argument_told fault) (coerced_of e field f)
+
 -- ---- what the calls on a field say
 
 module _ (p : Planning) (of : FieldId) where
@@ -119,26 +144,29 @@ module _ (p : Planning) (of : FieldId) where
   ComparesAll first args others result =
       coerced_of setting_seen of.number (collected_field first) ≡ Ok args → Compares result (first_refused setting_seen of.number (map collected_field others)) (differ_from setting_seen of.number args (map collected_field others))
 
-  module _ (handed : Option Handed) (name : List ℕ) (args : List ArgData) where
-    abbrev pub IsFoundHere : Looked → Type 0
-    IsFoundHere looked = IsFoundOf setting_seen of.number (handed_data handed) name args looked
-
-    abbrev pub LooksAfterSize : Size → Result Looked Why → Type 0
-    LooksAfterSize size result = own_size setting_seen of.number (handed_data handed) name args ≡ Ok size → Looks IsFoundHere result (fault_after_size setting_seen of.number (handed_data handed) name args)
-
-    abbrev pub LooksAfterArguments : Result Looked Why → Type 0
-    LooksAfterArguments result = Looks IsFoundHere result (fault_after_arguments setting_seen of.number (handed_data handed) name args)
-
   abbrev pub name_seen : Collected → List ℕ
   name_seen first = (collected_field first).call.name
 
-  abbrev pub LooksAfterFirst : Option Handed → Collected → List ArgData → List Collected → Result Looked Why → Type 0
-  LooksAfterFirst handed first args others result =
-      coerced_of setting_seen of.number (collected_field first) ≡ Ok args → Looks (IsFoundHere handed (name_seen first) args) result (fault_of_others setting_seen of.number (handed_data handed) (name_seen first) args (map collected_field others))
+  module _ (handed : Option Handed) (first : Collected) (call : Call) where
+    abbrev pub IsCallHere : Type 0
+    IsCallHere = IsCall setting_seen of.number (collected_field first) call
+
+    abbrev pub IsFoundHere : Looked → Type 0
+    IsFoundHere looked = IsFoundOf setting_seen of.number (handed_data handed) (name_seen first) (args_data call.args) looked
+
+    abbrev pub LooksAfterSize : Size → Result Looked Why → Type 0
+    LooksAfterSize size result =
+        IsCallHere → own_size setting_seen of.number (handed_data handed) (name_seen first) (args_data call.args) ≡ Ok size → Looks IsFoundHere result (fault_after_size setting_seen of.number (handed_data handed) (name_seen first) (args_data call.args))
+
+    abbrev pub LooksAfterArguments : Result Looked Why → Type 0
+    LooksAfterArguments result = IsCallHere → Looks IsFoundHere result (fault_after_arguments setting_seen of.number (handed_data handed) (name_seen first) (args_data call.args))
+
+    abbrev pub LooksAfterFirst : List Collected → Result Looked Why → Type 0
+    LooksAfterFirst others result = IsCallHere → Looks IsFoundHere result (fault_of_others setting_seen of.number (handed_data handed) (name_seen first) (args_data call.args) (map collected_field others))
 
   abbrev pub LooksAfterNames : Option Handed → Collected → List Collected → Result Looked Why → Type 0
   LooksAfterNames handed first others result =
-      LooksBehind setting_seen of.number (IsFoundHere handed (name_seen first)) (handed_data handed) (name_seen first) (map collected_field others) result (coerced_of setting_seen of.number (collected_field first))
+      LooksBehind setting_seen of.number (IsFoundOf setting_seen of.number (handed_data handed) (name_seen first)) (handed_data handed) (name_seen first) (map collected_field others) result (coerced_of setting_seen of.number (collected_field first))
 
 -- ---- a node for objects of the type T
 

@@ -49,6 +49,7 @@ pub fn build_plan<'a>(
         collector,
         plan: Plan::new(alloc, schema, weights, root),
         left: NODE_LIMIT,
+        last: None,
     };
     match building.build_types(alloc, 1, &[root], &[list], None) {
         Ok(()) => Ok(building.into_plan()),

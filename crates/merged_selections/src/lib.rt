@@ -7,6 +7,7 @@
 mod arguments;
 mod build;
 mod building;
+mod call;
 mod fault;
 mod laws;
 mod lookups;

@@ -1,18 +1,17 @@
 //! The tests of a node, in their order, and what is found of one that passes them.
 
 ghost use Rattle.std.specs.Prelude.{◌≡◌, map};
-ghost use Rattle.schema_model.specs.Arguments.{args_data};
 ghost use Rattle.collected_fields.specs.Views.{setting_of_planning, collected_field};
-ghost use Rattle.merged_selections.specs.NodeParts.{handed_data};
-ghost use Rattle.merged_selections.specs.NodeTests.{LooksAfterSize, LooksAfterArguments, LooksAfterFirst, LooksAfterNames, LooksAt, fields_seen, names_not, size_of, handed_by};
+ghost use Rattle.merged_selections.specs.NodeTests.{IsKept, LooksAfterSize, LooksAfterArguments, LooksAfterFirst, LooksAfterNames, LooksAt, fields_seen, names_not, size_of};
 
-use crate::arguments::{any_differs, arguments_of};
+use crate::arguments::any_differs;
+use crate::call::{Call, call_of};
 use crate::lookups::{Handed, Meaning, handed_in, has_lists, lacks_types, meaning_on, name_of};
 use crate::why::Why;
 use collected_fields::{Collected, Planning};
 use cost_directives::Size;
 use input_values::TypeId;
-use schema_model::{Args, FieldId};
+use schema_model::FieldId;
 use std::alloc::Global;
 
 /// What is found of a node.
@@ -38,27 +37,15 @@ fn size_in(is_list: bool, size: Size) -> Option<u64>
     }
 }
 
-/// The size that a field hands down.
-fn hands<'a>(planning: &Planning<'a>, of: FieldId, args: &Args) -> Option<Handed<'a>>
-    ensures { handed_data result ≡ handed_by (setting_of_planning planning.now) of.number (args_data args.now) }
-{
-    let sized = planning.weights.sized_fields(of);
-    match planning.weights.declared_size(of, args, None) {
-        Ok(Size::Any) => None,
-        Ok(Size::At(size)) => Some(Handed { sized, size }),
-        Err(_) => Some(Handed { sized, size: 0 }),
-    }
-}
-
 fn after_size<'a>(
     planning: &Planning<'a>,
     of: FieldId,
-    args: &Args,
+    call: &Call<'a>,
     size: Size,
     handed: Option<Handed<'_>>,
-    name: &str,
+    first: &Collected<'a>,
 ) -> Result<Looked<'a>, Why>
-    ensures { LooksAfterSize planning.now of handed.entry name.now (args_data args.now) size result }
+    ensures { LooksAfterSize planning.now of handed.entry first.now call.now size result }
 {
     if lacks_types(planning.schema, of) {
         return Err(Why::NoPossibleType);
@@ -66,23 +53,23 @@ fn after_size<'a>(
     Ok(Looked {
         field: Some(of),
         size: size_in(has_lists(planning.schema, of), size),
-        arguments: planning.weights.argument_cost(of, args),
-        hands: hands(planning, of, args),
+        arguments: call.cost,
+        hands: call.hands,
     })
 }
 
 fn after_arguments<'a>(
     planning: &Planning<'a>,
     of: FieldId,
-    args: &Args,
+    call: &Call<'a>,
     handed: Option<Handed<'_>>,
-    name: &str,
+    first: &Collected<'a>,
 ) -> Result<Looked<'a>, Why>
-    ensures { LooksAfterArguments planning.now of handed.entry name.now (args_data args.now) result }
+    ensures { LooksAfterArguments planning.now of handed.entry first.now call.now result }
 {
-    let taken = handed_in(planning.schema, of, handed, name);
-    match planning.weights.declared_size(of, args, taken) {
-        Ok(size) => after_size(planning, of, args, size, handed, name),
+    let taken = handed_in(planning.schema, of, handed, name_of(first));
+    match planning.weights.declared_size(of, &call.args, taken) {
+        Ok(size) => after_size(planning, of, call, size, handed, first),
         Err(fault) => Err(Why::Size(fault)),
     }
 }
@@ -92,15 +79,15 @@ fn after_first<'a>(
     planning: &Planning<'a>,
     of: FieldId,
     handed: Option<Handed<'_>>,
-    args: &Args,
+    call: &Call<'a>,
     first: &Collected<'a>,
     others: &[Collected<'a>],
 ) -> Result<Looked<'a>, Why>
-    ensures { LooksAfterFirst planning.now of handed.entry first.now (args_data args.now) others.now result }
+    ensures { LooksAfterFirst planning.now of handed.entry first.now call.now others.now result }
 {
-    match any_differs(alloc, planning, of, first, args, others) {
+    match any_differs(alloc, planning, of, first, &call.args, others) {
         Ok(true) => Err(Why::Conflict),
-        Ok(false) => after_arguments(planning, of, args, handed, name_of(first)),
+        Ok(false) => after_arguments(planning, of, call, handed, first),
         Err(fault) => Err(Why::Argument(fault)),
     }
 }
@@ -112,11 +99,17 @@ fn after_names<'a>(
     handed: Option<Handed<'_>>,
     first: &Collected<'a>,
     others: &[Collected<'a>],
+    last: &mut Option<Call<'a>>,
 ) -> Result<Looked<'a>, Why>
-    ensures { LooksAfterNames planning.now of handed.entry first.now others.now result }
+    ensures kept { IsKept (setting_of_planning planning.now) last.old → IsKept (setting_of_planning planning.now) last.new }
+    ensures looks { IsKept (setting_of_planning planning.now) last.old → LooksAfterNames planning.now of handed.entry first.now others.now result }
 {
-    match arguments_of(alloc, planning, of, first) {
-        Ok(args) => after_first(alloc, planning, of, handed, &args, first, others),
+    match call_of(alloc, planning, of, first, last) {
+        Ok(call) => {
+            let looked = after_first(alloc, planning, of, handed, &call, first, others);
+            *last = Some(call);
+            looked
+        }
         Err(fault) => Err(Why::Argument(fault)),
     }
 }
@@ -132,7 +125,8 @@ fn names_differ(fields: &[Collected<'_>], name: &str) -> bool
     false
 }
 
-/// What is found of the node whose fields these are, for objects of a type, or the first test that it doesn't pass.
+/// What is found of the node whose fields these are, for objects of a type, or the first test that it doesn't pass. `last` is
+/// the last call that was made.
 pub fn look<'a>(
     alloc: Global,
     planning: &Planning<'a>,
@@ -140,15 +134,17 @@ pub fn look<'a>(
     handed: Option<Handed<'_>>,
     first: &Collected<'a>,
     others: &[Collected<'a>],
+    last: &mut Option<Call<'a>>,
 ) -> Result<Looked<'a>, Why>
-    ensures { LooksAt (setting_of_planning planning.now) of.number handed.entry (fields_seen first.now others.now) result }
+    ensures kept { IsKept (setting_of_planning planning.now) last.old → IsKept (setting_of_planning planning.now) last.new }
+    ensures looks { IsKept (setting_of_planning planning.now) last.old → LooksAt (setting_of_planning planning.now) of.number handed.entry (fields_seen first.now others.now) result }
 {
     let name = name_of(first);
     if names_differ(others, name) {
         return Err(Why::Conflict);
     }
     match meaning_on(planning.schema, of, name) {
-        Meaning::Known(field) => after_names(alloc, planning, field, handed, first, others),
+        Meaning::Known(field) => after_names(alloc, planning, field, handed, first, others, last),
         Meaning::NameOfType => Ok(Looked {
             field: None,
             size: None,

@@ -2,7 +2,7 @@ use Rattle.std.proofs.Common.{◌≡◌, ◌+◌, ◌*◌, ◌-◌, length, map,
 use Rattle.schema_model.specs.SchemaViews.{schema_data}
 use Rattle.collected_fields.specs.Steps.{step_data}
 use Rattle.collected_fields.specs.Prepared.{list_data, entry_data}
-use Rattle.collected_fields.specs.Walks.{walk_data, walk_steps, walk_fragment}
+use Rattle.collected_fields.specs.Walks.{walk_data, walk_steps, walk_fragment, list_steps}
 use Rattle.collected_fields.proofs.walk.+walk.Given as goal
 
 abbrev pub decreases-walk_fragment : goal.decreases-walk_fragment
@@ -22,8 +22,8 @@ decreases-walk_entry l = 5 * l.depth + 4
 
 abbrev pub invariant-walk_steps-loop-at : goal.invariant-walk_steps-loop-at
 invariant-walk_steps-loop-at l =
-    walk_steps (schema_data l.tables.planning.schema.now) l.of.number (walk_fragment (schema_data l.tables.planning.schema.now) l.of.number (map list_data l.tables.lists.items) (map entry_data l.tables.entries.items) l.depth) 0 (map step_data (drop l.at l.steps)) (walk_data l.walk)
-    ≡ walk_steps (schema_data l.tables.planning.schema.now) l.of.number (walk_fragment (schema_data l.tables.planning.schema.now) l.of.number (map list_data l.tables.lists.items) (map entry_data l.tables.entries.items) l.depth) 0 (map step_data l.steps) (walk_data l.fn.walk)
+    walk_steps (schema_data l.tables.planning.schema.now) l.of.number (walk_fragment (schema_data l.tables.planning.schema.now) l.of.number (list_steps l.tables l.none l.of.number l.depth) (map entry_data l.tables.entries.items) l.depth) 0 (map step_data (drop l.at l.steps)) (walk_data l.walk)
+    ≡ walk_steps (schema_data l.tables.planning.schema.now) l.of.number (walk_fragment (schema_data l.tables.planning.schema.now) l.of.number (list_steps l.tables l.none l.of.number l.depth) (map entry_data l.tables.entries.items) l.depth) 0 (map step_data l.steps) (walk_data l.fn.walk)
 
 abbrev pub decreases-walk_steps-loop-at : goal.decreases-walk_steps-loop-at
 decreases-walk_steps-loop-at l = length l.steps - l.at

@@ -9,7 +9,7 @@ use Rattle.collected_fields.specs.Views.{setting_of_planning, collected_field}
 use Rattle.merged_selections.specs.NodeTests.{fault_told, IsThere, IsFound}
 use Rattle.merged_selections.specs.Outcomes.{outcome, IsStop}
 use Rattle.merged_selections.specs.Stages.{levels_from, setting_built, BuildsGroups}
-use Rattle.merged_selections.proofs.BuiltNodes.{frames, can_after, below_visits, below_built, below_stops, below_fine, rows_there, past_limit, too_deep_stops, fault_stops, levels_more, no_levels}
+use Rattle.merged_selections.proofs.BuiltNodes.{frames, can_after, kept_before, can_still, below_visits, below_built, below_stops, below_fine, rows_there, past_limit, too_deep_stops, fault_stops, levels_more, no_levels}
 use Rattle.merged_selections.proofs.building.Building.+build.Goals as goal
 
 pub build_types-returns-in-Err-clause-built : goal.build_types-returns-in-Err-clause-built
@@ -44,9 +44,9 @@ build_groups-returns-clause-built t c =
 
 pub build_type-returns-clause-built : goal.build_type-returns-clause-built
 build_type-returns-clause-built t c =
-    type_built c.args.self.now (record { collector = c.collect.new.self; plan = c.args.self.now.plan; left = c.args.self.now.left }) c.build_groups.new.self (frames c.args.self.now c.collect.new.self c.collect.ensures.planning c.collect.ensures.written) refl refl c.args.depth c.args.of.number c.args.lists.now (handed_data c.args.handed) c.in_ok-groups.groups.items c.build_groups.result
+    type_built c.args.self.now (record { collector = c.collect.new.self; plan = c.args.self.now.plan; left = c.args.self.now.left; last = c.args.self.now.last }) c.build_groups.new.self (frames c.args.self.now c.collect.new.self c.collect.ensures.planning c.collect.ensures.written) refl refl c.args.depth c.args.of.number c.args.lists.now (handed_data c.args.handed) c.in_ok-groups.groups.items c.build_groups.result
     (can_after c.args.self.now c.collect.new.self c.collect.ensures.planning c.collect.ensures.ready) (λ can. c.in_ok-groups.ensures.found can.collector) c.in_ok-groups.ensures.filled (λ can. c.in_ok-groups.ensures.below can.collector)
-    (subst (λ (gs : List Group). BuildsGroups (record { collector = c.collect.new.self; plan = c.args.self.now.plan; left = c.args.self.now.left }) c.args.depth c.build_groups.result c.build_groups.new.self c.args.of.number gs (handed_data c.args.handed)) c.as_slice.ensures.value c.build_groups.ensures.built)
+    (subst (λ (gs : List Group). BuildsGroups (record { collector = c.collect.new.self; plan = c.args.self.now.plan; left = c.args.self.now.left; last = c.args.self.now.last }) c.args.depth c.build_groups.result c.build_groups.new.self c.args.of.number gs (handed_data c.args.handed)) c.as_slice.ensures.value c.build_groups.ensures.built)
 
 pub build_node-returns-then-self-eq0-clause-built : goal.build_node-returns-then-self-eq0-clause-built
 build_node-returns-then-self-eq0-clause-built t c = λ can. past_limit (setting_built c.args.self.now) c.args.of.number (handed_data c.args.handed) (map collected_field (c.args.field.now ∷ c.args.others.now)) (levels_from c.args.depth) c.args.self.now.left c.if-self-eq0.true
@@ -56,23 +56,23 @@ build_node-returns-then-depth-gt-LEVEL_LIMIT-clause-built t c = λ can. too_deep
 
 pub build_node-returns-in-Err-clause-built : goal.build_node-returns-in-Err-clause-built
 build_node-returns-in-Err-clause-built t c = λ can. fault_stops (setting_built c.args.self.now) c.args.of.number (handed_data c.args.handed) (map collected_field (c.args.field.now ∷ c.args.others.now)) c.args.self.now.left c.if-self-eq0.false c.key_of-key.result.now c.key_of-key.ensures (levels_from c.args.depth) (levels_from (c.args.depth + 1)) (levels_more c.args.depth c.if-depth-gt-LEVEL_LIMIT.false) _ (fault_told c.in-Err.why)
-    (subst (λ (pl : Planning). IsThere (fault_told c.in-Err.why) (fault_of (setting_of_planning pl) c.args.of.number (handed_data c.args.handed) (map collected_field (c.args.field.now ∷ c.args.others.now)))) c.planning-planning.ensures c.in-Err.ensures)
+    (subst (λ (pl : Planning). IsThere (fault_told c.in-Err.why) (fault_of (setting_of_planning pl) c.args.of.number (handed_data c.args.handed) (map collected_field (c.args.field.now ∷ c.args.others.now)))) c.planning-planning.ensures (c.in-Err.ensures.looks (kept_before c.args.self.now _ c.planning-planning.ensures can.0)))
     c.stopped-in-Err.ensures
 
 pub build_node-returns-in-Ok-build_types-clause-built : goal.build_node-returns-in-Ok-build_types-clause-built
 build_node-returns-in-Ok-build_types-clause-built t c = λ can.
-    let here = below_built c.args.self.now c.push_row.new.self c.build_types.new.self c.args.depth c.args.of.number c.args.first c.args.field.now c.args.others.now (handed_data c.args.handed) c.in-Ok.looked c.types_at-types.result.now c.as_slice.result.now c.in_ok-push_row-in-Ok.ensures.frame (subst (λ (pl : Planning). IsFound (setting_of_planning pl) c.args.of.number (handed_data c.args.handed) (collected_field c.args.field.now).call c.in-Ok.looked) c.planning-planning.ensures c.in-Ok.ensures.1)
-    (c.types_at-types.ensures ∙ ap (λ (pl : Planning). types_at (setting_of_planning pl).schema c.in-Ok.looked.field) c.planning-planning.ensures) (c.as_slice.ensures.value ∙ c.in_ok-lists-in-Ok.ensures) can.1 (Ok c.in-Ok-build_types.field-0) (c.in_ok-push_row-in-Ok.ensures.ready (record { collector = can.0.collector; plan = can.0.plan })) c.in-Ok-build_types.ensures.built in (
-      below_fine (setting_built c.args.self.now) c.args.of.number (handed_data c.args.handed) (map collected_field (c.args.field.now ∷ c.args.others.now)) c.args.self.now.left c.if-self-eq0.false c.key_of-key.result.now c.key_of-key.ensures (levels_from c.args.depth) (levels_from (c.args.depth + 1)) c.build_types.new.self.left (levels_more c.args.depth c.if-depth-gt-LEVEL_LIMIT.false) (ap (λ (pl : Planning). fault_of (setting_of_planning pl) c.args.of.number (handed_data c.args.handed) (map collected_field (c.args.field.now ∷ c.args.others.now))) (sym c.planning-planning.ensures) ∙ c.in-Ok.ensures.0)
+    let here = below_built c.args.self.now c.push_row.new.self c.build_types.new.self c.args.depth c.args.of.number c.args.first c.args.field.now c.args.others.now (handed_data c.args.handed) c.in-Ok.looked c.types_at-types.result.now c.as_slice.result.now c.in_ok-push_row-in-Ok.ensures.frame (subst (λ (pl : Planning). IsFound (setting_of_planning pl) c.args.of.number (handed_data c.args.handed) (collected_field c.args.field.now).call c.in-Ok.looked) c.planning-planning.ensures (c.in-Ok.ensures.looks (kept_before c.args.self.now _ c.planning-planning.ensures can.0)).1)
+    (c.types_at-types.ensures ∙ ap (λ (pl : Planning). types_at (setting_of_planning pl).schema c.in-Ok.looked.field) c.planning-planning.ensures) (c.as_slice.ensures.value ∙ c.in_ok-lists-in-Ok.ensures) can.1 (Ok c.in-Ok-build_types.field-0) (c.in_ok-push_row-in-Ok.ensures.ready (can_still c.args.self.now _ _ c.look.new.last c.planning-planning.ensures c.in-Ok.ensures.kept can.0)) c.in-Ok-build_types.ensures.built in (
+      below_fine (setting_built c.args.self.now) c.args.of.number (handed_data c.args.handed) (map collected_field (c.args.field.now ∷ c.args.others.now)) c.args.self.now.left c.if-self-eq0.false c.key_of-key.result.now c.key_of-key.ensures (levels_from c.args.depth) (levels_from (c.args.depth + 1)) c.build_types.new.self.left (levels_more c.args.depth c.if-depth-gt-LEVEL_LIMIT.false) (ap (λ (pl : Planning). fault_of (setting_of_planning pl) c.args.of.number (handed_data c.args.handed) (map collected_field (c.args.field.now ∷ c.args.others.now))) (sym c.planning-planning.ensures) ∙ (c.in-Ok.ensures.looks (kept_before c.args.self.now _ c.planning-planning.ensures can.0)).0)
           (ap (λ n. outcome n (below_visits (setting_built c.args.self.now) c.args.of.number (handed_data c.args.handed) (map collected_field (c.args.field.now ∷ c.args.others.now)) (levels_from (c.args.depth + 1)))) (sym c.in_ok-push_row-in-Ok.ensures.left) ∙ here.0),
-      rows_there c.args.self.now c.push_row.new.self c.build_types.new.self c.args.depth c.args.of.number c.args.first c.args.field.now c.args.others.now (handed_data c.args.handed) c.in-Ok.looked c.types_at-types.result.now c.as_slice.result.now c.in_ok-push_row-in-Ok.ensures.frame (subst (λ (pl : Planning). IsFound (setting_of_planning pl) c.args.of.number (handed_data c.args.handed) (collected_field c.args.field.now).call c.in-Ok.looked) c.planning-planning.ensures c.in-Ok.ensures.1)
+      rows_there c.args.self.now c.push_row.new.self c.build_types.new.self c.args.depth c.args.of.number c.args.first c.args.field.now c.args.others.now (handed_data c.args.handed) c.in-Ok.looked c.types_at-types.result.now c.as_slice.result.now c.in_ok-push_row-in-Ok.ensures.frame (subst (λ (pl : Planning). IsFound (setting_of_planning pl) c.args.of.number (handed_data c.args.handed) (collected_field c.args.field.now).call c.in-Ok.looked) c.planning-planning.ensures (c.in-Ok.ensures.looks (kept_before c.args.self.now _ c.planning-planning.ensures can.0)).1)
           (c.types_at-types.ensures ∙ ap (λ (pl : Planning). types_at (setting_of_planning pl).schema c.in-Ok.looked.field) c.planning-planning.ensures) (c.as_slice.ensures.value ∙ c.in_ok-lists-in-Ok.ensures) can.1 c.if-depth-gt-LEVEL_LIMIT.false can.0.plan c.in_ok-push_row-in-Ok.ensures.pushed here.1,
     )
 
 pub build_node-returns-clause-built : goal.build_node-returns-clause-built
 build_node-returns-clause-built t c = λ can.
-    below_stops (setting_built c.args.self.now) c.args.of.number (handed_data c.args.handed) (map collected_field (c.args.field.now ∷ c.args.others.now)) c.args.self.now.left c.if-self-eq0.false c.key_of-key.result.now c.key_of-key.ensures (levels_from c.args.depth) (levels_from (c.args.depth + 1)) (levels_more c.args.depth c.if-depth-gt-LEVEL_LIMIT.false) (ap (λ (pl : Planning). fault_of (setting_of_planning pl) c.args.of.number (handed_data c.args.handed) (map collected_field (c.args.field.now ∷ c.args.others.now))) (sym c.planning-planning.ensures) ∙ c.in-Ok.ensures.0) c.in-Err-build_types.stop c.under.result
+    below_stops (setting_built c.args.self.now) c.args.of.number (handed_data c.args.handed) (map collected_field (c.args.field.now ∷ c.args.others.now)) c.args.self.now.left c.if-self-eq0.false c.key_of-key.result.now c.key_of-key.ensures (levels_from c.args.depth) (levels_from (c.args.depth + 1)) (levels_more c.args.depth c.if-depth-gt-LEVEL_LIMIT.false) (ap (λ (pl : Planning). fault_of (setting_of_planning pl) c.args.of.number (handed_data c.args.handed) (map collected_field (c.args.field.now ∷ c.args.others.now))) (sym c.planning-planning.ensures) ∙ (c.in-Ok.ensures.looks (kept_before c.args.self.now _ c.planning-planning.ensures can.0)).0) c.in-Err-build_types.stop c.under.result
     (subst (λ n. IsStop c.in-Err-build_types.stop (outcome n (below_visits (setting_built c.args.self.now) c.args.of.number (handed_data c.args.handed) (map collected_field (c.args.field.now ∷ c.args.others.now)) (levels_from (c.args.depth + 1))))) c.in_ok-push_row-in-Ok.ensures.left
-    (below_built c.args.self.now c.push_row.new.self c.build_types.new.self c.args.depth c.args.of.number c.args.first c.args.field.now c.args.others.now (handed_data c.args.handed) c.in-Ok.looked c.types_at-types.result.now c.as_slice.result.now c.in_ok-push_row-in-Ok.ensures.frame (subst (λ (pl : Planning). IsFound (setting_of_planning pl) c.args.of.number (handed_data c.args.handed) (collected_field c.args.field.now).call c.in-Ok.looked) c.planning-planning.ensures c.in-Ok.ensures.1)
-    (c.types_at-types.ensures ∙ ap (λ (pl : Planning). types_at (setting_of_planning pl).schema c.in-Ok.looked.field) c.planning-planning.ensures) (c.as_slice.ensures.value ∙ c.in_ok-lists-in-Ok.ensures) can.1 (Err c.in-Err-build_types.stop) (c.in_ok-push_row-in-Ok.ensures.ready (record { collector = can.0.collector; plan = can.0.plan })) c.in-Err-build_types.ensures.built))
+    (below_built c.args.self.now c.push_row.new.self c.build_types.new.self c.args.depth c.args.of.number c.args.first c.args.field.now c.args.others.now (handed_data c.args.handed) c.in-Ok.looked c.types_at-types.result.now c.as_slice.result.now c.in_ok-push_row-in-Ok.ensures.frame (subst (λ (pl : Planning). IsFound (setting_of_planning pl) c.args.of.number (handed_data c.args.handed) (collected_field c.args.field.now).call c.in-Ok.looked) c.planning-planning.ensures (c.in-Ok.ensures.looks (kept_before c.args.self.now _ c.planning-planning.ensures can.0)).1)
+    (c.types_at-types.ensures ∙ ap (λ (pl : Planning). types_at (setting_of_planning pl).schema c.in-Ok.looked.field) c.planning-planning.ensures) (c.as_slice.ensures.value ∙ c.in_ok-lists-in-Ok.ensures) can.1 (Err c.in-Err-build_types.stop) (c.in_ok-push_row-in-Ok.ensures.ready (can_still c.args.self.now _ _ c.look.new.last c.planning-planning.ensures c.in-Ok.ensures.kept can.0)) c.in-Err-build_types.ensures.built))
     c.under.ensures

@@ -1,0 +1,109 @@
+//! A field's call: its coerced arguments, and what a node takes of them. The last one is kept for the next node.
+
+ghost use Rattle.std.specs.Prelude.{◌≡◌, IsTrue, IfOk, IfSome, None, Some};
+ghost use Rattle.schema_model.specs.Arguments.{args_data};
+ghost use Rattle.variable_coercion.specs.Calls.{Answers, argument_told};
+ghost use Rattle.collected_fields.specs.Views.{setting_of_planning, collected_field};
+ghost use Rattle.merged_selections.specs.NodeParts.{handed_data};
+ghost use Rattle.merged_selections.specs.NodeTests.{coerced_of, handed_by, Calls, IsKept, IsAlike};
+
+use crate::arguments::arguments_of;
+use crate::lookups::Handed;
+use crate::written::alike_arguments;
+use collected_fields::{Collected, Planning};
+use cost_directives::Size;
+use schema_model::{Args, FieldId};
+use std::alloc::Global;
+use variable_coercion::ArgFault;
+
+/// The call of a field as it is written here.
+#[derive(Drop)]
+pub struct Call<'a> {
+    pub of: FieldId,
+    pub field: Collected<'a>,
+    pub args: Args,
+    /// What the arguments cost.
+    pub cost: u64,
+    /// The size that is handed down.
+    pub hands: Option<Handed<'a>>,
+}
+
+/// The size that a field hands down.
+fn hands<'a>(planning: &Planning<'a>, of: FieldId, args: &Args) -> Option<Handed<'a>>
+    ensures { handed_data result ≡ handed_by (setting_of_planning planning.now) of.number (args_data args.now) }
+{
+    let sized = planning.weights.sized_fields(of);
+    match planning.weights.declared_size(of, args, None) {
+        Ok(Size::Any) => None,
+        Ok(Size::At(size)) => Some(Handed { sized, size }),
+        Err(_) => Some(Handed { sized, size: 0 }),
+    }
+}
+
+/// Whether a call is of this field, with arguments that are written alike.
+fn is_alike(call: &Call<'_>, of: FieldId, field: &Collected<'_>) -> bool
+    ensures { IsTrue result → IsAlike call.now of.number (collected_field field.now) }
+{
+    let written = call.field.field.arguments.as_slice();
+    call.of == of && alike_arguments(written, field.field.arguments.as_slice())
+}
+
+/// The last call, if it is one of this field with arguments that are written alike. None is kept then.
+fn take_alike<'a>(
+    last: &mut Option<Call<'a>>,
+    of: FieldId,
+    field: &Collected<'_>,
+) -> Option<Call<'a>>
+    ensures alike { IfSome result (λ call. (last.old ≡ Some call) × IsAlike call of.number (collected_field field.now)) }
+    ensures none { last.new ≡ None }
+{
+    match last.take() {
+        Some(call) => {
+            if is_alike(&call, of, field) {
+                Some(call)
+            } else {
+                None
+            }
+        }
+        None => None,
+    }
+}
+
+/// A call that is made anew.
+fn new_call<'a>(
+    alloc: Global,
+    planning: &Planning<'a>,
+    of: FieldId,
+    field: &Collected<'a>,
+) -> Result<Call<'a>, ArgFault>
+    ensures { Calls (setting_of_planning planning.now) of.number (collected_field field.now) result }
+{
+    match arguments_of(alloc, planning, of, field) {
+        Ok(args) => Ok(Call {
+            of,
+            field: *field,
+            cost: planning.weights.argument_cost(of, &args),
+            hands: hands(planning, of, &args),
+            args,
+        }),
+        Err(fault) => Err(fault),
+    }
+}
+
+/// The call of a field. The last one is taken where it comes to the same, so that one call is made for all that are written
+/// alike and follow each other, however great the values of their variables are.
+pub fn call_of<'a>(
+    alloc: Global,
+    planning: &Planning<'a>,
+    of: FieldId,
+    field: &Collected<'a>,
+    last: &mut Option<Call<'a>>,
+) -> Result<Call<'a>, ArgFault>
+    ensures call { IsKept (setting_of_planning planning.now) last.old → Calls (setting_of_planning planning.now) of.number (collected_field field.now) result }
+    ensures none { last.new ≡ None }
+{
+    match take_alike(last, of, field) {
+        Some(call) => Ok(call),
+        None => new_call(alloc, planning, of, field),
+    }
+}
