@@ -1,7 +1,7 @@
 //! Operations, and the bodies in which they are sent.
 
 use crate::{forwarded_body, rewrite};
-use document_reader::{Document, pick, read_document};
+use document_reader::{Definition, Document, pick, read_document};
 use document_rules::check;
 use schema_model::Schema;
 use schema_reader::read_schema_text;
@@ -43,13 +43,15 @@ fn body_of(
     place: usize,
     given: &Value,
 ) -> Result<String, Fail> {
-    match check(alloc, schema, document, place) {
-        Ok(checked) => {
-            let rewritten = rewrite(alloc, schema, &checked)?;
-            Ok(forwarded_body(alloc, checked.operation(), &rewritten, given)?)
-        }
-        Err(_) => Ok(String::from_str(alloc, "a rule is broken")?),
-    }
+    let Some(Definition::Op(operation)) = document.definitions.get(place) else {
+        return Ok(String::from_str(alloc, "no operation")?);
+    };
+    let Ok(checked) = check(alloc, schema, document, place) else {
+        return Ok(String::from_str(alloc, "a rule is broken")?);
+    };
+    let rewritten = rewrite(alloc, schema, &checked)?;
+    let body = forwarded_body(alloc, operation, &rewritten, given)?;
+    Ok(body)
 }
 
 #[test]
