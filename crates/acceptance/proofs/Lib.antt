@@ -2,6 +2,7 @@ mod Picked
 mod Stages
 mod Costs
 mod OneVerdict
+mod SentBodies
 mod AlikeDocuments
 mod AlikeOperations
 mod AlikeRequests

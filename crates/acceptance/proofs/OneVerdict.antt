@@ -65,7 +65,7 @@ none_some x o none some = differ x (sym none ∙ some)
     differ : {A : Type 0} (x : A) → ◌≡◌ {A = Option A} None (Some x) → ⊥
     differ x same = cc
 
-same_operation : (r : RequestData) (o p : Operation) → AsksFor r o → AsksFor r p → o ≡ p
+pub same_operation : (r : RequestData) (o p : Operation) → AsksFor r o → AsksFor r p → o ≡ p
 same_operation r o p a b =
     let place = same_ok a.0 b.0 (picked r.name r.document) a.1 b.1 in
     same_Some o p (sym a.2 ∙ (ap (operation_at r.document) place ∙ b.2))

@@ -2,5 +2,7 @@
 pub mod Requests
 pub mod Bounds
 pub mod Refusals
+-- What is sent for it.
+pub mod Forwarding
 pub mod AskAlike
 pub mod Texts

@@ -4,6 +4,7 @@
 
 mod accepting;
 mod fault;
+mod forwarding;
 mod laws;
 mod request;
 mod telling;
@@ -11,6 +12,7 @@ pub mod texts;
 
 pub use accepting::{Accepted, accept, read};
 pub use fault::{AcceptFault, Refusal};
+pub use forwarding::{Forwarded, sent_for};
 pub use laws::{
     a_request_has_a_verdict, a_request_has_one_verdict, alike_requests_are_answered_alike,
     alike_requests_have_one_verdict,

@@ -36,6 +36,10 @@ price_app = with_options (with_files (top (codes "price")))
 abbrev pub worst_app : App
 worst_app = with_options (with_rule (with_files (top (codes "worst"))) (place (codes "part")))
 
+-- `forward SCHEMA DOCUMENT`
+abbrev pub forward_app : App
+forward_app = with_options (with_files (top (codes "forward")))
+
 -- `meter SCHEMA DOCUMENT REPLY`
 abbrev pub meter_app : App
-meter_app = with_rule (with_files (top (codes "meter"))) (place (codes "reply"))
+meter_app = with_options (with_rule (with_files (top (codes "meter"))) (place (codes "reply")))

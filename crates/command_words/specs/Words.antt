@@ -6,11 +6,11 @@ use Rattle.clap.specs.Simple.{App, matches_of}
 use Rattle.clap.specs.Faults.{fault_of}
 use Rattle.command_words.specs.declared.command.TheConstants.{UNDECLARED, GREATEST_UNSIZED}
 use Rattle.command_words.specs.declared.command.Command.{Command}
-use Rattle.command_words.specs.declared.command.Command.TheVariants.{Help, Version, Check, Price, Worst, Meter}
+use Rattle.command_words.specs.declared.command.Command.TheVariants.{Help, Version, Check, Price, Worst, Forward, Meter}
 use Rattle.command_words.specs.declared.command.Asked.{Asked}
 use Rattle.static_cost.specs.declared.part.Part.{Part}
 use Rattle.static_cost.specs.declared.part.Part.TheVariants.{Types, Fields}
-use Rattle.command_words.specs.Apps.{check_app, price_app, worst_app, meter_app}
+use Rattle.command_words.specs.Apps.{check_app, price_app, worst_app, forward_app, meter_app}
 
 -- The text is this number, in one decimal digit or more, and it is no greater than that.
 abbrev pub IsNumber : ℕ → List ℕ → ℕ → Type 0
@@ -41,11 +41,9 @@ part_word Fields = codes "fields"
 abbrev pub GivesPart : Rows → Part → Type 0
 GivesPart rows part = first_of (codes "part") rows ≡ Some (part_word part)
 
--- They give these files.
-pub record GivesReply (rows : Rows) (schema document reply : List ℕ) : Type 0 where
-  pub is_schema : first_of (codes "schema") rows ≡ Some schema
-  pub is_document : first_of (codes "document") rows ≡ Some document
-  pub is_reply : first_of (codes "reply") rows ≡ Some reply
+-- They give this file of a reply.
+abbrev pub GivesReply : Rows → List ℕ → Type 0
+GivesReply rows reply = first_of (codes "reply") rows ≡ Some reply
 
 -- The words behind a command's name are faultless, and this holds of what they give.
 abbrev pub Reads : App → (Rows → Type 0) → List (List ℕ) → Type 0
@@ -65,8 +63,12 @@ abbrev pub GivesWorst : Rows → Command → Type 0
 GivesWorst rows (Worst asked part) = GivesAsked rows asked × GivesPart rows part
 GivesWorst rows other = ⊥
 
+abbrev pub GivesForward : Rows → Command → Type 0
+GivesForward rows (Forward asked) = GivesAsked rows asked
+GivesForward rows other = ⊥
+
 abbrev pub GivesMeter : Rows → Command → Type 0
-GivesMeter rows (Meter schema document reply) = GivesReply rows schema document reply
+GivesMeter rows (Meter asked reply) = GivesAsked rows asked × GivesReply rows reply
 GivesMeter rows other = ⊥
 
 abbrev pub AsksCheck : List (List ℕ) → Command → Type 0
@@ -78,6 +80,9 @@ AsksPrice words command = Reads price_app (λ rows. GivesPrice rows command) wor
 abbrev pub AsksWorst : List (List ℕ) → Command → Type 0
 AsksWorst words command = Reads worst_app (λ rows. GivesWorst rows command) words
 
+abbrev pub AsksForward : List (List ℕ) → Command → Type 0
+AsksForward words command = Reads forward_app (λ rows. GivesForward rows command) words
+
 abbrev pub AsksMeter : List (List ℕ) → Command → Type 0
 AsksMeter words command = Reads meter_app (λ rows. GivesMeter rows command) words
 
@@ -88,7 +93,8 @@ AsksAfter name words Version = (name ≡ codes "--version") × (words ≡ [])
 AsksAfter name words (Check schema) = (name ≡ codes "check") × AsksCheck words (Check schema)
 AsksAfter name words (Price asked) = (name ≡ codes "price") × AsksPrice words (Price asked)
 AsksAfter name words (Worst asked part) = (name ≡ codes "worst") × AsksWorst words (Worst asked part)
-AsksAfter name words (Meter schema document reply) = (name ≡ codes "meter") × AsksMeter words (Meter schema document reply)
+AsksAfter name words (Forward asked) = (name ≡ codes "forward") × AsksForward words (Forward asked)
+AsksAfter name words (Meter asked reply) = (name ≡ codes "meter") × AsksMeter words (Meter asked reply)
 
 -- The words ask for the command.
 abbrev pub Asks : List (List ℕ) → Command → Type 0

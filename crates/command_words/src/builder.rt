@@ -3,7 +3,7 @@
 ghost use Rattle.std.specs.Prelude.{◌≡◌, IfOk, false, codes};
 ghost use Rattle.clap.specs.Simple.{app_of, with_rule};
 ghost use Rattle.clap.specs.Walk.{rule_of};
-ghost use Rattle.command_words.specs.Apps.{with_files, with_options, check_app, price_app, worst_app, meter_app};
+ghost use Rattle.command_words.specs.Apps.{with_files, with_options, check_app, price_app, worst_app, forward_app, meter_app};
 
 use clap::{Arg, ArgAction, Command};
 use std::alloc::{AllocError, Global};
@@ -103,10 +103,19 @@ pub fn worst_command<'a>(alloc: Global) -> Result<Command<'a>, AllocError>
     with_options(alloc, command)
 }
 
+/// `forward SCHEMA DOCUMENT`
+pub fn forward_command<'a>(alloc: Global) -> Result<Command<'a>, AllocError>
+    ensures { IfOk result (λ c. app_of c ≡ forward_app) }
+{
+    let command = with_files(alloc, top(alloc, "forward"))?;
+    with_options(alloc, command)
+}
+
 /// `meter SCHEMA DOCUMENT REPLY`
 pub fn meter_command<'a>(alloc: Global) -> Result<Command<'a>, AllocError>
     ensures { IfOk result (λ c. app_of c ≡ meter_app) }
 {
     let command = with_files(alloc, top(alloc, "meter"))?;
-    with_place(alloc, command, "reply")
+    let command = with_place(alloc, command, "reply")?;
+    with_options(alloc, command)
 }

@@ -31,24 +31,15 @@ pub enum Command {
     /// Says which version it is.
     Version,
     /// Says how many types and fields a schema has, or which test it doesn't pass.
-    Check {
-        schema: Text,
-    },
+    Check { schema: Text },
     /// Says what an operation costs at most.
-    Price {
-        asked: Asked,
-    },
+    Price { asked: Asked },
     /// Writes a response that costs as much as any in this part of the cost.
-    Worst {
-        asked: Asked,
-        part: Part,
-    },
+    Worst { asked: Asked, part: Part },
+    /// Writes the request that is sent on for an operation.
+    Forward { asked: Asked },
     /// Says what a reply to an operation cost, and what its client is answered.
-    Meter {
-        schema: Text,
-        document: Text,
-        reply: Text,
-    },
+    Meter { asked: Asked, reply: Text },
 }
 
 /// Why words were not read into a command.

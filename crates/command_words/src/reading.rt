@@ -5,7 +5,7 @@ ghost use Rattle.command_words.specs.declared.command.Command.{Command as Comman
 ghost use Rattle.command_words.specs.Words.{AsksAfter, Asks, IsNoCommand};
 
 use crate::command::{Command, WordsFault};
-use crate::words::commands::{check, meter, price, worst};
+use crate::words::commands::{check, forward, meter, price, worst};
 use gql_base::Text;
 use std::alloc::{AllocError, Global};
 
@@ -29,6 +29,7 @@ fn named_command<'a>(alloc: Global, name: &str, words: &'a [&'a str]) -> Result<
         "check" => check(alloc, words),
         "price" => price(alloc, words),
         "worst" => worst(alloc, words),
+        "forward" => forward(alloc, words),
         "meter" => meter(alloc, words),
         "--help" if words.is_empty() => Ok(Command::Help),
         "--version" if words.is_empty() => Ok(Command::Version),

@@ -3,17 +3,20 @@ use Rattle.std.proofs.Common.{◌≡◌, ◌≤◌, ◌<◌, ◌⊎◌, inl, inr
 use Rattle.outside.specs.Faults.{Rose}
 use Rattle.gateway_run.specs.declared.outcome.Outcome.{Outcome}
 use Rattle.gateway_run.specs.declared.outcome.Outcome.TheVariants.{Done, Refused, FileFailed, Faulty, Usage, Memory}
-use Rattle.gateway_run.specs.declared.asked.TheConstants.{VARIABLES_LIMIT}
+use Rattle.gateway_run.specs.declared.limits.TheConstants.{VARIABLES_LIMIT}
 use Rattle.gateway_run.specs.Outcomes.{FilesTold, files_told, IsStopped}
-use Rattle.gateway_run.specs.Reading.{IsRead, IsNoText, HasNoText}
-use Rattle.gateway_run.specs.Asked.{HasNoVariables}
+use Rattle.gateway_run.specs.Reading.{IsRead, IsTextOf, IsNoText, HasNoText}
+use Rattle.gateway_run.specs.Asked.{HoldsText, HasNoVariables}
+
+pub le_then : (a b d : ℕ) → a ≤ b → b ≤ d → a ≤ d
+le_then a b d p q = omega (arith, p, q)
 
 rose_sooner : (before at after : ℕ) → before ≤ at → Rose at after → Rose before after
 rose_sooner before at after later (inl less) = inl (omega (arith, later, less))
 rose_sooner before at after later (inr last) = inr last
 
 module _ (content later : List ℕ → Option (List ℕ)) (before at after : List ℕ → ℕ) (same : later ≡ content) (rising : (name : List ℕ) → before name ≤ at name) where
-  stopped_sooner : (IsName : List ℕ → Type 0) (outcome : Outcome) → IsStopped IsName (files_told later at after) outcome → IsStopped IsName (files_told content before after) outcome
+  pub stopped_sooner : (IsName : List ℕ → Type 0) (outcome : Outcome) → IsStopped IsName (files_told later at after) outcome → IsStopped IsName (files_told content before after) outcome
   stopped_sooner IsName (Done output) stopped = absurd stopped
   stopped_sooner IsName (Refused text) stopped = absurd stopped
   stopped_sooner IsName (FileFailed name) stopped = (stopped.0, rose_sooner (before name) (at name) (after name) (rising name) stopped.1)
@@ -29,3 +32,10 @@ module _ (content later : List ℕ → Option (List ℕ)) (before at after : Lis
   pub no_variables_sooner : (name : Option (List ℕ)) (outcome : Outcome) → HasNoVariables name (files_told later at after) outcome → HasNoVariables name (files_told content before after) outcome
   no_variables_sooner None outcome none = none
   no_variables_sooner (Some name) outcome none = no_text_sooner VARIABLES_LIMIT name outcome none
+
+  -- the text of a file that was read after another
+  pub text_sooner : (limit : ℕ) (name text : List ℕ) → IsTextOf limit (later name) text → IsTextOf limit (content name) text
+  text_sooner limit name text held = subst (λ c. IsTextOf limit (c name) text) same held
+
+  pub holds_sooner : (limit : ℕ) (name text : List ℕ) → IsTextOf limit (later name) text → HoldsText limit (content name)
+  holds_sooner limit name text held = (text, text_sooner limit name text held)

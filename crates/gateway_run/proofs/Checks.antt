@@ -13,7 +13,7 @@ use Rattle.cost_directives.specs.declared.fault.DirectiveFault.{DirectiveFault}
 use Rattle.cost_directives.specs.declared.fault.DirectiveFault.TheVariants as directive
 use Rattle.cost_directives.specs.FieldPlaces.{NameAt}
 use Rattle.cost_directives.specs.DirectiveFaults.{FaultTree, is_no_weight, is_no_list, is_dotted, slices_unknown, slices_no_int, sizes_from_list, sizes_unknown, is_negative, is_at_odds, first_fault, IsFault}
-use Rattle.gateway_run.specs.declared.operation.TheConstants.{SCHEMA_LIMIT}
+use Rattle.gateway_run.specs.declared.limits.TheConstants.{SCHEMA_LIMIT}
 use Rattle.gateway_run.specs.declared.checked.SchemaRefusal.{SchemaRefusal}
 use Rattle.gateway_run.specs.declared.checked.SchemaRefusal.TheVariants.{TooLarge, NotText, NoSchemaText, Fails, Misuses}
 use Rattle.gateway_run.specs.Reading.{IsText}

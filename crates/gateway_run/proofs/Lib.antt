@@ -1,10 +1,7 @@
-mod Refusals
-mod Replies
-mod Exclusions
-mod OneAnswer
 mod Checks
 mod Statuses
 mod MisusedDirectives
 mod AskedFiles
 mod AskedRefusals
+mod Measured
 mod OnePrice

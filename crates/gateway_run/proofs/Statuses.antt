@@ -1,212 +1,181 @@
 -- What a run with a status says.
 use Rattle.std.proofs.Common.{◌≡◌, ◌≤◌, ◌⊎◌, inl, inr, refl, sym, ap, subst, ℕ, List, Option, None, Some, Vec, arith}
-use Rattle.gateway_run.specs.declared.operation.TheConstants.{SCHEMA_LIMIT, DOCUMENT_LIMIT}
-use Rattle.gateway_run.specs.declared.asked.TheConstants.{VARIABLES_LIMIT}
+use Rattle.gateway_run.specs.declared.limits.TheConstants.{SCHEMA_LIMIT, DOCUMENT_LIMIT, VARIABLES_LIMIT}
 use Rattle.std.specs.declared.alloc.Global.{Global}
 use Rattle.outside.specs.Faults.{Rose}
-use Rattle.gateway_run.specs.Texts.{line}
+use Rattle.gateway_run.specs.Texts.{line, too_large_text, meter_text}
 use Rattle.response_meter.specs.declared.fault.MeterFault.{MeterFault}
 use Rattle.response_meter.specs.declared.fault.MeterFault.TheVariants.{NotResponse, SizeBroken, Memory as MeterMemory}
 use Rattle.command_words.specs.declared.command.Command.{Command}
-use Rattle.command_words.specs.declared.command.Command.TheVariants.{Help, Version, Check, Price, Worst, Meter}
+use Rattle.command_words.specs.declared.command.Command.TheVariants.{Help, Version, Check, Price, Worst, Forward, Meter}
 use Rattle.command_words.specs.declared.command.Asked.{Asked}
 use Rattle.static_cost.specs.declared.part.Part.{Part}
+use Rattle.plan_table.specs.declared.table.Plan.{Plan}
 use Rattle.gateway_run.specs.declared.outcome.Outcome.{Outcome}
 use Rattle.gateway_run.specs.declared.outcome.Outcome.TheVariants.{Done, Refused, FileFailed, Faulty, Usage, Memory}
 use Rattle.gateway_run.specs.declared.outcome.TheConstants.{DONE, REFUSED, USAGE, FILE_FAILED, STREAM_FAILED, NO_MEMORY, SIZE_BROKEN, NOT_RESPONSE}
 use Rattle.command_words.specs.Words.{Asks, IsNoCommand}
-use Rattle.gateway_run.specs.Outcomes.{FilesTold, StreamTold, IsKept, Writes, Ends}
+use Rattle.gateway_run.specs.Outcomes.{FilesTold, StreamTold, IsStopped, IsDone, IsRefusedAs, IsFaultyAs, IsKept, Writes, Ends}
 use Rattle.gateway_run.specs.Check.{CheckOf}
 use Rattle.gateway_run.specs.declared.asked.AskedTexts.{AskedTexts}
 use Rattle.gateway_run.specs.Reading.{IsNoText, HasNoText}
-use Rattle.gateway_run.specs.Asked.{HasNoVariables, HaveNoTexts}
+use Rattle.gateway_run.specs.Asked.{HasNoVariables, HaveNoOperation, HaveNoTexts, request_in}
 use Rattle.gateway_run.specs.Price.{PriceOf}
 use Rattle.response_model.specs.Plan.{Plan as PlanTree}
 use Rattle.acceptance.specs.Requests.{plan_tree}
-use Rattle.gateway_run.specs.Asked.{request_in}
 use Rattle.gateway_run.specs.Worst.{WorstOfTree, WorstOf}
-use Rattle.gateway_run.specs.Meter.{status_of, MeterOf}
+use Rattle.gateway_run.specs.Forward.{ForwardOf}
+use Rattle.gateway_run.specs.Meter.{status_of, IsReplyFault, HasNoReply, HaveNoMetering, MeterOfPlan, MeterOf}
 use Rattle.gateway_run.specs.Program.{CommandCameTo, IsCommandOf, ComeTo, IsAskedFile, IsFileOf, NamesFile, OneFailed, PrintsOutput, PrintsRefusal, PrintsFault, IsSilent}
-
--- the bytes that were read come to no file that failed, and to no wrong use
-check_file : (schema bytes name : List ℕ) → CheckOf schema bytes (FileFailed name) → ⊥
-check_file schema bytes name (inl memory) = absurd (cc)
-check_file schema bytes name (inr (inl done)) = absurd done.2
-check_file schema bytes name (inr (inr refused)) = absurd refused.2
-
-check_usage : (schema bytes : List ℕ) → CheckOf schema bytes Usage → ⊥
-check_usage schema bytes (inl memory) = absurd (cc)
-check_usage schema bytes (inr (inl done)) = absurd done.2
-check_usage schema bytes (inr (inr refused)) = absurd refused.2
-
-check_faulty : (schema bytes text : List ℕ) (status : ℕ) → CheckOf schema bytes (Faulty status text) → ⊥
-check_faulty schema bytes text status (inl memory) = absurd (cc)
-check_faulty schema bytes text status (inr (inl done)) = absurd done.2
-check_faulty schema bytes text status (inr (inr refused)) = absurd refused.2
-
-price_file : (asked : Asked) (texts : AskedTexts) (name : List ℕ) → PriceOf asked texts (FileFailed name) → ⊥
-price_file asked texts name (inl memory) = absurd (cc)
-price_file asked texts name (inr (inl done)) = absurd done.2
-price_file asked texts name (inr (inr refused)) = absurd refused.2
-
-tree_file : (part : Part) (tree : PlanTree) (name : List ℕ) → WorstOfTree part tree (FileFailed name) → ⊥
-tree_file part tree name (inl memory) = absurd (cc)
-tree_file part tree name (inr (inl done)) = absurd done.1
-tree_file part tree name (inr (inr large)) = absurd large.1
-
-worst_file : (asked : Asked) (part : Part) (texts : AskedTexts) (name : List ℕ) → WorstOf asked part texts (FileFailed name) → ⊥
-worst_file asked part texts name (inl memory) = absurd (cc)
-worst_file asked part texts name (inr (inl accepted)) = tree_file part (plan_tree (request_in asked accepted.0) accepted.2.2.is_planned.prepared) name accepted.2.3
-worst_file asked part texts name (inr (inr refused)) = absurd refused.2
-
-price_usage : (asked : Asked) (texts : AskedTexts) → PriceOf asked texts Usage → ⊥
-price_usage asked texts (inl memory) = absurd (cc)
-price_usage asked texts (inr (inl done)) = absurd done.2
-price_usage asked texts (inr (inr refused)) = absurd refused.2
-
-tree_usage : (part : Part) (tree : PlanTree) → WorstOfTree part tree Usage → ⊥
-tree_usage part tree (inl memory) = absurd (cc)
-tree_usage part tree (inr (inl done)) = absurd done.1
-tree_usage part tree (inr (inr large)) = absurd large.1
-
-worst_usage : (asked : Asked) (part : Part) (texts : AskedTexts) → WorstOf asked part texts Usage → ⊥
-worst_usage asked part texts (inl memory) = absurd (cc)
-worst_usage asked part texts (inr (inl accepted)) = tree_usage part (plan_tree (request_in asked accepted.0) accepted.2.2.is_planned.prepared) accepted.2.3
-worst_usage asked part texts (inr (inr refused)) = absurd refused.2
-
-price_faulty : (asked : Asked) (texts : AskedTexts) (text : List ℕ) (status : ℕ) → PriceOf asked texts (Faulty status text) → ⊥
-price_faulty asked texts text status (inl memory) = absurd (cc)
-price_faulty asked texts text status (inr (inl done)) = absurd done.2
-price_faulty asked texts text status (inr (inr refused)) = absurd refused.2
-
-tree_faulty : (part : Part) (tree : PlanTree) (text : List ℕ) (status : ℕ) → WorstOfTree part tree (Faulty status text) → ⊥
-tree_faulty part tree text status (inl memory) = absurd (cc)
-tree_faulty part tree text status (inr (inl done)) = absurd done.1
-tree_faulty part tree text status (inr (inr large)) = absurd large.1
-
-worst_faulty : (asked : Asked) (part : Part) (texts : AskedTexts) (text : List ℕ) (status : ℕ) → WorstOf asked part texts (Faulty status text) → ⊥
-worst_faulty asked part texts text status (inl memory) = absurd (cc)
-worst_faulty asked part texts text status (inr (inl accepted)) = tree_faulty part (plan_tree (request_in asked accepted.0) accepted.2.2.is_planned.prepared) text status accepted.2.3
-worst_faulty asked part texts text status (inr (inr refused)) = absurd refused.2
-
--- files that hold no texts
-no_text_file : (limit : ℕ) (name other : List ℕ) (files : FilesTold) → HasNoText limit name files (FileFailed other) → (other ≡ name) × Rose (files.faults_before other) (files.faults_after other)
-no_text_file limit name other files (inl stopped) = stopped
-no_text_file limit name other files (inr read) = absurd (no_file limit name read.0 other read.2)
-  where
-    no_file : (limit : ℕ) (name bytes other : List ℕ) → IsNoText limit name bytes (FileFailed other) → ⊥
-    no_file limit name bytes other (inl large) = large.1
-    no_file limit name bytes other (inr none) = none.2
-
-no_text_usage : (limit : ℕ) (name : List ℕ) (files : FilesTold) → HasNoText limit name files Usage → ⊥
-no_text_usage limit name files (inl stopped) = stopped
-no_text_usage limit name files (inr read) = no_usage limit name read.0 read.2
-  where
-    no_usage : (limit : ℕ) (name bytes : List ℕ) → IsNoText limit name bytes Usage → ⊥
-    no_usage limit name bytes (inl large) = large.1
-    no_usage limit name bytes (inr none) = none.2
-
-no_text_faulty : (limit : ℕ) (name text : List ℕ) (status : ℕ) (files : FilesTold) → HasNoText limit name files (Faulty status text) → ⊥
-no_text_faulty limit name text status files (inl stopped) = stopped
-no_text_faulty limit name text status files (inr read) = no_fault limit name read.0 text status read.2
-  where
-    no_fault : (limit : ℕ) (name bytes text : List ℕ) (status : ℕ) → IsNoText limit name bytes (Faulty status text) → ⊥
-    no_fault limit name bytes text status (inl large) = large.1
-    no_fault limit name bytes text status (inr none) = none.2
-
-variables_file : (name : Option (List ℕ)) (other : List ℕ) (files : FilesTold) → HasNoVariables name files (FileFailed other) → (name ≡ Some other) × Rose (files.faults_before other) (files.faults_after other)
-variables_file None other files none = absurd none
-variables_file (Some name) other files none = let found = no_text_file VARIABLES_LIMIT name other files none in (ap Some (sym found.0), found.1)
-
-variables_usage : (name : Option (List ℕ)) (files : FilesTold) → HasNoVariables name files Usage → ⊥
-variables_usage None files none = none
-variables_usage (Some name) files none = no_text_usage VARIABLES_LIMIT name files none
-
-variables_faulty : (name : Option (List ℕ)) (text : List ℕ) (status : ℕ) (files : FilesTold) → HasNoVariables name files (Faulty status text) → ⊥
-variables_faulty None text status files none = none
-variables_faulty (Some name) text status files none = no_text_faulty VARIABLES_LIMIT name text status files none
-
-asked_file : (asked : Asked) (name : List ℕ) (files : FilesTold) → HaveNoTexts asked files (FileFailed name) → IsAskedFile asked name × Rose (files.faults_before name) (files.faults_after name)
-asked_file asked name files (inl none) = let found = no_text_file SCHEMA_LIMIT asked.schema name files none in (inl found.0, found.1)
-asked_file asked name files (inr (inl none)) = let found = no_text_file DOCUMENT_LIMIT asked.document name files none.1 in (inr (inl found.0), found.1)
-asked_file asked name files (inr (inr none)) = let found = variables_file asked.variables name files none.2 in (inr (inr found.0), found.1)
-
-asked_usage : (asked : Asked) (files : FilesTold) → HaveNoTexts asked files Usage → ⊥
-asked_usage asked files (inl none) = no_text_usage SCHEMA_LIMIT asked.schema files none
-asked_usage asked files (inr (inl none)) = no_text_usage DOCUMENT_LIMIT asked.document files none.1
-asked_usage asked files (inr (inr none)) = variables_usage asked.variables files none.2
-
-asked_faulty : (asked : Asked) (text : List ℕ) (status : ℕ) (files : FilesTold) → HaveNoTexts asked files (Faulty status text) → ⊥
-asked_faulty asked text status files (inl none) = no_text_faulty SCHEMA_LIMIT asked.schema text status files none
-asked_faulty asked text status files (inr (inl none)) = no_text_faulty DOCUMENT_LIMIT asked.document text status files none.1
-asked_faulty asked text status files (inr (inr none)) = variables_faulty asked.variables text status files none.2
-
-meter_file : (schema document reply name : List ℕ) → MeterOf schema document reply (FileFailed name) → ⊥
-meter_file schema document reply name (inl memory) = absurd (cc)
-meter_file schema document reply name (inr (inl done)) = absurd done.2
-meter_file schema document reply name (inr (inr (inl faulty))) = absurd faulty.2
-meter_file schema document reply name (inr (inr (inr refused))) = absurd refused.2
-
-meter_usage : (schema document reply : List ℕ) → MeterOf schema document reply Usage → ⊥
-meter_usage schema document reply (inl memory) = absurd (cc)
-meter_usage schema document reply (inr (inl done)) = absurd done.2
-meter_usage schema document reply (inr (inr (inl faulty))) = absurd faulty.2
-meter_usage schema document reply (inr (inr (inr refused))) = absurd refused.2
 
 -- the statuses of faulty replies
 abbrev IsReplyStatus : ℕ → Type 0
 IsReplyStatus status = (status ≡ SIZE_BROKEN) ⊎ (status ≡ NOT_RESPONSE)
 
-fault_status : (fault : MeterFault) (status : ℕ) → (fault ≡ MeterMemory → ⊥) → status ≡ status_of fault → IsReplyStatus status
-fault_status (NotResponse path why) status of_reply same = inr same
-fault_status (SizeBroken path size length) status of_reply same = inl same
-fault_status MeterMemory status of_reply same = absurd (of_reply refl)
+-- ---- what a command comes to: no wrong use; a file that failed is one of these and its count rose; a status of its own is that
+-- of a faulty reply
 
-meter_faulty : (schema document reply text : List ℕ) (status : ℕ) → MeterOf schema document reply (Faulty status text) → IsReplyStatus status
-meter_faulty schema document reply text status (inl memory) = absurd (cc)
-meter_faulty schema document reply text status (inr (inl done)) = absurd done.2
-meter_faulty schema document reply text status (inr (inr (inl faulty))) = fault_status faulty.0 status faulty.1.2.1.1 faulty.2.0
-meter_faulty schema document reply text status (inr (inr (inr refused))) = absurd refused.2
+abbrev IsAnswer : (List ℕ → Type 0) → FilesTold → Outcome → Type 0
+IsAnswer IsName files (FileFailed name) = IsName name × Rose (files.faults_before name) (files.faults_after name)
+IsAnswer IsName files (Faulty status text) = IsReplyStatus status
+IsAnswer IsName files Usage = ⊥
+IsAnswer IsName files (Done output) = Unit {0}
+IsAnswer IsName files (Refused text) = Unit {0}
+IsAnswer IsName files Memory = Unit {0}
 
--- what commands come to
+module _ (IsName : List ℕ → Type 0) (files : FilesTold) where
+  memory_answer : (outcome : Outcome) → outcome ≡ Memory → IsAnswer IsName files outcome
+  memory_answer outcome same = subst (IsAnswer IsName files) (sym same) tt
+
+  done_answer : (output : List ℕ) (outcome : Outcome) → IsDone output outcome → IsAnswer IsName files outcome
+  done_answer output (Done bytes) done = tt
+  done_answer output (Refused text) done = absurd done
+  done_answer output (FileFailed name) done = absurd done
+  done_answer output (Faulty status text) done = absurd done
+  done_answer output Usage done = done
+  done_answer output Memory done = tt
+
+  refused_answer : (text : List ℕ) (outcome : Outcome) → IsRefusedAs text outcome → IsAnswer IsName files outcome
+  refused_answer text (Done bytes) refused = absurd refused
+  refused_answer text (Refused told) refused = tt
+  refused_answer text (FileFailed name) refused = absurd refused
+  refused_answer text (Faulty status told) refused = absurd refused
+  refused_answer text Usage refused = refused
+  refused_answer text Memory refused = tt
+
+  stopped_answer : (name : List ℕ) (outcome : Outcome) → IsName name → IsStopped (λ other. other ≡ name) files outcome → IsAnswer IsName files outcome
+  stopped_answer name (Done bytes) is stopped = absurd stopped
+  stopped_answer name (Refused text) is stopped = absurd stopped
+  stopped_answer name (FileFailed other) is stopped = (subst IsName (sym stopped.0) is, stopped.1)
+  stopped_answer name (Faulty status text) is stopped = absurd stopped
+  stopped_answer name Usage is stopped = stopped
+  stopped_answer name Memory is stopped = tt
+
+  -- ---- files that don't hold what they must
+
+  no_text_answer : (limit : ℕ) (name : List ℕ) (outcome : Outcome) → IsName name → HasNoText limit name files outcome → IsAnswer IsName files outcome
+  no_text_answer limit name outcome is (inl stopped) = stopped_answer name outcome is stopped
+  no_text_answer limit name outcome is (inr read) = told limit name read.0 outcome read.2
+    where
+      told : (limit : ℕ) (name bytes : List ℕ) (outcome : Outcome) → IsNoText limit name bytes outcome → IsAnswer IsName files outcome
+      told limit name bytes outcome (inl large) = refused_answer _ outcome large.1
+      told limit name bytes outcome (inr none) = refused_answer _ outcome none.2
+
+  no_variables_answer : (name : Option (List ℕ)) (outcome : Outcome) → ((own : List ℕ) → name ≡ Some own → IsName own) → HasNoVariables name files outcome → IsAnswer IsName files outcome
+  no_variables_answer None outcome is none = absurd none
+  no_variables_answer (Some name) outcome is none = no_text_answer VARIABLES_LIMIT name outcome (is name refl) none
+
+  no_operation_answer : (asked : Asked) (outcome : Outcome) → ((name : List ℕ) → IsAskedFile asked name → IsName name) → HaveNoOperation asked files outcome → IsAnswer IsName files outcome
+  no_operation_answer asked outcome is (inl none) = no_text_answer SCHEMA_LIMIT asked.schema outcome (is asked.schema (inl refl)) none
+  no_operation_answer asked outcome is (inr none) = no_text_answer DOCUMENT_LIMIT asked.document outcome (is asked.document (inr (inl refl))) none.1
+
+  no_reply_answer : (name : List ℕ) (outcome : Outcome) → IsName name → HasNoReply name files outcome → IsAnswer IsName files outcome
+  no_reply_answer name outcome is (inl stopped) = stopped_answer name outcome is stopped
+  no_reply_answer name outcome is (inr large) = refused_answer _ outcome large.3
+
+  -- ---- what they hold
+
+  check_answer : (schema bytes : List ℕ) (outcome : Outcome) → CheckOf schema bytes outcome → IsAnswer IsName files outcome
+  check_answer schema bytes outcome (inl memory) = memory_answer outcome memory
+  check_answer schema bytes outcome (inr (inl done)) = done_answer _ outcome done.2
+  check_answer schema bytes outcome (inr (inr refused)) = refused_answer _ outcome refused.2
+
+  price_answer : (asked : Asked) (texts : AskedTexts) (outcome : Outcome) → PriceOf asked texts outcome → IsAnswer IsName files outcome
+  price_answer asked texts outcome (inl memory) = memory_answer outcome memory
+  price_answer asked texts outcome (inr (inl done)) = done_answer _ outcome done.2
+  price_answer asked texts outcome (inr (inr refused)) = refused_answer _ outcome refused.2
+
+  worst_tree_answer : (part : Part) (tree : PlanTree) (outcome : Outcome) → WorstOfTree part tree outcome → IsAnswer IsName files outcome
+  worst_tree_answer part tree outcome (inl memory) = memory_answer outcome memory
+  worst_tree_answer part tree outcome (inr (inl done)) = done_answer _ outcome done.1
+  worst_tree_answer part tree outcome (inr (inr large)) = refused_answer _ outcome large.1
+
+  worst_answer : (asked : Asked) (part : Part) (texts : AskedTexts) (outcome : Outcome) → WorstOf asked part texts outcome → IsAnswer IsName files outcome
+  worst_answer asked part texts outcome (inl memory) = memory_answer outcome memory
+  worst_answer asked part texts outcome (inr (inl accepted)) = worst_tree_answer part (plan_tree (request_in asked accepted.0) accepted.2.2.is_planned.prepared) outcome accepted.2.3
+  worst_answer asked part texts outcome (inr (inr refused)) = refused_answer _ outcome refused.2
+
+  forward_answer : (asked : Asked) (texts : AskedTexts) (outcome : Outcome) → ForwardOf asked texts outcome → IsAnswer IsName files outcome
+  forward_answer asked texts outcome (inl memory) = memory_answer outcome memory
+  forward_answer asked texts outcome (inr (inl done)) = done_answer _ outcome done.2
+  forward_answer asked texts outcome (inr (inr refused)) = refused_answer _ outcome refused.2
+
+  fault_status : (fault : MeterFault) (status : ℕ) → (fault ≡ MeterMemory → ⊥) → status ≡ status_of fault → IsReplyStatus status
+  fault_status (NotResponse path why) status of_reply same = inr same
+  fault_status (SizeBroken path size length) status of_reply same = inl same
+  fault_status MeterMemory status of_reply same = absurd (of_reply refl)
+
+  reply_answer : (fault : MeterFault) (outcome : Outcome) → (fault ≡ MeterMemory → ⊥) → IsReplyFault fault outcome → IsAnswer IsName files outcome
+  reply_answer fault (Done output) of_reply faulty = absurd faulty
+  reply_answer fault (Refused text) of_reply faulty = absurd faulty
+  reply_answer fault (FileFailed name) of_reply faulty = absurd faulty
+  reply_answer fault (Faulty status text) of_reply faulty = fault_status fault status of_reply faulty.0
+  reply_answer fault Usage of_reply faulty = faulty
+  reply_answer fault Memory of_reply faulty = tt
+
+  meter_plan_answer : (plan : Plan) (alias : List ℕ) (tree : PlanTree) (reply : List ℕ) (outcome : Outcome) → MeterOfPlan plan alias tree reply outcome → IsAnswer IsName files outcome
+  meter_plan_answer plan alias tree reply outcome (inl memory) = memory_answer outcome memory
+  meter_plan_answer plan alias tree reply outcome (inr (inl done)) = done_answer _ outcome done.2
+  meter_plan_answer plan alias tree reply outcome (inr (inr faulty)) = reply_answer faulty.0 outcome faulty.1.1 faulty.2
+
+  meter_answer : (asked : Asked) (texts : AskedTexts) (reply : List ℕ) (outcome : Outcome) → MeterOf asked texts reply outcome → IsAnswer IsName files outcome
+  meter_answer asked texts reply outcome (inl memory) = memory_answer outcome memory
+  meter_answer asked texts reply outcome (inr (inl accepted)) = meter_plan_answer accepted.2 accepted.6 (plan_tree (request_in asked accepted.0) accepted.4.is_planned.prepared) reply outcome accepted.8
+  meter_answer asked texts reply outcome (inr (inr refused)) = refused_answer _ outcome refused.2
+
+-- ---- commands
+
+asked_answer : (asked : Asked) (files : FilesTold) (outcome : Outcome) → HaveNoTexts asked files outcome → IsAnswer (IsAskedFile asked) files outcome
+asked_answer asked files outcome (inl none) = no_operation_answer (IsAskedFile asked) files asked outcome (λ name is. is) none
+asked_answer asked files outcome (inr none) = no_variables_answer (IsAskedFile asked) files asked.variables outcome (λ own same. inr (inr same)) none.1
+
+metering_answer : (asked : Asked) (reply : List ℕ) (files : FilesTold) (outcome : Outcome) → HaveNoMetering asked reply files outcome → IsAnswer (IsFileOf (Meter asked reply)) files outcome
+metering_answer asked reply files outcome (inl none) = no_operation_answer (IsFileOf (Meter asked reply)) files asked outcome (λ name is. inl is) none
+metering_answer asked reply files outcome (inr (inl none)) = no_reply_answer (IsFileOf (Meter asked reply)) files reply outcome (inr refl) none.1
+metering_answer asked reply files outcome (inr (inr none)) = no_variables_answer (IsFileOf (Meter asked reply)) files asked.variables outcome (λ own same. inl (inr (inr same))) none.2
+
+came : (command : Command) (files : FilesTold) (outcome : Outcome) → CommandCameTo command files outcome → IsAnswer (IsFileOf command) files outcome
+came Help files outcome done = done_answer (IsFileOf Help) files _ outcome done
+came Version files outcome done = done_answer (IsFileOf Version) files _ outcome done
+came (Check schema) files outcome (inl stopped) = stopped_answer (IsFileOf (Check schema)) files schema outcome refl stopped
+came (Check schema) files outcome (inr read) = check_answer (IsFileOf (Check schema)) files schema read.0 outcome read.2
+came (Price asked) files outcome (inl none) = asked_answer asked files outcome none
+came (Price asked) files outcome (inr read) = price_answer (IsAskedFile asked) files asked read.0 outcome read.2
+came (Worst asked part) files outcome (inl none) = asked_answer asked files outcome none
+came (Worst asked part) files outcome (inr read) = worst_answer (IsAskedFile asked) files asked part read.0 outcome read.2
+came (Forward asked) files outcome (inl none) = asked_answer asked files outcome none
+came (Forward asked) files outcome (inr read) = forward_answer (IsAskedFile asked) files asked read.0 outcome read.2
+came (Meter asked reply) files outcome (inl none) = metering_answer asked reply files outcome none
+came (Meter asked reply) files outcome (inr read) = meter_answer (IsFileOf (Meter asked reply)) files asked read.0 read.1 outcome read.4
+
 came_file : (command : Command) (files : FilesTold) (name : List ℕ) → CommandCameTo command files (FileFailed name) → IsFileOf command name × Rose (files.faults_before name) (files.faults_after name)
-came_file Help files name came = absurd came
-came_file Version files name came = absurd came
-came_file (Check schema) files name (inl stopped) = stopped
-came_file (Check schema) files name (inr read) = absurd (check_file schema read.0 name read.2)
-came_file (Price asked) files name (inl none) = asked_file asked name files none
-came_file (Price asked) files name (inr read) = absurd (price_file asked read.0 name read.2)
-came_file (Worst asked part) files name (inl none) = asked_file asked name files none
-came_file (Worst asked part) files name (inr read) = absurd (worst_file asked part read.0 name read.2)
-came_file (Meter schema document reply) files name (inl stopped) = stopped
-came_file (Meter schema document reply) files name (inr (inl large)) = absurd large.1
-came_file (Meter schema document reply) files name (inr (inr read)) = absurd (meter_file read.0 read.1 read.4.0 name read.4.3)
+came_file command files name = came command files (FileFailed name)
 
 came_usage : (command : Command) (files : FilesTold) → CommandCameTo command files Usage → ⊥
-came_usage Help files came = came
-came_usage Version files came = came
-came_usage (Check schema) files (inl stopped) = stopped
-came_usage (Check schema) files (inr read) = check_usage schema read.0 read.2
-came_usage (Price asked) files (inl none) = asked_usage asked files none
-came_usage (Price asked) files (inr read) = price_usage asked read.0 read.2
-came_usage (Worst asked part) files (inl none) = asked_usage asked files none
-came_usage (Worst asked part) files (inr read) = worst_usage asked part read.0 read.2
-came_usage (Meter schema document reply) files (inl stopped) = stopped
-came_usage (Meter schema document reply) files (inr (inl large)) = large.1
-came_usage (Meter schema document reply) files (inr (inr read)) = meter_usage read.0 read.1 read.4.0 read.4.3
+came_usage command files = came command files Usage
 
 came_faulty : (command : Command) (files : FilesTold) (status : ℕ) (text : List ℕ) → CommandCameTo command files (Faulty status text) → IsReplyStatus status
-came_faulty Help files status text came = absurd came
-came_faulty Version files status text came = absurd came
-came_faulty (Check schema) files status text (inl stopped) = absurd stopped
-came_faulty (Check schema) files status text (inr read) = absurd (check_faulty schema read.0 text status read.2)
-came_faulty (Price asked) files status text (inl none) = absurd (asked_faulty asked text status files none)
-came_faulty (Price asked) files status text (inr read) = absurd (price_faulty asked read.0 text status read.2)
-came_faulty (Worst asked part) files status text (inl none) = absurd (asked_faulty asked text status files none)
-came_faulty (Worst asked part) files status text (inr read) = absurd (worst_faulty asked part read.0 text status read.2)
-came_faulty (Meter schema document reply) files status text (inl stopped) = absurd stopped
-came_faulty (Meter schema document reply) files status text (inr (inl large)) = absurd large.1
-came_faulty (Meter schema document reply) files status text (inr (inr read)) = meter_faulty read.0 read.1 read.4.0 text status read.4.3
+came_faulty command files status text = came command files (Faulty status text)
 
 -- and words
 come_faulty : (words : List (List ℕ)) (files : FilesTold) (status : ℕ) (text : List ℕ) → ComeTo words files (Faulty status text) → IsReplyStatus status

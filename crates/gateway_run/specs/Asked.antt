@@ -15,8 +15,7 @@ use Rattle.acceptance.specs.declared.fault.Refusal.{Refusal}
 use Rattle.acceptance.specs.Requests.{RequestData}
 use Rattle.acceptance.specs.Refusals.{IsUnread, IsRefusedFor}
 use Rattle.acceptance.specs.Texts.{refusal_text}
-use Rattle.gateway_run.specs.declared.operation.TheConstants.{SCHEMA_LIMIT, DOCUMENT_LIMIT}
-use Rattle.gateway_run.specs.declared.asked.TheConstants.{VARIABLES_LIMIT}
+use Rattle.gateway_run.specs.declared.limits.TheConstants.{SCHEMA_LIMIT, DOCUMENT_LIMIT, VARIABLES_LIMIT}
 use Rattle.gateway_run.specs.declared.asked.AskedTexts.{AskedTexts}
 use Rattle.gateway_run.specs.declared.checked.SchemaRefusal.{SchemaRefusal}
 use Rattle.gateway_run.specs.declared.asking.Inputs.{Inputs}
@@ -53,11 +52,18 @@ pub record HoldTexts (asked : Asked) (content : List ℕ → Option (List ℕ)) 
 abbrev pub HoldsText : ℕ → Option (List ℕ) → Type 0
 HoldsText limit content = (text : List ℕ) × IsTextOf limit content text
 
+-- The files of the schema and of the document are texts.
+abbrev pub HoldOperation : Asked → (List ℕ → Option (List ℕ)) → Type 0
+HoldOperation asked content = HoldsText SCHEMA_LIMIT (content asked.schema) × HoldsText DOCUMENT_LIMIT (content asked.document)
+
+-- The schema was not read, or holds no text; or it is one, and so it is of the document.
+abbrev pub HaveNoOperation : Asked → FilesTold → Outcome → Type 0
+HaveNoOperation asked files outcome = HasNoText SCHEMA_LIMIT asked.schema files outcome
+    ⊎ (HoldsText SCHEMA_LIMIT (files.content asked.schema) × HasNoText DOCUMENT_LIMIT asked.document files outcome)
+
 -- The first of the files that was not read, or holds no text: the schema, the document, the variables.
 abbrev pub HaveNoTexts : Asked → FilesTold → Outcome → Type 0
-HaveNoTexts asked files outcome = HasNoText SCHEMA_LIMIT asked.schema files outcome
-    ⊎ (HoldsText SCHEMA_LIMIT (files.content asked.schema) × HasNoText DOCUMENT_LIMIT asked.document files outcome)
-    ⊎ (HoldsText SCHEMA_LIMIT (files.content asked.schema) × HoldsText DOCUMENT_LIMIT (files.content asked.document) × HasNoVariables asked.variables files outcome)
+HaveNoTexts asked files outcome = HaveNoOperation asked files outcome ⊎ (HoldOperation asked files.content × HasNoVariables asked.variables files outcome)
 
 -- ---- what the texts hold
 

@@ -13,7 +13,7 @@ use Rattle.cost_directives.specs.declared.fault.DirectiveFault.{DirectiveFault}
 use Rattle.cost_directives.specs.declared.fault.DirectiveFault.TheVariants.{Memory as NoWeights}
 use Rattle.cost_directives.specs.declared.weights.Weights.{Weights}
 use Rattle.cost_directives.specs.DirectiveFaults.{Weighs}
-use Rattle.gateway_run.specs.declared.operation.TheConstants.{SCHEMA_LIMIT}
+use Rattle.gateway_run.specs.declared.limits.TheConstants.{SCHEMA_LIMIT}
 use Rattle.command_words.specs.declared.command.TheConstants.{UNDECLARED}
 use Rattle.gateway_run.specs.declared.checked.SchemaRefusal.{SchemaRefusal}
 use Rattle.gateway_run.specs.declared.checked.SchemaRefusal.TheVariants.{TooLarge, NotText, NoSchemaText, Fails, Misuses}

@@ -1,13 +1,11 @@
 pub mod Reading
 pub mod Texts
-pub mod Operations
-pub mod Faults
 pub mod Outcomes
-pub mod Refusals
 pub mod SchemaTexts
 pub mod Check
 pub mod Asked
 pub mod Price
 pub mod Worst
+pub mod Forward
 pub mod Meter
 pub mod Program

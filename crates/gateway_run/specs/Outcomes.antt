@@ -95,5 +95,5 @@ Ends (Done output) result out err = Writes (line output.items) DONE result out �
 Ends (Refused text) result out err = IsKept out × Writes (line text) REFUSED result err
 Ends (FileFailed name) result out err = IsKept out × Mentions (line (file_text name)) FILE_FAILED result err
 Ends (Faulty status text) result out err = IsKept out × Writes (line text) status result err
-Ends Usage result out err = IsKept out × Mentions USAGE_TEXT.now USAGE result err
+Ends Usage result out err = IsKept out × Mentions (line USAGE_TEXT.now) USAGE result err
 Ends Memory result out err = (result ≡ NO_MEMORY) × IsKept out × IsKept err

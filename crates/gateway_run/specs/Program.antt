@@ -2,30 +2,32 @@
 use Rattle.std.specs.Prelude.{◌≡◌, ◌⊎◌, ℕ, List, Some, Vec}
 use Rattle.std.specs.declared.alloc.Global.{Global}
 use Rattle.command_words.specs.declared.command.Command.{Command}
-use Rattle.command_words.specs.declared.command.Command.TheVariants.{Help, Version, Check, Price, Worst, Meter}
+use Rattle.command_words.specs.declared.command.Command.TheVariants.{Help, Version, Check, Price, Worst, Forward, Meter}
 use Rattle.command_words.specs.declared.command.Asked.{Asked}
 use Rattle.command_words.specs.declared.command.WordsFault.{WordsFault}
 use Rattle.command_words.specs.declared.command.WordsFault.TheVariants.{Usage as NoCommand, Memory as NoMemory}
 use Rattle.gateway_run.specs.declared.outcome.Outcome.{Outcome}
 use Rattle.gateway_run.specs.declared.outcome.Outcome.TheVariants.{Done, Refused, Faulty, Usage, Memory}
 use Rattle.command_words.specs.Words.{Asks, IsNoCommand}
-use Rattle.gateway_run.specs.declared.finish.TheConstants.{HELP_TEXT, VERSION_TEXT}
+use Rattle.gateway_run.specs.declared.finish.TheConstants.{USAGE_TEXT, VERSION_TEXT}
 use Rattle.outside.specs.Faults.{Rose}
 use Rattle.gateway_run.specs.Texts.{line, file_text}
 use Rattle.gateway_run.specs.Outcomes.{FilesTold, StreamTold, Gains, IsKept, IsDone, HasFailed, FailsAmid, Ends}
 use Rattle.gateway_run.specs.Check.{CheckCameTo}
 use Rattle.gateway_run.specs.Price.{PriceCameTo}
 use Rattle.gateway_run.specs.Worst.{WorstCameTo}
+use Rattle.gateway_run.specs.Forward.{ForwardCameTo}
 use Rattle.gateway_run.specs.Meter.{MeterCameTo}
 
 -- What a command came to.
 abbrev pub CommandCameTo : Command → FilesTold → Outcome → Type 0
-CommandCameTo Help files outcome = IsDone HELP_TEXT.now outcome
+CommandCameTo Help files outcome = IsDone USAGE_TEXT.now outcome
 CommandCameTo Version files outcome = IsDone VERSION_TEXT.now outcome
 CommandCameTo (Check schema) files outcome = CheckCameTo schema files outcome
 CommandCameTo (Price asked) files outcome = PriceCameTo asked files outcome
 CommandCameTo (Worst asked part) files outcome = WorstCameTo asked part files outcome
-CommandCameTo (Meter schema document reply) files outcome = MeterCameTo schema document reply files outcome
+CommandCameTo (Forward asked) files outcome = ForwardCameTo asked files outcome
+CommandCameTo (Meter asked reply) files outcome = MeterCameTo asked reply files outcome
 
 -- The outcome of words that were not read into a command.
 abbrev pub no_command : WordsFault → Outcome
@@ -57,7 +59,8 @@ IsFileOf Version name = ⊥
 IsFileOf (Check schema) name = name ≡ schema
 IsFileOf (Price asked) name = IsAskedFile asked name
 IsFileOf (Worst asked part) name = IsAskedFile asked name
-IsFileOf (Meter schema document reply) name = (name ≡ schema) ⊎ (name ≡ document) ⊎ (name ≡ reply)
+IsFileOf (Forward asked) name = IsAskedFile asked name
+IsFileOf (Meter asked reply) name = IsAskedFile asked name ⊎ (name ≡ reply)
 
 -- A file of the command that the words ask for was not read; just the line that names it was written, or the error stream failed.
 pub record NamesFile (words : List (List ℕ)) (files : FilesTold) (out err : StreamTold) : Type 0 where

@@ -1,6 +1,5 @@
 -- What a read took of a file.
 use Rattle.std.specs.Prelude.{◌≡◌, ℕ, ◌+◌, ◌≤◌, ◌<◌, ◌⊎◌, List, Option, IfSome, IsUtf8, take, length}
-use Rattle.gateway_run.specs.declared.operation.TheConstants.{SCHEMA_LIMIT, DOCUMENT_LIMIT}
 use Rattle.gateway_run.specs.declared.outcome.Outcome.{Outcome}
 use Rattle.gateway_run.specs.Texts.{too_large_text, not_text_text}
 use Rattle.gateway_run.specs.Outcomes.{FilesTold, IsStopped, IsRefusedAs}
@@ -13,10 +12,6 @@ IsRead limit content bytes = IfSome content (λ whole. bytes ≡ take (limit + 1
 pub record IsText (limit : ℕ) (bytes : List ℕ) : Type 0 where
   pub within : length bytes ≤ limit
   pub utf8 : IsUtf8 bytes
-
--- The bytes that were read of a schema file and of a document file are ones for which this holds.
-abbrev pub OfFiles : Option (List ℕ) → Option (List ℕ) → (List ℕ → List ℕ → Type 0) → Type 0
-OfFiles schema document P = (s d : List ℕ) × IsRead SCHEMA_LIMIT schema s × IsRead DOCUMENT_LIMIT document d × P s d
 
 -- The file is this text.
 abbrev pub IsTextOf : ℕ → Option (List ℕ) → List ℕ → Type 0

@@ -1,26 +1,15 @@
 -- The lines that the commands write.
 use Rattle.std.specs.Prelude.{ℕ, List, [], ◌∷◌, ◌++◌, codes}
 use Rattle.std.specs.Fmt.{decimal}
-use Rattle.acceptance.specs.Texts.{naming, document_text}
+use Rattle.acceptance.specs.Texts.{naming}
 use Rattle.response_meter.specs.declared.fault.Why.{Why}
 use Rattle.response_meter.specs.declared.fault.Why.TheVariants.{NotJson, NotObject, NoData, BadErrors, MissingKey, ExtraKey, NullHere, NotList, BadLeaf, BadType, BadObject}
 use Rattle.response_meter.specs.declared.fault.MeterFault.{MeterFault}
 use Rattle.response_meter.specs.declared.fault.MeterFault.TheVariants.{NotResponse, SizeBroken, Memory}
-use Rattle.gateway_run.specs.declared.operation.Refusal.{Refusal}
-use Rattle.gateway_run.specs.declared.operation.Refusal.TheVariants.{SchemaNotBuilt, NoDocument, DocumentNotBuilt, TypesTooCostly, FieldsTooCostly, BothTooCostly}
 
 -- a text and its line end
 abbrev pub line : List ℕ → List ℕ
 line text = text ++ (10 ∷ [])
-
--- the stage, the number of the fault, its name and its fields
-abbrev pub refusal_text : Refusal → List ℕ
-refusal_text SchemaNotBuilt = codes "first 1 NotBuilt schema"
-refusal_text (NoDocument fault) = document_text fault
-refusal_text DocumentNotBuilt = codes "first 1 NotBuilt document"
-refusal_text TypesTooCostly = codes "bound 1 TooCostly types"
-refusal_text FieldsTooCostly = codes "bound 1 TooCostly fields"
-refusal_text BothTooCostly = codes "bound 1 TooCostly both"
 
 -- what is written where a file was not read
 abbrev pub file_text : List ℕ → List ℕ

@@ -3,19 +3,16 @@
 ghost use Rattle.std.specs.Prelude.{◌≡◌, ◌≤◌, ℕ, List, IfOk, IfErr};
 ghost use Rattle.gateway_run.specs.Reading.{IsText, IsTextOf, IsNoText, HasNoText};
 ghost use Rattle.gateway_run.specs.Outcomes.{files_told};
-ghost use Rattle.gateway_run.specs.Asked.{HoldVariables, HasNoVariables, HoldTexts, HaveNoTexts};
+ghost use Rattle.gateway_run.specs.Asked.{HoldVariables, HasNoVariables, HaveNoOperation, HoldTexts, HaveNoTexts};
 
 use crate::inputs::read_file;
-use crate::operation::{DOCUMENT_LIMIT, SCHEMA_LIMIT};
+use crate::limits::{DOCUMENT_LIMIT, SCHEMA_LIMIT, VARIABLES_LIMIT};
 use crate::outcome::Outcome;
 use crate::texts::refused_naming;
 use command_words::Asked;
 use gql_base::Text;
 use outside::Files;
 use std::alloc::Global;
-
-/// How many bytes a file of variables may have.
-pub const VARIABLES_LIMIT: usize = 4_194_304;
 
 /// The texts of an operation's files.
 #[derive(Drop)]
@@ -61,8 +58,8 @@ fn read_text<F: Files>(
     }
 }
 
-// The text that the file of the variables holds, where one is named.
-fn read_variables<F: Files>(
+/// The text that the file of the variables holds, where one is named.
+pub fn read_variables<F: Files>(
     alloc: Global,
     name: &Option<Text>,
     files: &mut F,
@@ -81,7 +78,36 @@ fn read_variables<F: Files>(
     }
 }
 
-/// Reads the files of an operation, each whole before the next.
+/// The texts of a schema file and of a document file.
+#[derive(Drop)]
+pub struct OperationTexts {
+    pub schema: Text,
+    pub document: Text,
+}
+
+/// Reads the schema file, and then the document file.
+pub fn read_operation<F: Files>(
+    alloc: Global,
+    asked: &Asked,
+    files: &mut F,
+) -> Result<OperationTexts, Outcome>
+    ensures schema { IfOk result (λ texts. IsTextOf SCHEMA_LIMIT (F.content files.old asked.now.schema) texts.schema) }
+    ensures document { IfOk result (λ texts. IsTextOf DOCUMENT_LIMIT (F.content files.old asked.now.document) texts.document) }
+    ensures same { F.content files.new ≡ F.content files.old }
+    ensures count { (other : List ℕ) → F.faults files.old other ≤ F.faults files.new other }
+    ensures none { IfErr result (HaveNoOperation asked.now (files_told (F.content files.old) (F.faults files.old) (F.faults files.new))) }
+{
+    let schema = match read_text(alloc, &asked.schema, SCHEMA_LIMIT, files) {
+        Ok(schema) => schema,
+        Err(outcome) => return Err(outcome),
+    };
+    match read_text(alloc, &asked.document, DOCUMENT_LIMIT, files) {
+        Ok(document) => Ok(OperationTexts { schema, document }),
+        Err(outcome) => Err(outcome),
+    }
+}
+
+/// Reads the files of an operation, each whole before the next: the schema, the document, the variables.
 pub fn read_asked<F: Files>(
     alloc: Global,
     asked: &Asked,
@@ -90,12 +116,8 @@ pub fn read_asked<F: Files>(
     ensures held { IfOk result (HoldTexts asked.now (F.content files.old)) }
     ensures none { IfErr result (HaveNoTexts asked.now (files_told (F.content files.old) (F.faults files.old) (F.faults files.new))) }
 {
-    let schema = match read_text(alloc, &asked.schema, SCHEMA_LIMIT, files) {
-        Ok(schema) => schema,
-        Err(outcome) => return Err(outcome),
-    };
-    let document = match read_text(alloc, &asked.document, DOCUMENT_LIMIT, files) {
-        Ok(document) => document,
+    let OperationTexts { schema, document } = match read_operation(alloc, asked, files) {
+        Ok(texts) => texts,
         Err(outcome) => return Err(outcome),
     };
     match read_variables(alloc, &asked.variables, files) {

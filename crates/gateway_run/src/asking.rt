@@ -13,7 +13,7 @@ ghost use Rattle.gateway_run.specs.Asked.{IsGiven, IsUngiven, IsNoSchemaOf, IsUn
 
 use crate::asked::AskedTexts;
 use crate::checked::{CheckFault, SchemaRefusal, Weighed, weighed_in};
-use crate::operation::SCHEMA_LIMIT;
+use crate::limits::SCHEMA_LIMIT;
 use crate::outcome::Outcome;
 use crate::schema_texts::refused_schema;
 use crate::texts::refused_as;

@@ -7,7 +7,7 @@ ghost use Rattle.gateway_run.specs.Outcomes.{files_told, IsDone};
 
 use crate::checked::{CheckFault, checked_schema};
 use crate::inputs::read_file;
-use crate::operation::SCHEMA_LIMIT;
+use crate::limits::SCHEMA_LIMIT;
 use crate::outcome::Outcome;
 use crate::schema_texts::refused_schema;
 use acceptance::texts::placed;

@@ -6,7 +6,7 @@ ghost use Rattle.schema_reader.specs.Trees.{schema_trees};
 ghost use Rattle.gateway_run.specs.Reading.{IsText};
 ghost use Rattle.gateway_run.specs.Check.{HoldsDefinitions, HoldsChecked, HoldsWeighed, HoldsWith, IsUnchecked, IfUnchecked, TellsText, TellsTest, TellsDirective};
 
-use crate::operation::SCHEMA_LIMIT;
+use crate::limits::SCHEMA_LIMIT;
 use command_words::UNDECLARED;
 use cost_directives::{DirectiveFault, Weights};
 use gql_base::Text;

@@ -18,20 +18,9 @@ usage: tellcrock price SCHEMA DOCUMENT [--variables FILE] [--operation NAME] [--
   prints the greatest type cost and the greatest field cost that a response can have
 usage: tellcrock worst SCHEMA DOCUMENT types|fields [--variables FILE] [--operation NAME] [--unsized N]
   prints a response that costs as much as any
-usage: tellcrock meter SCHEMA DOCUMENT REPLY
-  prints what a reply cost, and the answer for its client
-usage: tellcrock --help
-usage: tellcrock --version
-";
-
-/// The same, as the output of a command.
-pub const HELP_TEXT: &[u8] = b"usage: tellcrock check SCHEMA
-  prints how many types and fields a schema has, or which test it doesn't pass
-usage: tellcrock price SCHEMA DOCUMENT [--variables FILE] [--operation NAME] [--unsized N]
-  prints the greatest type cost and the greatest field cost that a response can have
-usage: tellcrock worst SCHEMA DOCUMENT types|fields [--variables FILE] [--operation NAME] [--unsized N]
-  prints a response that costs as much as any
-usage: tellcrock meter SCHEMA DOCUMENT REPLY
+usage: tellcrock forward SCHEMA DOCUMENT [--variables FILE] [--operation NAME] [--unsized N]
+  prints the request that is sent on for an operation
+usage: tellcrock meter SCHEMA DOCUMENT REPLY [--variables FILE] [--operation NAME] [--unsized N]
   prints what a reply cost, and the answer for its client
 usage: tellcrock --help
 usage: tellcrock --version";
@@ -81,9 +70,9 @@ fn mention_file<E: Sink>(err: &mut E, name: &[u8]) -> u8
 
 // Says how the program is used. The status stays where the stream fails.
 fn mention_usage<E: Sink>(err: &mut E) -> u8
-    ensures { Mentions USAGE_TEXT.now USAGE result (stream_told (E.written err.old) (E.written err.new) (E.faults err.old) (E.faults err.new)) }
+    ensures { Mentions (line USAGE_TEXT.now) USAGE result (stream_told (E.written err.old) (E.written err.new) (E.faults err.old) (E.faults err.new)) }
 {
-    match write_whole(err, USAGE_TEXT) {
+    match write_line(err, USAGE_TEXT) {
         Ok(()) | Err(WriteFault) => USAGE,
     }
 }

@@ -9,10 +9,10 @@ mod check;
 mod check_laws;
 mod checked;
 mod finish;
+mod forward;
 mod inputs;
-mod laws;
+mod limits;
 mod meter;
-mod operation;
 mod outcome;
 mod price;
 mod price_laws;
@@ -27,10 +27,6 @@ mod worst;
 
 pub use check_laws::a_schema_file_has_one_check;
 pub use command_words::WordsFault;
-pub use laws::{
-    a_refusal_excludes_all_else, a_reply_has_one_measure, a_reply_is_measured_or_has_one_fault,
-    two_files_have_one_refusal,
-};
 pub use outcome::{
     DONE, FILE_FAILED, NO_MEMORY, NOT_RESPONSE, REFUSED, SIZE_BROKEN, STREAM_FAILED, USAGE,
 };

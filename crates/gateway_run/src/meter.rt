@@ -1,57 +1,91 @@
 //! The command `meter SCHEMA DOCUMENT REPLY`.
 
-ghost use Rattle.std.specs.Prelude.{◌≡◌, ◌≤◌, ◌⊎◌, ℕ, List, IfOk, IfErr, length};
-ghost use Rattle.static_cost.specs.FirstPlan.{plan_of};
-ghost use Rattle.static_cost.specs.FirstBound.{IsWithinCap};
-ghost use Rattle.response_meter.specs.Faults.{Tells};
-ghost use Rattle.response_meter.specs.Metered.{first_fault};
-ghost use Rattle.gateway_run.specs.Reading.{IsRead};
-ghost use Rattle.gateway_run.specs.Operations.{IsAffordable, IsPassing};
-ghost use Rattle.gateway_run.specs.Outcomes.{files_told, IsStopped, IsDone};
-ghost use Rattle.gateway_run.specs.Meter.{measure_text, MeterOfOperation, MeterOf, MeterCameTo};
+ghost use Rattle.std.specs.Prelude.{◌≡◌, ◌≤◌, ℕ, List, IfOk, IfErr};
+ghost use Rattle.cost_num.specs.declared.TheConstants.{CAP};
+ghost use Rattle.response_model.specs.Plan.{Plan as PlanTree};
+ghost use Rattle.response_model.specs.Cost.{Part as PartOfCost};
+ghost use Rattle.static_cost.specs.TableBound.{HoldsSound};
+ghost use Rattle.static_cost.specs.Worst.{IsCounted};
+ghost use Rattle.gateway_run.specs.Reading.{IsText};
+ghost use Rattle.gateway_run.specs.Outcomes.{files_told, IsDone};
+ghost use Rattle.gateway_run.specs.Asked.{HoldTexts, IsRefusalOf, IfAskedRefused};
+ghost use Rattle.gateway_run.specs.Meter.{measure_text, IsReply, HasNoReply, HaveNoMetering, MeterOfPlan, MeterOfAccepted, MeterOf, MeterCameTo};
 
-use crate::inputs::{Inputs, read_file, read_inputs};
-use crate::operation::{DOCUMENT_LIMIT, OperationFault, SCHEMA_LIMIT, bounded_operation};
+use crate::asked::{AskedTexts, OperationTexts, read_operation, read_variables};
+use crate::asking::{AskedFault, inputs_in, refused_asked};
+use crate::forward::forwarded_in;
+use crate::inputs::read_file;
+use crate::limits::{REPLY_LIMIT, SCHEMA_LIMIT};
 use crate::outcome::Outcome;
-use crate::price::text_of_cost;
+use crate::price::{accepted, text_of_cost};
 use crate::reply_texts::{no_response, size_broken, too_large};
-use crate::texts::refused;
+use command_words::Asked;
+use cost_num::CAP;
 use gql_base::Text;
 use outside::Files;
-use response_meter::{FirstMetered, MeterFault, first_meter};
-use static_cost::FirstNode;
+use plan_table::Plan;
+use response_meter::{MeterFault, Metered};
 use std::alloc::{AllocError, Global};
-
-/// How many bytes a reply file may have.
-pub const REPLY_LIMIT: usize = 4_194_304;
 
 // The files of the command.
 #[derive(Drop)]
 struct Metering {
-    inputs: Inputs,
+    texts: AskedTexts,
     reply: Vec<u8>,
 }
 
-// What a reply to an operation cost, and its answer text.
-fn measure_bounded(
-    alloc: Global,
-    operation: &[FirstNode],
-    reply: &[u8],
-) -> Result<FirstMetered, MeterFault>
-    requires { IsAffordable operation.now }
-    ensures measured { IfOk result (IsPassing operation.now reply.now) }
-    ensures within_cap { IfOk result (λ metered. IsWithinCap metered.cost) }
-    ensures faulty { IfErr result (λ fault. Tells fault (first_fault (plan_of operation.now) reply.now)) }
+// The bytes that a reply file holds.
+fn read_reply<F: Files>(alloc: Global, name: &Text, files: &mut F) -> Result<Vec<u8>, Outcome>
+    ensures held { IfOk result (λ read. IsReply (F.content files.old name.now) read.items) }
+    ensures same { F.content files.new ≡ F.content files.old }
+    ensures count { (other : List ℕ) → F.faults files.old other ≤ F.faults files.new other }
+    ensures none { IfErr result (HasNoReply name.now (files_told (F.content files.old) (F.faults files.old) (F.faults files.new))) }
 {
-    match first_meter(alloc, operation, reply) {
-        Ok(metered) => Ok(metered),
-        Err(fault) => Err(fault),
+    let Ok(own) = Text::copy_of(alloc, name.as_str()) else {
+        return Err(Outcome::Memory);
+    };
+    match read_file(alloc, own, REPLY_LIMIT, files) {
+        Ok(read) if read.len() > REPLY_LIMIT => Err(too_large(alloc, name)),
+        Ok(read) => Ok(read),
+        Err(outcome) => Err(outcome),
     }
 }
 
+// Reads the files of the command, each whole before the next: the schema, the document, the reply, the variables.
+fn read_metering<F: Files>(
+    alloc: Global,
+    asked: &Asked,
+    reply: &Text,
+    files: &mut F,
+) -> Result<Metering, Outcome>
+    ensures texts { IfOk result (λ read. HoldTexts asked.now (F.content files.old) read.texts) }
+    ensures reply { IfOk result (λ read. IsReply (F.content files.old reply.now) read.reply.items) }
+    ensures none { IfErr result (HaveNoMetering asked.now reply.now (files_told (F.content files.old) (F.faults files.old) (F.faults files.new))) }
+{
+    let OperationTexts { schema, document } = match read_operation(alloc, asked, files) {
+        Ok(texts) => texts,
+        Err(outcome) => return Err(outcome),
+    };
+    let reply = match read_reply(alloc, reply, files) {
+        Ok(reply) => reply,
+        Err(outcome) => return Err(outcome),
+    };
+    let variables = match read_variables(alloc, &asked.variables, files) {
+        Ok(variables) => variables,
+        Err(outcome) => return Err(outcome),
+    };
+    let texts = AskedTexts {
+        schema,
+        document,
+        variables,
+    };
+    Ok(Metering { texts, reply })
+}
+
 // The text of a measured cost, and the answer text on a line of its own.
-fn text_of_measure(alloc: Global, metered: &FirstMetered) -> Result<Vec<u8>, AllocError>
-    requires within_cap { IsWithinCap metered.now.cost }
+fn text_of_measure(alloc: Global, metered: &Metered) -> Result<Vec<u8>, AllocError>
+    requires types_within { metered.now.cost.types ≤ CAP }
+    requires fields_within { metered.now.cost.fields ≤ CAP }
     ensures { IfOk result (λ text. text.items ≡ measure_text metered.now) }
 {
     let mut text = text_of_cost(alloc, metered.cost)?;
@@ -61,8 +95,9 @@ fn text_of_measure(alloc: Global, metered: &FirstMetered) -> Result<Vec<u8>, All
 }
 
 // The outcome of a reply that is measured so.
-fn measured(alloc: Global, metered: &FirstMetered) -> Outcome
-    requires within_cap { IsWithinCap metered.now.cost }
+fn measured(alloc: Global, metered: &Metered) -> Outcome
+    requires types_within { metered.now.cost.types ≤ CAP }
+    requires fields_within { metered.now.cost.fields ≤ CAP }
     ensures { IsDone (measure_text metered.now) result }
 {
     match text_of_measure(alloc, metered) {
@@ -71,12 +106,13 @@ fn measured(alloc: Global, metered: &FirstMetered) -> Outcome
     }
 }
 
-// What a reply to an operation comes to.
-fn meter_reply(alloc: Global, operation: &[FirstNode], reply: &[u8]) -> Outcome
-    requires { IsAffordable operation.now }
-    ensures { MeterOfOperation operation.now reply.now result }
+// What a reply to an operation of this plan comes to.
+fn meter_plan(alloc: Global, plan: &Plan, alias: &str, reply: &[u8]) -> Outcome
+    requires sound { (tree : PlanTree) × HoldsSound plan.now tree }
+    requires counted { (part : PartOfCost) → IsCounted plan.now part }
+    ensures { (tree : PlanTree) → HoldsSound plan.now tree → MeterOfPlan plan.now alias.now tree reply.now result }
 {
-    match measure_bounded(alloc, operation, reply) {
+    match response_meter::meter(alloc, plan, alias, reply) {
         Ok(metered) => measured(alloc, &metered),
         Err(MeterFault::NotResponse { path, why }) => no_response(alloc, path, why),
         Err(MeterFault::SizeBroken { path, size, length }) => {
@@ -86,59 +122,50 @@ fn meter_reply(alloc: Global, operation: &[FirstNode], reply: &[u8]) -> Outcome
     }
 }
 
-// What the bytes of a schema file, of a document file and of a reply within its limit come to.
-fn meter_bytes(alloc: Global, inputs: Inputs, reply: &[u8]) -> Outcome
-    ensures { MeterOf inputs.schema.items inputs.document.items reply.now result }
-{
-    match bounded_operation(alloc, inputs.schema, inputs.document) {
-        Ok(bounded) => meter_reply(alloc, &bounded.operation, reply),
-        Err(OperationFault::Refused(refusal)) => refused(alloc, refusal),
-        Err(OperationFault::Memory) => Outcome::Memory,
-    }
-}
-
-// Reads the files of the command, the reply last.
-fn read_metering<F: Files>(
+// What a reply to the operation of these texts comes to, where it is accepted.
+fn meter_in(
     alloc: Global,
-    schema: Text,
-    document: Text,
-    reply: Text,
-    files: &mut F,
-) -> Result<Metering, Outcome>
-    ensures schema { IfOk result (λ read. IsRead SCHEMA_LIMIT (F.content files.old schema) read.inputs.schema.items) }
-    ensures document { IfOk result (λ read. IsRead DOCUMENT_LIMIT (F.content files.old document) read.inputs.document.items) }
-    ensures reply { IfOk result (λ read. IsRead REPLY_LIMIT (F.content files.old reply) read.reply.items) }
-    ensures stopped { IfErr result (IsStopped (λ name. (name ≡ schema) ⊎ (name ≡ document) ⊎ (name ≡ reply))
-        (files_told (F.content files.old) (F.faults files.old) (F.faults files.new))) }
+    asked: &Asked,
+    texts: &AskedTexts,
+    reply: &[u8],
+) -> Result<Outcome, AskedFault>
+    requires text { IsText SCHEMA_LIMIT texts.now.schema }
+    ensures accepted { IfOk result (MeterOfAccepted asked.now texts.now reply.now) }
+    ensures refused { IfErr result (λ fault. IfAskedRefused fault (IsRefusalOf asked.now texts.now)) }
 {
-    let inputs = match read_inputs(alloc, schema, document, files) {
+    let inputs = match inputs_in(alloc, asked, texts) {
         Ok(inputs) => inputs,
-        Err(outcome) => return Err(outcome),
+        Err(fault) => return Err(fault),
     };
-    match read_file(alloc, reply, REPLY_LIMIT, files) {
-        Ok(reply) => Ok(Metering { inputs, reply }),
-        Err(outcome) => Err(outcome),
+    let accepted = match accepted(alloc, asked, texts, &inputs) {
+        Ok(accepted) => accepted,
+        Err(fault) => return Err(fault),
+    };
+    match forwarded_in(alloc, asked, &inputs, &accepted.checked) {
+        Ok(forwarded) => Ok(meter_plan(alloc, &accepted.plan, forwarded.alias.as_str(), reply)),
+        Err(fault) => Err(fault),
     }
 }
 
-/// Measures a reply to the operation that two files hold. All files are read first, and a reply that is longer than its
-/// limit is told before anything is said of the operation.
-pub fn meter<F: Files>(
-    alloc: Global,
-    schema: Text,
-    document: Text,
-    reply: Text,
-    files: &mut F,
-) -> Outcome
-    ensures { MeterCameTo schema document reply (files_told (F.content files.old) (F.faults files.old) (F.faults files.new)) result }
+// What the texts of an operation's files and a reply come to.
+fn meter_texts(alloc: Global, asked: &Asked, texts: &AskedTexts, reply: &[u8]) -> Outcome
+    requires text { IsText SCHEMA_LIMIT texts.now.schema }
+    ensures { MeterOf asked.now texts.now reply.now result }
 {
-    let name = match Text::copy_of(alloc, reply.as_str()) {
-        Ok(name) => name,
-        Err(_) => return Outcome::Memory,
-    };
-    match read_metering(alloc, schema, document, reply, files) {
-        Ok(read) if read.reply.len() > REPLY_LIMIT => too_large(alloc, name),
-        Ok(read) => meter_bytes(alloc, read.inputs, &read.reply),
+    match meter_in(alloc, asked, texts, reply) {
+        Ok(outcome) => outcome,
+        Err(AskedFault::Refused(refusal)) => refused_asked(alloc, asked, refusal),
+        Err(AskedFault::Memory) => Outcome::Memory,
+    }
+}
+
+/// Measures a reply to the operation that files hold. All files are read first, and a reply that is longer than its limit is
+/// told before anything of the operation.
+pub fn meter<F: Files>(alloc: Global, asked: &Asked, reply: &Text, files: &mut F) -> Outcome
+    ensures { MeterCameTo asked.now reply.now (files_told (F.content files.old) (F.faults files.old) (F.faults files.new)) result }
+{
+    match read_metering(alloc, asked, reply, files) {
+        Ok(read) => meter_texts(alloc, asked, &read.texts, &read.reply),
         Err(outcome) => outcome,
     }
 }

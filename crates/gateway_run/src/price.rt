@@ -5,7 +5,7 @@ ghost use Rattle.cost_num.specs.CostText.{cost_text};
 ghost use Rattle.response_model.specs.Cost.{Part as PartOfCost};
 ghost use Rattle.static_cost.specs.Worst.{IsCounted};
 ghost use Rattle.acceptance.specs.Bounds.{IsAccepted};
-ghost use Rattle.acceptance.specs.Requests.{request_data, IsOfSchema};
+ghost use Rattle.acceptance.specs.Requests.{request_data, IsOfSchema, IsCheckFor};
 ghost use Rattle.gateway_run.specs.Reading.{IsText};
 ghost use Rattle.gateway_run.specs.Outcomes.{files_told, IsDone};
 ghost use Rattle.gateway_run.specs.Asked.{HoldInputs, request_in, IsNoOperationOf, IsRefusalOf, IfAskedRefused};
@@ -13,7 +13,7 @@ ghost use Rattle.gateway_run.specs.Price.{HasPrice, PriceOf, PriceCameTo};
 
 use crate::asked::{AskedTexts, read_asked};
 use crate::asking::{AskedFault, AskedRefusal, Inputs, inputs_in, refused_asked, request_of};
-use crate::operation::SCHEMA_LIMIT;
+use crate::limits::SCHEMA_LIMIT;
 use crate::outcome::Outcome;
 use acceptance::{AcceptFault, Accepted, Request, accept};
 use command_words::Asked;
@@ -49,6 +49,7 @@ fn priced(alloc: Global, cost: Cost) -> Outcome
 fn accepted_request<'a>(alloc: Global, request: &Request<'a>) -> Result<Accepted<'a>, AskedFault>
     requires of_schema { IsOfSchema (request_data request.now) }
     ensures accepted { IfOk result (λ a. IsAccepted (request_data request.now) a.plan a.bound) }
+    ensures checked { IfOk result (λ a. IsCheckFor (request_data request.now) a.checked) }
     ensures schema { IfOk result (λ a. a.plan.schema.now ≡ request.now.schema.now) }
     ensures counted { IfOk result (λ a. (part : PartOfCost) → IsCounted a.plan part) }
     ensures refused { IfErr result (λ fault. IfAskedRefused fault (IsNoOperationOf (request_data request.now))) }
@@ -71,6 +72,7 @@ pub fn accepted<'a>(
 ) -> Result<Accepted<'a>, AskedFault>
     requires held { HoldInputs asked.now texts.now inputs.now }
     ensures accepted { IfOk result (λ a. IsAccepted (request_in asked.now inputs.now) a.plan a.bound) }
+    ensures checked { IfOk result (λ a. IsCheckFor (request_in asked.now inputs.now) a.checked) }
     ensures schema { IfOk result (λ a. a.plan.schema.now ≡ inputs.now.weighed.schema) }
     ensures counted { IfOk result (λ a. (part : PartOfCost) → IsCounted a.plan part) }
     ensures refused { IfErr result (λ fault. IfAskedRefused fault (IsRefusalOf asked.now texts.now)) }

@@ -5,7 +5,8 @@ ghost use Rattle.gateway_run.specs.Outcomes.{files_told, stream_told, IsDone, En
 ghost use Rattle.gateway_run.specs.Program.{no_command, CommandCameTo, ComeTo, Runs};
 
 use crate::check::check;
-use crate::finish::{HELP_TEXT, VERSION_TEXT, finish};
+use crate::finish::{USAGE_TEXT, VERSION_TEXT, finish};
+use crate::forward::forward;
 use crate::meter::meter;
 use crate::outcome::Outcome;
 use crate::price::price;
@@ -30,16 +31,13 @@ fn outcome_of<F: Files>(alloc: Global, command: Command, files: &mut F) -> Outco
     ensures { CommandCameTo command (files_told (F.content files.old) (F.faults files.old) (F.faults files.new)) result }
 {
     match command {
-        Command::Help => done(alloc, HELP_TEXT),
+        Command::Help => done(alloc, USAGE_TEXT),
         Command::Version => done(alloc, VERSION_TEXT),
         Command::Check { schema } => check(alloc, schema, files),
         Command::Price { asked } => price(alloc, &asked, files),
         Command::Worst { asked, part } => worst(alloc, &asked, part, files),
-        Command::Meter {
-            schema,
-            document,
-            reply,
-        } => meter(alloc, schema, document, reply, files),
+        Command::Forward { asked } => forward(alloc, &asked, files),
+        Command::Meter { asked, reply } => meter(alloc, &asked, &reply, files),
     }
 }
 

@@ -88,8 +88,8 @@ pub fn size_broken(alloc: Global, path: Text, size: u64, length: u64) -> Outcome
 }
 
 /// The outcome of a reply file that is longer than its limit.
-pub fn too_large(alloc: Global, name: Text) -> Outcome
-    ensures { IsRefusedAs (too_large_text name) result }
+pub fn too_large(alloc: Global, name: &Text) -> Outcome
+    ensures { IsRefusedAs (too_large_text name.now) result }
 {
-    refused_naming(alloc, "input 1 TooLarge", &name)
+    refused_naming(alloc, "input 1 TooLarge", name)
 }

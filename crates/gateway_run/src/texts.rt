@@ -1,14 +1,11 @@
 //! The texts of refusals.
 
 ghost use Rattle.std.specs.Prelude.{◌++◌};
-ghost use Rattle.acceptance.specs.Texts.{placed, naming, lexical_text, document_text};
-ghost use Rattle.gateway_run.specs.Texts.{refusal_text};
+ghost use Rattle.acceptance.specs.Texts.{placed, naming, lexical_text};
 ghost use Rattle.gateway_run.specs.Outcomes.{IsRefusedAs};
 
-use crate::operation::Refusal;
 use crate::outcome::Outcome;
 use acceptance::texts::{lexical_place, named, named_twice, placed, placed_in};
-use document_reader::DocFault;
 use gql_base::{LexFault, Text};
 use std::alloc::Global;
 
@@ -62,31 +59,5 @@ pub fn refused_lexical(alloc: Global, stage: &str, fault: LexFault) -> Outcome
     match placed_in(alloc, stage, text, at) {
         Ok(text) => Outcome::Refused(Text::from(text)),
         Err(_) => Outcome::Memory,
-    }
-}
-
-// The outcome that a document's fault is.
-fn refused_document(alloc: Global, fault: DocFault) -> Outcome
-    ensures { IsRefusedAs (document_text fault) result }
-{
-    match fault {
-        DocFault::Lex(fault) => refused_lexical(alloc, "document ", fault),
-        DocFault::Unexpected { at } => refused_at(alloc, "document 2 Unexpected", at),
-        DocFault::TooDeep { at } => refused_at(alloc, "document 3 TooDeep", at),
-        DocFault::Memory => Outcome::Memory,
-    }
-}
-
-/// The outcome of a command whose operation is refused.
-pub fn refused(alloc: Global, refusal: Refusal) -> Outcome
-    ensures { IsRefusedAs (refusal_text refusal) result }
-{
-    match refusal {
-        Refusal::SchemaNotBuilt => refused_as(alloc, "first 1 NotBuilt schema"),
-        Refusal::NoDocument(fault) => refused_document(alloc, fault),
-        Refusal::DocumentNotBuilt => refused_as(alloc, "first 1 NotBuilt document"),
-        Refusal::TypesTooCostly => refused_as(alloc, "bound 1 TooCostly types"),
-        Refusal::FieldsTooCostly => refused_as(alloc, "bound 1 TooCostly fields"),
-        Refusal::BothTooCostly => refused_as(alloc, "bound 1 TooCostly both"),
     }
 }

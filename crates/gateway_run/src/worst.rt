@@ -15,7 +15,7 @@ ghost use Rattle.gateway_run.specs.Worst.{WorstOfTree, WorstOfAccepted, WorstOf,
 
 use crate::asked::{AskedTexts, read_asked};
 use crate::asking::{AskedFault, inputs_in, refused_asked};
-use crate::operation::SCHEMA_LIMIT;
+use crate::limits::SCHEMA_LIMIT;
 use crate::outcome::Outcome;
 use crate::price::accepted;
 use crate::texts::refused_as;

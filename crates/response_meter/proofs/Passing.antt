@@ -71,7 +71,7 @@ module _ (name : ℕ → List ℕ) (alias : List ℕ) where
   named_told no_type json T h = some_none (sym h)
   named_told (object_type U w ns others) json T h = named_either (is_text (name U) json) (is_possible T others) U T json (type_named name alias others json) refl h (named_told others json T)
 
-  told_type : (asked : Bool) (possible : ObjectTypes) (ms : Members) (T : ℕ) → type_told name alias asked possible ms ≡ Some T → IsOfType name alias asked possible ms T × (is_possible T possible ≡ true)
+  pub told_type : (asked : Bool) (possible : ObjectTypes) (ms : Members) (T : ℕ) → type_told name alias asked possible ms ≡ Some T → IsOfType name alias asked possible ms T × (is_possible T possible ≡ true)
   told_type false possible ms T h = only_told possible T h
   told_type true possible ms T h = (named_told possible (get_member alias ms) T h, (named_told possible (get_member alias ms) T h).0)
 

@@ -1,32 +1,42 @@
 -- A value at its place: null, a leaf, an object, a list or an entry.
-use Rattle.std.proofs.Common.{◌≡◌, ◌+◌, ℕ, List, [], ◌++◌, Bool, true, false, cond, is_some, codes, option_map, Option, Some, None, Result, Ok, Err, refl, sym, ap, ◌∙◌, subst, arith, append_assoc}
+use Rattle.std.proofs.Common.{◌≡◌, ◌+◌, ℕ, List, [], ◌∷◌, ◌++◌, map, Bool, true, false, true≢false, cond, eqb, ◌||◌, is_some, codes, option_map, Option, Some, None, Result, Ok, Err, refl, sym, ap, ap₂, ◌∙◌, subst, arith, append_assoc, eqb-true}
 use Rattle.std.specs.Option.{option_or}
 use Rattle.cost_num.specs.Capped.{capped}
 use Rattle.cost_num.specs.declared.Cost.{Cost}
 use Rattle.serde_json.specs.Data.{Data, null as json_null, boolean, number, string, array, object as json_object, Items, Members}
-use Rattle.serde_json.specs.Find.{get_member, as_null, as_array}
+use Rattle.serde_json.specs.Find.{get_member, as_null, as_array, as_object}
 use Rattle.serde_json.specs.Events.{items_len}
 use Rattle.serde_json.specs.Written.{compact_text}
-use Rattle.response_model.specs.Plan.{Plan, Nodes}
-use Rattle.response_model.specs.Response.{Tree, null, list_of, Elements, is_null}
-use Rattle.response_model.specs.Cost.{Part, types, fields, cost}
-use Rattle.static_cost.specs.declared.first.FirstKind.{FirstKind}
-use Rattle.static_cost.specs.declared.first.FirstKind.TheVariants.{Int, Str, Bool as Boolean, Id, Object}
-use Rattle.static_cost.specs.declared.first.FirstList.{FirstList}
-use Rattle.static_cost.specs.declared.first.FirstNode.{FirstNode}
-use Rattle.static_cost.specs.declared.first.FirstNode.TheViews.{out-FirstNode}
-use Rattle.static_cost.specs.Nodes.{First, first, first_of}
-use Rattle.static_cost.specs.FirstPlan.{value_plan, nodes_of_firsts, default_weight, form_of, size_of}
-use Rattle.static_cost.specs.Leaves.{kind_holds}
+use Rattle.response_model.specs.Plan.{Form, single, listed, LeafType, type_name, numbered, Plan, leaf_plan, position, ObjectTypes, Nodes, is_possible, weight_of, nodes_of}
+use Rattle.response_model.specs.Response.{Tree, null, leaf, list_of, object, Elements, Entries, is_null}
+use Rattle.response_model.specs.Cost.{Part, types, fields, value_cost, entry_cost, cost, entries_cost}
+use Rattle.response_model.specs.ResponseText.{key_text, tree_text, elements_text, entries_text}
+use Rattle.plan_model.specs.SelectedFields.{Setting, fill_of}
+use Rattle.input_values.specs.declared.inputs.shape.TypeId.{TypeId}
+use Rattle.schema_model.specs.SchemaData.{type_at}
+use Rattle.plan_table.specs.declared.lookups.Below.TheVariants.{TypeName, Leaf}
+use Rattle.plan_table.specs.Looked.{below_seen}
+use Rattle.plan_model.specs.Plans.{type_weight}
+use Rattle.plan_table.specs.Rows.{PossibleType, Below, leaf_below, objects_below}
+use Rattle.plan_table.specs.Tables.{row_in, weighed}
+use Rattle.static_cost.specs.TableBound.{holds_in}
 use Rattle.response_meter.specs.declared.fault.MeterFault.{MeterFault}
-use Rattle.response_meter.specs.declared.fault.Why.TheVariants.{BadLeaf, NullHere, NotList, MissingKey}
-use Rattle.response_meter.specs.Faults.{Fault, size_broken, tested, given, at_step, key_step}
-use Rattle.response_meter.specs.FirstFault.{size_fault, items_fault, list_fault, place_fault}
+use Rattle.response_meter.specs.declared.fault.Why.TheVariants.{BadLeaf, NullHere, NotList, MissingKey, BadType, BadObject}
+use Rattle.response_meter.specs.declared.nested.Node.{Node}
+use Rattle.response_meter.specs.declared.nested.Node.TheViews.{out-Node}
+use Rattle.response_meter.specs.declared.readings.Reading.{Reading}
+use Rattle.response_meter.specs.Faults.{Fault, not_response, size_broken, tested, given, at_step, key_step}
+use Rattle.response_meter.specs.FirstFault as tests
+use Rattle.response_meter.specs.FirstFault.{size_fault, items_fault, list_fault, place_fault, is_leaf, keys_known, type_told}
+use Rattle.response_meter.specs.Metered.{name_in}
+use Rattle.response_meter.specs.Nested.{types_with, plan_with, OneNode, types_of}
+use Rattle.response_meter.specs.Trees as trees
 use Rattle.response_meter.specs.Trees.{tree_of, items_tree, list_tree, place_tree}
-use Rattle.response_model.specs.ResponseText.{key_text, tree_text, elements_text}
-use Rattle.response_meter.specs.Walks.{nodes_of, plan_in, value_fault, value_tree, field_fault, field_tree, key_of, entry_fault, entry_tree, own_cost, Measures, MeasuresTree, MeasuresEntry, MeasuresElements}
+use Rattle.response_meter.specs.Types.{possible_below}
+use Rattle.response_meter.specs.Walks.{setting, value_fault, value_tree, member_entries, one_node, one_fault, one_tree, field_fault, field_tree, entry_fault, entry_tree, object_fault, object_cost, objects_of, Measures, MeasuresTree, MeasuresElements, MeasuresValue, MeasuresPlace, MeasuresPosition, MeasuresObject, MeasuresEntry, MeasuresList, MeasuresItems, MeasuresItem}
 use Rattle.response_meter.proofs.Left.{tells_same}
-use Rattle.static_cost.proofs.OneField.{open_node}
+use Rattle.response_meter.proofs.Opened.{node_opened}
+use Rattle.response_meter.proofs.Passing.{told_type}
 
 -- what was measured, of the same in other words
 pub measures_as : (before after : List ℕ) (r : Result Cost MeterFault) (f g : Option Fault) (costs sums : Part → ℕ) (t u : List ℕ)
@@ -34,51 +44,8 @@ pub measures_as : (before after : List ℕ) (r : Result Cost MeterFault) (f g : 
 measures_as before after (Ok c) f g costs sums t u e a b s m = (sym e ∙ m.0, m.1 ∙ ap capped a, m.2 ∙ ap capped b, m.3 ∙ ap (λ x. before ++ x) s)
 measures_as before after (Err x) f g costs sums t u e a b s m = tells_same x f g e m
 
--- what an opened node has
-abbrev pub kind_in : First → FirstKind
-kind_in (first key kind nullable list below) = kind
-
-abbrev pub nullable_in : First → Bool
-nullable_in (first key kind nullable list below) = nullable
-
-abbrev pub list_in : First → Option FirstList
-list_in (first key kind nullable list below) = list
-
-pub kind_opened : (n : FirstNode) → kind_in (first_of n) ≡ (out-FirstNode n).kind
-kind_opened n = ap kind_in (open_node n)
-
-pub nullable_opened : (n : FirstNode) → nullable_in (first_of n) ≡ (out-FirstNode n).nullable
-nullable_opened n = ap nullable_in (open_node n)
-
-pub list_opened : (n : FirstNode) → list_in (first_of n) ≡ (out-FirstNode n).list
-list_opened n = ap list_in (open_node n)
-
-pub key_opened : (n : FirstNode) → key_of (first_of n) ≡ (out-FirstNode n).key
-key_opened n = ap key_of (open_node n)
-
-plan_opened : (n : FirstNode) (kind : FirstKind) → (out-FirstNode n).kind ≡ kind → value_plan kind (nodes_of (out-FirstNode n).below.items) ≡ plan_in (first_of n)
-plan_opened n kind e = sym (ap plan_in (open_node n) ∙ ap (λ k. value_plan k (nodes_of (out-FirstNode n).below.items)) e)
-
-abbrev MeasuresValue : List ℕ → List ℕ → Result Cost MeterFault → Plan → Data → Type 0
-MeasuresValue before after r plan d = MeasuresTree before after r (value_fault plan d) plan (value_tree plan d)
-
-pub value_object : (before after : List ℕ) (r : Result Cost MeterFault) (n : FirstNode) (nodes : List FirstNode) (d : Data)
-    → (out-FirstNode n).kind ≡ Object → nodes ≡ (out-FirstNode n).below.items → MeasuresValue before after r (value_plan Object (nodes_of nodes)) d → MeasuresValue before after r (plan_in (first_of n)) d
-value_object before after r n nodes d k e m =
-    subst (λ (p : Plan). MeasuresValue before after r p d) (ap (λ (ns : List FirstNode). value_plan Object (nodes_of ns)) e ∙ plan_opened n Object k) m
-
-leaf_of : (before after : List ℕ) (r : Result Cost MeterFault) (kind : FirstKind) (nodes : Nodes) (d : Data)
-    → (kind ≡ Object → ⊥) → Measures before after r (tested (kind_holds kind d) BadLeaf None) (λ part. 0) (compact_text d) → MeasuresValue before after r (value_plan kind nodes) d
-leaf_of before after r Int nodes d h m = measures_as before after r _ _ _ _ _ _ refl refl refl refl m
-leaf_of before after r Str nodes d h m = measures_as before after r _ _ _ _ _ _ refl refl refl refl m
-leaf_of before after r Boolean nodes d h m = measures_as before after r _ _ _ _ _ _ refl refl refl refl m
-leaf_of before after r Id nodes d h m = measures_as before after r _ _ _ _ _ _ refl refl refl refl m
-leaf_of before after r Object nodes d h m = absurd (h refl)
-
-pub value_leaf : (before after : List ℕ) (r : Result Cost MeterFault) (n : FirstNode) (kind : FirstKind) (d : Data)
-    → (out-FirstNode n).kind ≡ kind → (kind ≡ Object → ⊥) → Measures before after r (tested (kind_holds kind d) BadLeaf None) (λ part. 0) (compact_text d) → MeasuresValue before after r (plan_in (first_of n)) d
-value_leaf before after r n kind d k h m =
-    subst (λ (p : Plan). MeasuresValue before after r p d) (plan_opened n kind k) (leaf_of before after r kind (nodes_of (out-FirstNode n).below.items) d h m)
+pub tree_as : (before after : List ℕ) (r : Result Cost MeterFault) (f g : Option Fault) (plan : Plan) (t u : Tree) → f ≡ g → t ≡ u → MeasuresTree before after r f plan t → MeasuresTree before after r g plan u
+tree_as before after r f g plan t u e s m = measures_as before after r f g _ _ _ _ e (ap (λ x. cost types plan x) s) (ap (λ x. cost fields plan x) s) (ap tree_text s) m
 
 -- the two tests of null
 pub null_told : (d : Data) → is_some (as_null d) ≡ is_null d
@@ -89,59 +56,217 @@ null_told (string s) = refl
 null_told (array ds) = refl
 null_told (json_object ms) = refl
 
-module _ (inner : Data → Option Fault) (below : Data → Tree) where
-  null_place : (nullable : Bool) (list : Option FirstList) (d : Data) → is_null d ≡ true → tested nullable NullHere None ≡ place_fault inner (form_of nullable list) (size_of list) d
-  null_place nullable None d e = sym (ap (λ b. cond b (tested nullable NullHere None) (inner d)) e)
-  null_place nullable (Some l) d e = sym (ap (λ b. cond b (tested nullable NullHere None) (list_fault inner l.nullable l.size d)) e)
+-- ---- the types of a position, where the nodes of each are given
 
-  null_tree_place : (nullable : Bool) (list : Option FirstList) (d : Data) → is_null d ≡ true → null ≡ place_tree below (form_of nullable list) d
-  null_tree_place nullable None d e = sym (ap (λ b. cond b null (below d)) e)
-  null_tree_place nullable (Some l) d e = sym (ap (λ b. cond b null (list_tree below d)) e)
+module _ (e : Setting) (nodes : ℕ → Nodes) where
+  abbrev pub types_in : List ℕ → ObjectTypes
+  types_in Ts = types_with nodes (map (weighed e) Ts)
 
-  single_place : (nullable : Bool) (list : Option FirstList) (d : Data) → is_null d ≡ false → list ≡ None
-      → (inner d ≡ place_fault inner (form_of nullable list) (size_of list) d) × (below d ≡ place_tree below (form_of nullable list) d)
-  single_place nullable None d e l = (sym (ap (λ b. cond b (tested nullable NullHere None) (inner d)) e), sym (ap (λ b. cond b null (below d)) e))
-  single_place nullable (Some k) d e l = absurd (some_none l)
+  nodes_found : (Ts : List ℕ) (T : ℕ) → is_possible T (types_in Ts) ≡ true → nodes_of T (types_in Ts) ≡ nodes T
+  nodes_found [] T is = absurd (true≢false (sym is))
+  nodes_found (U ∷ Ts) T is = by (eqb U T) refl is (λ h. nodes_found Ts T h)
     where
-      some_none : {x : FirstList} → Some x ≡ None → ⊥
-      some_none h = cc
+      by : (b : Bool) → eqb U T ≡ b → (b || is_possible T (types_in Ts)) ≡ true → (is_possible T (types_in Ts) ≡ true → nodes_of T (types_in Ts) ≡ nodes T) → cond b (nodes U) (nodes_of T (types_in Ts)) ≡ nodes T
+      by true same is later = ap nodes (eqb-true U T same)
+      by false same is later = later is
 
-  list_place : (nullable : Bool) (list : Option FirstList) (l : FirstList) (d : Data) → is_null d ≡ false → list ≡ Some l
-      → (list_fault inner l.nullable l.size d ≡ place_fault inner (form_of nullable list) (size_of list) d) × (list_tree below d ≡ place_tree below (form_of nullable list) d)
-  list_place nullable list l d e s = subst (λ x. (list_fault inner l.nullable l.size d ≡ place_fault inner (form_of nullable x) (size_of x) d) × (list_tree below d ≡ place_tree below (form_of nullable x) d)) (sym s)
-      (sym (ap (λ b. cond b (tested nullable NullHere None) (list_fault inner l.nullable l.size d)) e), sym (ap (λ b. cond b null (list_tree below d)) e))
+  weight_found : (Ts : List ℕ) (T : ℕ) → is_possible T (types_in Ts) ≡ true → weight_of T (types_in Ts) ≡ type_weight e T
+  weight_found [] T is = absurd (true≢false (sym is))
+  weight_found (U ∷ Ts) T is = by (eqb U T) refl is (λ h. weight_found Ts T h)
+    where
+      by : (b : Bool) → eqb U T ≡ b → (b || is_possible T (types_in Ts)) ≡ true → (is_possible T (types_in Ts) ≡ true → weight_of T (types_in Ts) ≡ type_weight e T)
+          → cond b (type_weight e U) (weight_of T (types_in Ts)) ≡ type_weight e T
+      by true same is later = ap (type_weight e) (eqb-true U T same)
+      by false same is later = later is
 
-abbrev MeasuresField : List ℕ → List ℕ → Result Cost MeterFault → First → Data → Type 0
-MeasuresField before after r f d = MeasuresTree before after r (field_fault f d) (plan_in f) (field_tree f d)
+module _ (by : Reading) where
+  -- the tests and the entries of an object of a type
+  fault_found : (nodes : ℕ → Nodes) (asked : Bool) (Ts : List ℕ) (T : ℕ) (ms : Members) → is_possible T (types_in (setting by) nodes Ts) ≡ true
+      → tests.object_fault (holds_in by.of.now) (name_in by.of.now) by.alias.now asked T (types_in (setting by) nodes Ts) ms ≡ object_fault by asked (nodes T) ms
+  fault_found nodes asked [] T ms is = absurd (true≢false (sym is))
+  fault_found nodes asked (U ∷ Ts) T ms is = choose (eqb U T) refl is (λ h. fault_found nodes asked Ts T ms h)
+    where
+      choose : (b : Bool) → eqb U T ≡ b → (b || is_possible T (types_in (setting by) nodes Ts)) ≡ true
+          → (is_possible T (types_in (setting by) nodes Ts) ≡ true
+          → tests.object_fault (holds_in by.of.now) (name_in by.of.now) by.alias.now asked T (types_in (setting by) nodes Ts) ms ≡ object_fault by asked (nodes T) ms)
+          → cond b (object_fault by asked (nodes U) ms) (tests.object_fault (holds_in by.of.now) (name_in by.of.now) by.alias.now asked T (types_in (setting by) nodes Ts) ms) ≡ object_fault by asked (nodes T) ms
+      choose true same is later = ap (λ (x : ℕ). object_fault by asked (nodes x) ms) (eqb-true U T same)
+      choose false same is later = later is
 
-tree_as : (before after : List ℕ) (r : Result Cost MeterFault) (f g : Option Fault) (plan : Plan) (t u : Tree) → f ≡ g → t ≡ u → MeasuresTree before after r f plan t → MeasuresTree before after r g plan u
-tree_as before after r f g plan t u e s m = measures_as before after r f g _ _ _ _ e (ap (λ x. cost types plan x) s) (ap (λ x. cost fields plan x) s) (ap tree_text s) m
+  entries_found : (nodes : ℕ → Nodes) (Ts : List ℕ) (T : ℕ) (ms : Members) → is_possible T (types_in (setting by) nodes Ts) ≡ true
+      → trees.object_entries (name_in by.of.now) by.alias.now T (types_in (setting by) nodes Ts) ms ≡ member_entries by (nodes T) ms
+  entries_found nodes [] T ms is = absurd (true≢false (sym is))
+  entries_found nodes (U ∷ Ts) T ms is = choose (eqb U T) refl is (λ h. entries_found nodes Ts T ms h)
+    where
+      choose : (b : Bool) → eqb U T ≡ b → (b || is_possible T (types_in (setting by) nodes Ts)) ≡ true
+          → (is_possible T (types_in (setting by) nodes Ts) ≡ true → trees.object_entries (name_in by.of.now) by.alias.now T (types_in (setting by) nodes Ts) ms ≡ member_entries by (nodes T) ms)
+          → cond b (member_entries by (nodes U) ms) (trees.object_entries (name_in by.of.now) by.alias.now T (types_in (setting by) nodes Ts) ms) ≡ member_entries by (nodes T) ms
+      choose true same is later = ap (λ (x : ℕ). member_entries by (nodes x) ms) (eqb-true U T same)
+      choose false same is later = later is
 
-pub field_null : (before after : List ℕ) (r : Result Cost MeterFault) (f : First) (nullable : Bool) (d : Data)
-    → nullable_in f ≡ nullable → is_null d ≡ true → Measures before after r (tested nullable NullHere None) (λ part. 0) (compact_text json_null) → MeasuresField before after r f d
-field_null before after r (first key kind own list below) nullable d n e m =
-    let plan = value_plan kind (nodes_of_firsts below) in
-    tree_as before after r (tested nullable NullHere None) _ plan null _
-    (ap (λ b. tested b NullHere None) (sym n) ∙ null_place (λ v. value_fault plan v) (λ v. value_tree plan v) own list d e)
-    (null_tree_place (λ v. value_fault plan v) (λ v. value_tree plan v) own list d e)
-    (measures_as before after r _ _ _ _ _ _ refl refl refl refl m)
+  -- ---- a value below a node
 
-pub field_single : (before after : List ℕ) (r : Result Cost MeterFault) (f : First) (d : Data)
-    → list_in f ≡ None → is_null d ≡ false → MeasuresValue before after r (plan_in f) d → MeasuresField before after r f d
-field_single before after r (first key kind nullable list below) d l e m =
-    let plan = value_plan kind (nodes_of_firsts below) in
-    let same = single_place (λ v. value_fault plan v) (λ v. value_tree plan v) nullable list d e l in
-    tree_as before after r _ _ plan _ _ same.0 same.1 m
+  abbrev plan_at : (ℕ → Nodes) → List ℕ → Plan
+  plan_at nodes Ts = position (types_in (setting by) nodes Ts)
 
-pub field_list : (before after : List ℕ) (r : Result Cost MeterFault) (f : First) (l : FirstList) (d : Data)
-    → list_in f ≡ Some l → is_null d ≡ false
-    → MeasuresTree before after r (list_fault (λ v. value_fault (plan_in f) v) l.nullable l.size d) (plan_in f) (list_tree (λ v. value_tree (plan_in f) v) d) → MeasuresField before after r f d
-field_list before after r (first key kind nullable list below) l d s e m =
-    let plan = value_plan kind (nodes_of_firsts below) in
-    let same = list_place (λ v. value_fault plan v) (λ v. value_tree plan v) nullable list l d e s in
-    tree_as before after r _ _ plan _ _ same.0 same.1 m
+  abbrev told : Bool → (ℕ → Nodes) → List ℕ → Members → Option ℕ
+  told asked nodes Ts ms = type_told (name_in by.of.now) by.alias.now asked (types_in (setting by) nodes Ts) ms
 
--- a list that is too long, and one that is not
+  pub not_object : (asked : Bool) (nodes : ℕ → Nodes) (Ts : List ℕ) (d : Data) → None ≡ as_object d → Some (not_response [] BadObject) ≡ value_fault by asked (plan_at nodes Ts) d
+  not_object asked nodes Ts d o =
+      ap (λ (x : Option Members). given x BadObject (λ ms. given (told asked nodes Ts ms) BadType (λ T. tests.object_fault (holds_in by.of.now) (name_in by.of.now) by.alias.now asked T (types_in (setting by) nodes Ts) ms))) o
+
+  pub no_type_told : (asked : Bool) (nodes : ℕ → Nodes) (Ts : List ℕ) (d : Data) (ms : Members) → Some ms ≡ as_object d → None ≡ told asked nodes Ts ms → Some (not_response [] BadType) ≡ value_fault by asked (plan_at nodes Ts) d
+  no_type_told asked nodes Ts d ms o t =
+      ap (λ (x : Option ℕ). given x BadType (λ T. tests.object_fault (holds_in by.of.now) (name_in by.of.now) by.alias.now asked T (types_in (setting by) nodes Ts) ms)) t
+      ∙ ap (λ (x : Option Members). given x BadObject (λ ms. given (told asked nodes Ts ms) BadType (λ T. tests.object_fault (holds_in by.of.now) (name_in by.of.now) by.alias.now asked T (types_in (setting by) nodes Ts) ms))) o
+
+  pub object_measured : (before after : List ℕ) (r : Result Cost MeterFault) (asked : Bool) (nodes : ℕ → Nodes) (Ts : List ℕ) (T : ℕ) (d : Data) (ms : Members)
+      → Some ms ≡ as_object d → Some T ≡ told asked nodes Ts ms → MeasuresObject by before after r asked T (nodes T) ms → MeasuresPosition by before after r asked (plan_at nodes Ts) d
+  object_measured before after r asked nodes Ts T d ms o t m =
+      let possible = types_in (setting by) nodes Ts in
+      let is = (told_type (name_in by.of.now) by.alias.now asked possible ms T (sym t)).1 in
+      let es = trees.object_entries (name_in by.of.now) by.alias.now T possible ms in
+      let same = entries_found nodes Ts T ms is in
+      let tree : value_tree by asked (plan_at nodes Ts) d ≡ object T es =
+      sym (ap (λ (x : Option Members). tree_of x (λ ms. tree_of (told asked nodes Ts ms) (λ T. object T (trees.object_entries (name_in by.of.now) by.alias.now T possible ms)))) o)
+      ∙ sym (ap (λ (x : Option ℕ). tree_of x (λ T. object T (trees.object_entries (name_in by.of.now) by.alias.now T possible ms))) t) in
+      tree_as before after r _ _ (plan_at nodes Ts) (object T es) (value_tree by asked (plan_at nodes Ts) d)
+      (ap (λ (x : Option ℕ). given x BadType (λ T. tests.object_fault (holds_in by.of.now) (name_in by.of.now) by.alias.now asked T possible ms)) t
+      ∙ ap (λ (x : Option Members). given x BadObject (λ ms. given (told asked nodes Ts ms) BadType (λ T. tests.object_fault (holds_in by.of.now) (name_in by.of.now) by.alias.now asked T possible ms))) o)
+      (sym tree)
+      (measures_as before after r (object_fault by asked (nodes T) ms) (tests.object_fault (holds_in by.of.now) (name_in by.of.now) by.alias.now asked T possible ms)
+      (object_cost by T (nodes T) ms) (λ part. cost part (plan_at nodes Ts) (object T es)) _ _
+      (sym (fault_found nodes asked Ts T ms is)) (costs types T es possible same is) (costs fields T es possible same is)
+      (ap (λ (x : Entries). codes "{" ++ entries_text [] x) (sym same)) m)
+    where
+      costs : (part : Part) (T : ℕ) (es : Entries) (possible : ObjectTypes) → es ≡ member_entries by (nodes T) ms → is_possible T (types_in (setting by) nodes Ts) ≡ true
+          → object_cost by T (nodes T) ms part ≡ value_cost part (weight_of T (types_in (setting by) nodes Ts)) + entries_cost part (nodes_of T (types_in (setting by) nodes Ts)) es
+      costs part T es possible same is =
+          ap (λ (w : ℕ). value_cost part w + entries_cost part (nodes T) (member_entries by (nodes T) ms)) (sym (weight_found (setting by) nodes Ts T is))
+          ∙ ap₂ (λ (ns : Nodes) (x : Entries). value_cost part (weight_of T (types_in (setting by) nodes Ts)) + entries_cost part ns x) (sym (nodes_found (setting by) nodes Ts T is)) (sym same)
+
+  opened_below : (n : Node) (b : Below) → (row_in by.of.now (out-Node n).row.now).below ≡ b
+      → ((row_in by.of.now (out-Node n).row.now).selected, plan_with (types_of (setting by) (out-Node n).below) b) ≡ one_node by n
+  opened_below n b is = ap (λ (x : Below). ((row_in by.of.now (out-Node n).row.now).selected, plan_with (types_of (setting by) (out-Node n).below) x)) (sym is) ∙ sym (node_opened (setting by) n)
+
+  pub value_leaf : (before after : List ℕ) (r : Result Cost MeterFault) (n : Node) (type : LeafType) (weight : ℕ) (fill d : Data) (b : Bool)
+      → (row_in by.of.now (out-Node n).row.now).below ≡ leaf_below type weight fill → b ≡ is_leaf (holds_in by.of.now) type fill d
+      → Measures before after r (tested b BadLeaf None) (λ part. value_cost part weight) (compact_text d) → MeasuresValue by before after r (one_node by n) d
+  value_leaf before after r n type weight fill d b is holds m =
+      subst (λ (f : OneNode). MeasuresValue by before after r f d) (opened_below n (leaf_below type weight fill) is)
+      (measures_as before after r (tested b BadLeaf None) (tested (is_leaf (holds_in by.of.now) type fill d) BadLeaf None) _ (λ part. cost part (leaf_plan type weight fill) (leaf d)) _ _ (ap (λ (x : Bool). tested x BadLeaf None) holds) refl refl refl m)
+
+  -- the name of the type, and a leaf of a type
+  pub value_name : (before after : List ℕ) (r : Result Cost MeterFault) (n : Node) (d : Data) (b : Bool)
+      → below_seen (setting by) (out-Node n).row.now.on.number TypeName ≡ (row_in by.of.now (out-Node n).row.now).below
+      → b ≡ tests.is_text (type_at (setting by).schema (out-Node n).row.now.on.number).name (Some d)
+      → Measures before after r (tested b BadLeaf None) (λ part. value_cost part 0) (compact_text d) → MeasuresValue by before after r (one_node by n) d
+  value_name before after r n d b seen holds m =
+      value_leaf before after r n type_name 0 (string (type_at (setting by).schema (out-Node n).row.now.on.number).name) d b (sym seen) holds m
+
+  pub value_of_type : (before after : List ℕ) (r : Result Cost MeterFault) (n : Node) (of : TypeId) (weight : ℕ) (d : Data) (b : Bool)
+      → below_seen (setting by) (out-Node n).row.now.on.number (Leaf of) ≡ (row_in by.of.now (out-Node n).row.now).below → b ≡ holds_in by.of.now of.number d → weight ≡ type_weight (setting by) of.number
+      → Measures before after r (tested b BadLeaf None) (λ part. value_cost part weight) (compact_text d) → MeasuresValue by before after r (one_node by n) d
+  value_of_type before after r n of weight d b seen holds weighs m =
+      value_leaf before after r n (numbered of.number) (type_weight (setting by) of.number) (fill_of (setting by).schema of.number) d b (sym seen) holds
+      (subst (λ (w : ℕ). Measures before after r (tested b BadLeaf None) (λ part. value_cost part w) (compact_text d)) weighs m)
+
+  pub value_object : (before after : List ℕ) (r : Result Cost MeterFault) (n : Node) (possible : List PossibleType) (d : Data)
+      → (row_in by.of.now (out-Node n).row.now).below ≡ objects_below possible
+      → MeasuresPosition by before after r (row_in by.of.now (out-Node n).row.now).selected.asked (objects_of by n) d → MeasuresValue by before after r (one_node by n) d
+  value_object before after r n possible d is m =
+      subst (λ (f : OneNode). MeasuresValue by before after r f d) (opened_below n (objects_below possible) is)
+      (subst (λ (ps : List PossibleType). MeasuresPosition by before after r (row_in by.of.now (out-Node n).row.now).selected.asked (position (types_with (types_of (setting by) (out-Node n).below) ps)) d) (ap possible_below is) m)
+
+  -- ---- a value or null
+
+  pub item_null : (before after : List ℕ) (r : Result Cost MeterFault) (nullable : Bool) (f : OneNode) (d : Data)
+      → is_null d ≡ true → Measures before after r (tested nullable NullHere None) (λ part. 0) (compact_text json_null) → MeasuresItem by before after r nullable f d
+  item_null before after r nullable f d is m =
+      tree_as before after r (tested nullable NullHere None) _ f.1 null _ (ap (λ (b : Bool). cond b (tested nullable NullHere None) (one_fault by f d)) (sym is)) (ap (λ (b : Bool). cond b null (one_tree by f d)) (sym is))
+      (measures_as before after r _ _ _ _ _ _ refl refl refl refl m)
+
+  pub item_some : (before after : List ℕ) (r : Result Cost MeterFault) (nullable : Bool) (f : OneNode) (d : Data)
+      → is_null d ≡ false → MeasuresValue by before after r f d → MeasuresItem by before after r nullable f d
+  item_some before after r nullable f d is m =
+      tree_as before after r (one_fault by f d) _ f.1 (one_tree by f d) _ (ap (λ (b : Bool). cond b (tested nullable NullHere None) (one_fault by f d)) (sym is)) (ap (λ (b : Bool). cond b null (one_tree by f d)) (sym is)) m
+
+  -- ---- a value as a whole
+
+  pub place_single : (before after : List ℕ) (r : Result Cost MeterFault) (nullable : Bool) (f : OneNode) (d : Data) → f.0.form ≡ single nullable → MeasuresItem by before after r nullable f d → MeasuresPlace by before after r f d
+  place_single before after r nullable f d is m =
+      tree_as before after r _ (field_fault by f d) f.1 _ (field_tree by f d)
+      (ap (λ (form : Form). place_fault (λ v. one_fault by f v) form f.0.size d) (sym is)) (ap (λ (form : Form). place_tree (λ v. one_tree by f v) form d) (sym is)) m
+
+  pub place_null : (before after : List ℕ) (r : Result Cost MeterFault) (nullable item_nullable : Bool) (f : OneNode) (d : Data) → f.0.form ≡ listed nullable item_nullable
+      → is_null d ≡ true → Measures before after r (tested nullable NullHere None) (λ part. 0) (compact_text json_null) → MeasuresPlace by before after r f d
+  place_null before after r nullable i f d is none m =
+      let faults = list_fault (λ v. one_fault by f v) i f.0.size d in
+      let below = list_tree (λ v. one_tree by f v) d in
+      tree_as before after r (tested nullable NullHere None) (field_fault by f d) f.1 null (field_tree by f d)
+      (ap (λ (b : Bool). cond b (tested nullable NullHere None) faults) (sym none) ∙ ap (λ (form : Form). place_fault (λ v. one_fault by f v) form f.0.size d) (sym is))
+      (ap (λ (b : Bool). cond b null below) (sym none) ∙ ap (λ (form : Form). place_tree (λ v. one_tree by f v) form d) (sym is))
+      (measures_as before after r _ _ _ _ _ _ refl refl refl refl m)
+
+  pub place_list : (before after : List ℕ) (r : Result Cost MeterFault) (nullable item_nullable : Bool) (f : OneNode) (d : Data) → f.0.form ≡ listed nullable item_nullable
+      → is_null d ≡ false → MeasuresList by before after r item_nullable f d → MeasuresPlace by before after r f d
+  place_list before after r nullable i f d is some m =
+      let faults = list_fault (λ v. one_fault by f v) i f.0.size d in
+      let below = list_tree (λ v. one_tree by f v) d in
+      tree_as before after r faults (field_fault by f d) f.1 below (field_tree by f d)
+      (ap (λ (b : Bool). cond b (tested nullable NullHere None) faults) (sym some) ∙ ap (λ (form : Form). place_fault (λ v. one_fault by f v) form f.0.size d) (sym is))
+      (ap (λ (b : Bool). cond b null below) (sym some) ∙ ap (λ (form : Form). place_tree (λ v. one_tree by f v) form d) (sym is)) m
+
+  -- ---- a list that is not too long
+
+  pub list_measured : (before mid after : List ℕ) (r : Result Cost MeterFault) (nullable : Bool) (f : OneNode) (size : Option ℕ) (d : Data) (ds : Items)
+      → size ≡ f.0.size → Some ds ≡ as_array d → size_fault size (items_len ds) ≡ None → mid ≡ before ++ codes "["
+      → MeasuresItems by mid after r nullable f ds → MeasuresList by before after r nullable f d
+  list_measured before mid after r nullable f size d ds own a e w m =
+      let inner : Data → Option Fault = λ v. one_fault by f v in
+      let below : Data → Tree = λ v. one_tree by f v in
+      tree_as before after r (items_fault inner nullable 0 ds) _ f.1 (list_of (items_tree below ds)) _
+      (sym (ap (λ x. option_or x (items_fault inner nullable 0 ds)) e) ∙ ap (λ o. given o NotList (λ xs. option_or (size_fault size (items_len xs)) (items_fault inner nullable 0 xs))) a
+      ∙ ap (λ (s : Option ℕ). list_fault inner nullable s d) own)
+      (ap (λ o. tree_of o (λ xs. list_of (items_tree below xs))) a)
+      (opened before mid after r (items_fault inner nullable 0 ds) f.1 (items_tree below ds) w m)
+    where
+      opened : (before mid after : List ℕ) (r : Result Cost MeterFault) (f : Option Fault) (plan : Plan) (ts : Elements) → mid ≡ before ++ codes "["
+          → MeasuresElements mid after r f plan ts → MeasuresTree before after r f plan (list_of ts)
+      opened before mid after (Ok c) f plan ts w m = (m.0, m.1, m.2, m.3 ∙ ap (λ x. x ++ elements_text [] ts) w ∙ append_assoc before (codes "[") (elements_text [] ts))
+      opened before mid after (Err x) f plan ts w m = m
+
+  -- ---- an entry
+
+  pub entry_found : (f : OneNode) (key : List ℕ) (ms : Members) (o : Option Data) → key ≡ f.0.key → o ≡ get_member key ms → at_step (key_step key) (given o MissingKey (λ d. field_fault by f d)) ≡ entry_fault by f ms
+  entry_found f key ms o k e = ap (λ x. at_step (key_step key) (given x MissingKey (λ d. field_fault by f d))) e ∙ ap (λ x. at_step (key_step x) (given (get_member x ms) MissingKey (λ d. field_fault by f d))) k
+
+  pub entry_measured : (before mid after : List ℕ) (c s : Cost) (f : OneNode) (key : List ℕ) (w : ℕ) (d : Data) (ms : Members)
+      → key ≡ f.0.key → Some d ≡ get_member key ms → mid ≡ before ++ key_text key → MeasuresPlace by mid after (Ok c) f d
+      → w ≡ capped (entry_cost fields f.0) → s.types ≡ capped (0 + c.types) → s.fields ≡ capped (w + c.fields) → MeasuresEntry by before after (Ok s) f ms
+  entry_measured before mid after c s f key w d ms k e write m weighs p q =
+      let tree : field_tree by f d ≡ entry_tree by f ms = ap (λ o. tree_of o (λ x. field_tree by f x)) (e ∙ ap (λ x. get_member x ms) k) in
+      measures_as before after (Ok s) None (entry_fault by f ms)
+      (λ part. entry_cost part f.0 + cost part f.1 (field_tree by f d)) (λ part. entry_cost part f.0 + cost part f.1 (entry_tree by f ms))
+      (key_text f.0.key ++ tree_text (field_tree by f d)) _
+      (sym (ap (at_step (key_step key)) m.0) ∙ entry_found f key ms (Some d) k e)
+      (ap (λ t. entry_cost types f.0 + cost types f.1 t) tree)
+      (ap (λ t. entry_cost fields f.0 + cost fields f.1 t) tree)
+      (ap (λ t. key_text f.0.key ++ tree_text t) tree) (
+        refl,
+        sum_types c.types s.types (cost types f.1 (field_tree by f d)) m.1 p,
+        sum_fields (entry_cost fields f.0) w c.fields s.fields (cost fields f.1 (field_tree by f d)) weighs m.2 q,
+        m.3 ∙ ap (λ x. x ++ tree_text (field_tree by f d)) (write ∙ ap (λ x. before ++ key_text x) k) ∙ append_assoc before (key_text f.0.key) (tree_text (field_tree by f d)),
+      )
+    where
+      sum_types : (c s t : ℕ) → c ≡ capped t → s ≡ capped (0 + c) → s ≡ capped (0 + t)
+      sum_types c s t e q = omega arith
+
+      sum_fields : (own w c s t : ℕ) → w ≡ capped own → c ≡ capped t → s ≡ capped (w + c) → s ≡ capped (own + t)
+      sum_fields own w c s t o e q = omega arith
+
+-- a list that is too long
 pub list_broken : (inner : Data → Option Fault) (nullable : Bool) (size : Option ℕ) (d : Data) (ds : Items) (n : ℕ) (o : Option ℕ) (m : ℕ)
     → Some ds ≡ as_array d → items_len ds ≡ n → size_fault size n ≡ option_map (λ declared. size_broken [] declared n) o → o ≡ Some m → Some (size_broken [] m n) ≡ list_fault inner nullable size d
 list_broken inner nullable size d ds n o m a same told is =
@@ -150,57 +275,3 @@ list_broken inner nullable size d ds n o m a same told is =
 
 pub size_kept : (size : Option ℕ) (ds : Items) (n : ℕ) (o : Option ℕ) → items_len ds ≡ n → size_fault size n ≡ option_map (λ declared. size_broken [] declared n) o → o ≡ None → size_fault size (items_len ds) ≡ None
 size_kept size ds n o same told is = ap (λ k. size_fault size k) same ∙ told ∙ ap (option_map (λ declared. size_broken [] declared n)) is
-
-pub list_measured : (before mid after : List ℕ) (r : Result Cost MeterFault) (plan : Plan) (nullable : Bool) (size : Option ℕ) (d : Data) (ds : Items)
-    → Some ds ≡ as_array d → size_fault size (items_len ds) ≡ None → mid ≡ before ++ codes "["
-    → MeasuresElements mid after r (items_fault (λ v. value_fault plan v) nullable 0 ds) plan (items_tree (λ v. value_tree plan v) ds)
-    → MeasuresTree before after r (list_fault (λ v. value_fault plan v) nullable size d) plan (list_tree (λ v. value_tree plan v) d)
-list_measured before mid after r plan nullable size d ds a e w m =
-    let inner : Data → Option Fault = λ v. value_fault plan v in
-    let below : Data → Tree = λ v. value_tree plan v in
-    tree_as before after r (items_fault inner nullable 0 ds) _ plan (list_of (items_tree below ds)) _
-    (sym (ap (λ x. option_or x (items_fault inner nullable 0 ds)) e) ∙ ap (λ o. given o NotList (λ xs. option_or (size_fault size (items_len xs)) (items_fault inner nullable 0 xs))) a)
-    (ap (λ o. tree_of o (λ xs. list_of (items_tree below xs))) a)
-    (opened before mid after r (items_fault inner nullable 0 ds) plan (items_tree below ds) w m)
-  where
-    opened : (before mid after : List ℕ) (r : Result Cost MeterFault) (f : Option Fault) (plan : Plan) (ts : Elements) → mid ≡ before ++ codes "["
-        → MeasuresElements mid after r f plan ts → MeasuresTree before after r f plan (list_of ts)
-    opened before mid after (Ok c) f plan ts w m = (m.0, m.1, m.2, m.3 ∙ ap (λ x. x ++ elements_text [] ts) w ∙ append_assoc before (codes "[") (elements_text [] ts))
-    opened before mid after (Err x) f plan ts w m = m
-
--- an entry
-pub entry_found : (f : First) (key : List ℕ) (ms : Members) (o : Option Data) → key_of f ≡ key → o ≡ get_member key ms → at_step (key_step key) (given o MissingKey (field_fault f)) ≡ entry_fault f ms
-entry_found f key ms o k e = ap (λ x. at_step (key_step key) (given x MissingKey (field_fault f))) e ∙ ap (λ x. at_step (key_step x) (given (get_member x ms) MissingKey (field_fault f))) (sym k)
-
-own_types : (f : First) → own_cost f types ≡ 0
-own_types (first key kind nullable list below) = refl
-
-own_fields : (f : First) → own_cost f fields ≡ default_weight (kind_in f)
-own_fields (first key kind nullable list below) = plus_none (default_weight kind)
-  where
-    plus_none : (n : ℕ) → n + 0 ≡ n
-    plus_none n = omega arith
-
-sum_types : (own c s t : ℕ) → own ≡ 0 → c ≡ capped t → s ≡ capped (0 + c) → s ≡ capped (own + t)
-sum_types own c s t o e q = omega arith
-
-sum_fields : (own w c s t : ℕ) → own ≡ w → c ≡ capped t → s ≡ capped (w + c) → s ≡ capped (own + t)
-sum_fields own w c s t o e q = omega arith
-
-pub entry_measured : (before mid after : List ℕ) (c s : Cost) (f : First) (key : List ℕ) (w : ℕ) (d : Data) (ms : Members)
-    → key_of f ≡ key → Some d ≡ get_member key ms → mid ≡ before ++ key_text key → MeasuresField mid after (Ok c) f d
-    → w ≡ default_weight (kind_in f) → s.types ≡ capped (0 + c.types) → s.fields ≡ capped (w + c.fields) → MeasuresEntry before after (Ok s) (entry_fault f ms) f (entry_tree f ms)
-entry_measured before mid after c s f key w d ms k e write m weighs p q =
-    let tree : field_tree f d ≡ entry_tree f ms = ap (λ o. tree_of o (field_tree f)) (e ∙ ap (λ x. get_member x ms) (sym k)) in
-    measures_as before after (Ok s) None (entry_fault f ms)
-    (λ part. own_cost f part + cost part (plan_in f) (field_tree f d)) (λ part. own_cost f part + cost part (plan_in f) (entry_tree f ms))
-    (key_text (key_of f) ++ tree_text (field_tree f d)) _
-    (sym (ap (at_step (key_step key)) m.0) ∙ entry_found f key ms (Some d) k e)
-    (ap (λ t. own_cost f types + cost types (plan_in f) t) tree)
-    (ap (λ t. own_cost f fields + cost fields (plan_in f) t) tree)
-    (ap (λ t. key_text (key_of f) ++ tree_text t) tree) (
-      refl,
-      sum_types (own_cost f types) c.types s.types (cost types (plan_in f) (field_tree f d)) (own_types f) m.1 p,
-      sum_fields (own_cost f fields) w c.fields s.fields (cost fields (plan_in f) (field_tree f d)) (own_fields f ∙ sym weighs) m.2 q,
-      m.3 ∙ ap (λ x. x ++ tree_text (field_tree f d)) (write ∙ ap (λ x. before ++ key_text x) (sym k)) ∙ append_assoc before (key_text (key_of f)) (tree_text (field_tree f d)),
-    )

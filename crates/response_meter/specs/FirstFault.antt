@@ -1,10 +1,10 @@
 -- The first test that the data of a reply does not pass, in the order in which a reply is read.
-use Rattle.std.specs.Prelude.{ℕ, suc, List, [], Bool, true, false, ◌&&◌, ◌||◌, leb, eqb, bytes_eq, Option, Some, None, if◌then◌else◌}
+use Rattle.std.specs.Prelude.{◌≡◌, ℕ, suc, List, [], Bool, true, false, ◌&&◌, ◌||◌, leb, eqb, bytes_eq, Option, Some, None, if◌then◌else◌}
 use Rattle.std.specs.Option.{option_or}
 use Rattle.serde_json.specs.Data.{Data, null as json_null, boolean, number, string, array, object as json_object, Items, no_items, item, Members, no_members, member}
 use Rattle.serde_json.specs.Find.{get_member, as_array, as_object}
 use Rattle.serde_json.specs.Events.{items_len}
-use Rattle.response_model.specs.Plan.{Form, single, listed, LeafType, type_name, numbered, Plan, leaf_plan, position, ObjectTypes, no_type, object_type, Nodes, no_node, node}
+use Rattle.response_model.specs.Plan.{Form, single, listed, LeafType, type_name, numbered, Plan, leaf_plan, position, ObjectTypes, no_type, object_type, Nodes, no_node, node, is_possible}
 use Rattle.response_model.specs.Response.{is_null}
 use Rattle.response_model.specs.Reading.{has_key}
 use Rattle.response_meter.specs.Faults.{Fault, size_broken, key_step, item_step, at_step, tested, given}
@@ -113,16 +113,21 @@ IsFilled type_name (array ds) = ⊥
 IsFilled type_name (json_object ms) = ⊥
 IsFilled (numbered type) fill = Unit {0}
 
--- So is each type name that is a leaf of the plan.
-abbrev mutual
-  pub NamesFilled : Plan → Type 0
-  NamesFilled (leaf_plan type weight fill) = IsFilled type fill
-  NamesFilled (position possible) = TypesFilled possible
+-- The possible types of a position have different names, where `name` gives the name of each.
+abbrev pub HaveNames : (ℕ → List ℕ) → ObjectTypes → Type 0
+HaveNames name possible = (T U : ℕ) → is_possible T possible ≡ true → is_possible U possible ≡ true → name T ≡ name U → T ≡ U
 
-  pub TypesFilled : ObjectTypes → Type 0
-  TypesFilled no_type = Unit {0}
-  TypesFilled (object_type T weight nodes others) = NodesFilled nodes × TypesFilled others
+-- At each position the possible types have different names, and what fills a type name that is a leaf of the plan is a string.
+module _ (name : ℕ → List ℕ) where
+  abbrev mutual
+    pub AreNamed : Plan → Type 0
+    AreNamed (leaf_plan type weight fill) = IsFilled type fill
+    AreNamed (position possible) = HaveNames name possible × TypesNamed possible
 
-  pub NodesFilled : Nodes → Type 0
-  NodesFilled no_node = Unit {0}
-  NodesFilled (node s below others) = NamesFilled below × NodesFilled others
+    pub TypesNamed : ObjectTypes → Type 0
+    TypesNamed no_type = Unit {0}
+    TypesNamed (object_type T weight nodes others) = NodesNamed nodes × TypesNamed others
+
+    pub NodesNamed : Nodes → Type 0
+    NodesNamed no_node = Unit {0}
+    NodesNamed (node s below others) = AreNamed below × NodesNamed others

@@ -1,28 +1,41 @@
--- What is measured of a reply to an operation of the first form.
-use Rattle.std.specs.Prelude.{◌≡◌, ℕ, List, [], Option}
+-- What is measured of a reply to an operation of a plan.
+use Rattle.std.specs.Prelude.{◌≡◌, ◌<◌, ℕ, List, length, Option}
+use Rattle.schema_model.specs.SchemaData.{SchemaData, type_at}
+use Rattle.response_model.specs.Plan.{Plan as PlanTree}
 use Rattle.response_model.specs.Response.{Tree}
 use Rattle.response_model.specs.Cost.{types, fields}
-use Rattle.response_model.specs.Plan.{Plan}
-use Rattle.static_cost.specs.Leaves.{holds}
-use Rattle.response_meter.specs.FirstForm.{own_name}
-use Rattle.response_meter.specs.Faults.{Fault}
 use Rattle.response_model.specs.Errors.{ResponseError}
-use Rattle.response_meter.specs.Reply as reply
-use Rattle.response_meter.specs.Reply.{ReplyReads, IsResponseOrNone, reply_cost}
 use Rattle.response_model.specs.ResponseText.{response_text}
-use Rattle.response_meter.specs.declared.metered.FirstMetered.{FirstMetered}
+use Rattle.plan_table.specs.declared.table.Plan.{Plan}
+use Rattle.plan_table.specs.Tables.{setting_in}
+use Rattle.static_cost.specs.TableBound.{holds_in}
+use Rattle.response_meter.specs.Faults.{Fault}
+use Rattle.response_meter.specs.Reply.{ReplyReads, IsResponseOrNone, IsReadable, first_fault, reply_cost}
+use Rattle.response_meter.specs.declared.metered.Metered.{Metered}
 
--- The first test that a reply to an operation of this plan does not pass.
-abbrev pub first_fault : Plan → List ℕ → Option Fault
-first_fault plan bytes = reply.first_fault holds own_name [] plan bytes
+-- The name of the type of a number, in the plan's schema.
+abbrev pub name_in : Plan → ℕ → List ℕ
+name_in p T = (type_at (setting_in p).schema T).name
 
--- The reply reads as a tree or no data, with some errors; its data, if any, is a response of the plan;
--- and what is measured is what that costs, and the answer text of just this.
-pub record IsMetered (plan : Plan) (bytes : List ℕ) (metered : FirstMetered) : Type 0 where
-  pub tree : Option Tree
+-- The types of a schema have different names.
+abbrev pub TypesDiffer : SchemaData → Type 0
+TypesDiffer s = (T U : ℕ) → T < length s.types → U < length s.types → (type_at s T).name ≡ (type_at s U).name → T ≡ U
+
+-- The first test that a reply does not pass, where the type names of objects were added under this alias.
+abbrev pub first_fault_in : Plan → List ℕ → PlanTree → List ℕ → Option Fault
+first_fault_in p alias tree bytes = first_fault (holds_in p) (name_in p) alias tree bytes
+
+-- A reply reads, and its data, if any, is a response.
+abbrev pub IsReadableIn : Plan → List ℕ → PlanTree → List ℕ → Type 0
+IsReadableIn p alias tree bytes = IsReadable (holds_in p) (name_in p) alias tree bytes
+
+-- The reply reads as data or none, with some errors; its data, if any, is a response of the plan; and what is measured is
+-- what that costs, and the answer text of just this.
+pub record IsMetered (p : Plan) (alias : List ℕ) (tree : PlanTree) (bytes : List ℕ) (metered : Metered) : Type 0 where
+  pub content : Option Tree
   pub errors : List ResponseError
-  pub reads : ReplyReads own_name [] plan bytes tree errors
-  pub is_response : IsResponseOrNone holds plan tree
-  pub types_cost : metered.cost.types ≡ reply_cost types plan tree
-  pub fields_cost : metered.cost.fields ≡ reply_cost fields plan tree
-  pub text : metered.text ≡ response_text tree errors
+  pub reads : ReplyReads (name_in p) alias tree bytes content errors
+  pub is_response : IsResponseOrNone (holds_in p) tree content
+  pub types_cost : metered.cost.types ≡ reply_cost types tree content
+  pub fields_cost : metered.cost.fields ≡ reply_cost fields tree content
+  pub text : metered.text ≡ response_text content errors

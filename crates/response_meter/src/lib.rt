@@ -4,13 +4,19 @@
 mod errors;
 pub mod examples;
 mod fault;
+mod forms;
+mod json;
 pub mod laws;
-mod meter;
+mod leaves;
+mod measuring;
 mod metered;
+mod nested;
+mod readings;
 #[cfg(test)]
 mod tests;
+mod types;
 mod walk;
 
 pub use fault::{MeterFault, Why};
-pub use meter::first_meter;
-pub use metered::FirstMetered;
+pub use measuring::meter;
+pub use metered::Metered;

@@ -3,9 +3,9 @@
 use cost_num::Cost;
 use gql_base::Text;
 
-/// What a reply to an operation of the first form cost, and what its client is answered.
+/// What a reply to an operation cost, and what its client is answered.
 #[derive(Drop)]
-pub struct FirstMetered {
+pub struct Metered {
     /// The cost of the reply's data, value by value.
     pub cost: Cost,
     /// The answer text: the reply's error messages and paths and its data, as JSON without spaces.

@@ -1,87 +1,76 @@
 //! The walk over the data of a reply: each value is tested, counted and written, in plan order.
 
-ghost use Rattle.std.specs.Prelude.{◌≡◌, ◌+◌, ◌≤◌, [], None, is_some, false, length, option_map, string_bytes};
+ghost use Rattle.std.specs.Prelude.{◌≡◌, ◌+◌, ◌||◌, ◌&&◌, bytes_eq, [], ◌∷◌, None, IfOk, true, false, length, option_map, string_bytes};
 ghost use Rattle.serde_json.specs.Data.{null};
-ghost use Rattle.serde_json.specs.Find.{get_member};
 ghost use Rattle.serde_json.specs.View.{view, items_view, members_view};
-ghost use Rattle.serde_json.specs.Written.{compact_text};
+ghost use Rattle.serde_json.specs.Written.{compact_text, has_float};
 ghost use Rattle.cost_num.specs.Capped.{capped};
+ghost use Rattle.response_model.specs.Cost.{fields, value_cost, entry_cost};
 ghost use Rattle.response_model.specs.Reading.{has_key};
-ghost use Rattle.static_cost.specs.Nodes.{first_of};
-ghost use Rattle.static_cost.specs.FirstPlan.{default_weight, value_plan};
-ghost use Rattle.static_cost.specs.Leaves.{kind_holds};
-ghost use Rattle.static_cost.specs.declared.first.FirstKind.TheVariants.{Object};
+ghost use Rattle.plan_table.specs.Tables.{row_in};
+ghost use Rattle.response_meter.specs.declared.nested.Node.TheViews.{out-Node};
 ghost use Rattle.response_meter.specs.declared.fault.Why.TheVariants.{BadLeaf, NullHere};
+ghost use Rattle.response_meter.specs.FirstFault.{size_fault, keys_known};
 ghost use Rattle.response_meter.specs.Faults.{size_broken as broken, tested};
-ghost use Rattle.response_meter.specs.FirstFault.{null_fault, size_fault, list_fault, items_fault, keys_known};
-ghost use Rattle.response_meter.specs.Trees.{null_tree, list_tree, items_tree};
-ghost use Rattle.response_meter.specs.Walks.{nodes_of, plan_in, value_fault, value_tree, entries_fault, member_entries, field_fault, field_tree, entry_fault, entry_tree, Measures, MeasuresTree, MeasuresEntry, MeasuresEntries, MeasuresElements};
+ghost use Rattle.response_meter.specs.Walks.{one_node, nodes_in, objects_of, root_plan, Measures, MeasuresValue, MeasuresPlace, MeasuresPosition, MeasuresObject, MeasuresEntry, MeasuresEntries, MeasuresList, MeasuresItems, MeasuresItem, MeasuresData};
 
 use crate::fault::{MeterFault, Why, not_response, size_broken};
-use cost_num::{CAP, Cost, UNIT, add_capped};
+use crate::forms::{ValueForm, form_of};
+use crate::json::{items_of, member, members_of};
+use crate::nested::{Node, Types};
+use crate::readings::Reading;
+use crate::types::type_told;
+use cost_num::{CAP, Cost};
+use gql_base::{NameIndex, index_of};
+use input_values::TypeId;
+use plan_table::Below;
 use response_model::{write_key, write_value};
 use serde_json::{Map, Value};
-use static_cost::{FirstKind, FirstList, FirstNode};
-use std::alloc::Global;
+use std::alloc::{AllocError, Global};
 
 /// Nothing.
-const NOTHING: Cost = Cost {
+pub(crate) const NOTHING: Cost = Cost {
     types: 0,
     fields: 0,
 };
 
-/// The sum of two costs, each component capped.
+/// The sum of two numbers, or `CAP + 1` where that exceeds `CAP`.
+fn sum_capped(a: u64, b: u64) -> u64
+    ensures { result ≡ capped (a + b) }
+{
+    a.saturating_add(b).min(CAP + 1)
+}
+
+/// The sum of two costs.
 fn sum(a: Cost, b: Cost) -> Cost
-    requires types_capped { (a.types ≤ CAP + 1) × (b.types ≤ CAP + 1) }
-    requires fields_capped { (a.fields ≤ CAP + 1) × (b.fields ≤ CAP + 1) }
     ensures types { result.types ≡ capped (a.types + b.types) }
     ensures fields { result.fields ≡ capped (a.fields + b.fields) }
 {
     Cost {
-        types: add_capped(a.types, b.types),
-        fields: add_capped(a.fields, b.fields),
+        types: sum_capped(a.types, b.types),
+        fields: sum_capped(a.fields, b.fields),
     }
 }
 
-/// The weight of a type of this kind, in millionths, and of a field whose values have it.
-fn weight(kind: FirstKind) -> u64
-    ensures { result ≡ default_weight kind }
-{
-    match kind {
-        FirstKind::Object => UNIT,
-        _ => 0,
-    }
-}
-
-/// Whether a scalar of this kind holds the value (GraphQL October 2021, 3.5).
-fn kind_holds(kind: FirstKind, value: &Value) -> bool
-    ensures { result ≡ kind_holds kind (view value.now) }
-{
-    match (kind, value) {
-        (FirstKind::Int, Value::Number(number)) => {
-            number.as_i128().is_some_and(|n| i32::try_from(n).is_ok())
-        }
-        (FirstKind::Str | FirstKind::Id, Value::String(_)) => true,
-        (FirstKind::Bool, Value::Bool(_)) => true,
-        (FirstKind::Id, Value::Number(number)) => number.as_i128().is_some(),
-        _ => false,
-    }
-}
-
-/// A leaf of this kind.
+/// A leaf of a type of this weight, which holds the value or not.
 fn meter_leaf(
     alloc: Global,
-    kind: FirstKind,
+    holds: bool,
+    weight: u64,
     value: &Value,
     into: &mut String,
 ) -> Result<Cost, MeterFault>
-    ensures { Measures (string_bytes into.old) (string_bytes into.new) result (tested (kind_holds kind (view value.now)) BadLeaf None) (λ part. 0) (compact_text (view value.now)) }
+    requires { holds ≡ true → has_float (view value.now) ≡ false }
+    ensures { Measures (string_bytes into.old) (string_bytes into.new) result (tested holds BadLeaf None) (λ part. value_cost part weight) (compact_text (view value.now)) }
 {
-    if !kind_holds(kind, value) {
+    if !holds {
         return Err(not_response(alloc, Why::BadLeaf));
     }
     write_value(alloc, value, into)?;
-    Ok(NOTHING)
+    Ok(Cost {
+        types: weight.min(CAP + 1),
+        fields: 0,
+    })
 }
 
 /// A null, where it may stand.
@@ -99,137 +88,167 @@ pub(crate) fn meter_null(
     Ok(NOTHING)
 }
 
-/// A value of a field, or an item of its list, that is not null.
+/// A value of a node, or an item of its list, that is not null.
 #[cycle(walk)]
 fn meter_value(
-    alloc: Global,
-    node: &FirstNode,
+    by: &Reading,
+    node: &Node,
     value: &Value,
     into: &mut String,
 ) -> Result<Cost, MeterFault>
-    ensures { MeasuresTree (string_bytes into.old) (string_bytes into.new) result (value_fault (plan_in (first_of node.now)) (view value.now)) (plan_in (first_of node.now)) (value_tree (plan_in (first_of node.now)) (view value.now)) }
+    ensures { MeasuresValue by.now (string_bytes into.old) (string_bytes into.new) result (one_node by.now node.now) (view value.now) }
 {
-    match node.kind {
-        FirstKind::Object => meter_object(alloc, &node.below, value, into),
-        kind => meter_leaf(alloc, kind, value, into),
+    match by.of.below(node.row) {
+        Below::TypeName => meter_leaf(by.alloc, by.is_name(node.row.on, value), 0, value, into),
+        Below::Leaf(of) => {
+            meter_leaf(
+                by.alloc,
+                by.holds(of, value),
+                by.type_weight(of),
+                value,
+                into,
+            )
+        }
+        Below::Objects(_) => meter_position(by, node, value, into),
     }
 }
 
-/// An object with an entry for each of these fields, and no other.
+/// An object, at a node below which objects stand.
 #[cycle(walk)]
-pub(crate) fn meter_object(
-    alloc: Global,
-    nodes: &[FirstNode],
+fn meter_position(
+    by: &Reading,
+    node: &Node,
     value: &Value,
     into: &mut String,
 ) -> Result<Cost, MeterFault>
-    ensures { MeasuresTree (string_bytes into.old) (string_bytes into.new) result (value_fault (value_plan Object (nodes_of nodes.now)) (view value.now)) (value_plan Object (nodes_of nodes.now)) (value_tree (value_plan Object (nodes_of nodes.now)) (view value.now)) }
+    ensures { MeasuresPosition by.now (string_bytes into.old) (string_bytes into.new) result (row_in by.now.of.now (out-Node node.now).row.now).selected.asked (objects_of by.now node.now) (view value.now) }
 {
-    let Some(members) = value.as_object() else {
-        return Err(not_response(alloc, Why::BadObject));
+    let Some(members) = members_of(value) else {
+        return Err(not_response(by.alloc, Why::BadObject));
     };
-    if !keys_known(nodes, members) {
-        return Err(not_response(alloc, Why::ExtraKey));
+    match type_told(by, node.row, members) {
+        None => Err(not_response(by.alloc, Why::BadType)),
+        Some(on) => {
+            let set = node.below.set(on.number);
+            meter_object(by, node.row.asked, on, &set.nodes, members, into)
+        }
     }
-    into.push_str("{")?;
-    let entries = meter_entries(alloc, nodes, members, into)?;
-    Ok(sum(
-        Cost {
-            types: UNIT,
-            fields: 0,
-        },
-        entries,
-    ))
 }
 
-/// The entries of these fields, in their order, and a closing brace.
+/// An object of this type with an entry for each of these nodes, and no other but its type name where that is asked.
 #[cycle(walk)]
-fn meter_entries(
-    alloc: Global,
-    nodes: &[FirstNode],
+fn meter_object(
+    by: &Reading,
+    asked: bool,
+    on: TypeId,
+    nodes: &[Node],
     members: &Map<String, Value>,
     into: &mut String,
 ) -> Result<Cost, MeterFault>
-    ensures { MeasuresEntries (string_bytes into.old) (string_bytes into.new) result (entries_fault (nodes_of nodes.now) (members_view members.now.entries)) (nodes_of nodes.now) (member_entries (nodes_of nodes.now) (members_view members.now.entries)) }
+    ensures { MeasuresObject by.now (string_bytes into.old) (string_bytes into.new) result asked on.number (nodes_in by.now nodes.now) (members_view members.now.entries) }
+{
+    if !keys_known(by, asked, nodes, members)? {
+        return Err(not_response(by.alloc, Why::ExtraKey));
+    }
+    into.push_str("{")?;
+    let own = Cost {
+        types: by.type_weight(on),
+        fields: 0,
+    };
+    Ok(sum(own, meter_entries(by, nodes, members, into)?))
+}
+
+/// The entries of these nodes, in their order, and a closing brace.
+#[cycle(walk)]
+fn meter_entries(
+    by: &Reading,
+    nodes: &[Node],
+    members: &Map<String, Value>,
+    into: &mut String,
+) -> Result<Cost, MeterFault>
+    ensures { MeasuresEntries by.now (string_bytes into.old) (string_bytes into.new) result (nodes_in by.now nodes.now) (members_view members.now.entries) }
 {
     let mut cost = NOTHING;
     let mut front = "";
     'nodes: for node in nodes {
         into.push_str(front)?;
-        cost = sum(cost, meter_entry(alloc, node, members, into)?);
+        cost = sum(cost, meter_entry(by, node, members, into)?);
         front = ",";
     }
     into.push_str("}")?;
     Ok(cost)
 }
 
-/// The entry of a field: its key and its value.
+/// The entry of a node: its key and its value.
 #[cycle(walk)]
 fn meter_entry(
-    alloc: Global,
-    node: &FirstNode,
+    by: &Reading,
+    node: &Node,
     members: &Map<String, Value>,
     into: &mut String,
 ) -> Result<Cost, MeterFault>
-    ensures { MeasuresEntry (string_bytes into.old) (string_bytes into.new) result (entry_fault (first_of node.now) (members_view members.now.entries)) (first_of node.now) (entry_tree (first_of node.now) (members_view members.now.entries)) }
+    ensures { MeasuresEntry by.now (string_bytes into.old) (string_bytes into.new) result (one_node by.now node.now) (members_view members.now.entries) }
 {
-    let key = node.key.as_str();
+    let key = node.row.key.as_str();
     let Some(value) = member(members, key) else {
-        return Err(not_response(alloc, Why::MissingKey).at_key(alloc, key));
+        return Err(not_response(by.alloc, Why::MissingKey).at_key(by.alloc, key));
     };
-    write_key(alloc, key, into)?;
-    match meter_place(alloc, node, value, into) {
-        Ok(cost) => Ok(sum(
-            Cost {
-                types: 0,
-                fields: weight(node.kind),
-            },
-            cost,
-        )),
-        Err(fault) => Err(fault.at_key(alloc, key)),
+    write_key(by.alloc, key, into)?;
+    let own = Cost {
+        types: 0,
+        fields: sum_capped(by.of.field_weight(node.row), node.row.arguments),
+    };
+    match meter_place(by, node, value, into) {
+        Ok(cost) => Ok(sum(own, cost)),
+        Err(fault) => Err(fault.at_key(by.alloc, key)),
     }
 }
 
-/// The value of a field: null, a list, or one value.
+/// The value of a node: null, a list, or one value.
 #[cycle(walk)]
 fn meter_place(
-    alloc: Global,
-    node: &FirstNode,
+    by: &Reading,
+    node: &Node,
     value: &Value,
     into: &mut String,
 ) -> Result<Cost, MeterFault>
-    ensures { MeasuresTree (string_bytes into.old) (string_bytes into.new) result (field_fault (first_of node.now) (view value.now)) (plan_in (first_of node.now)) (field_tree (first_of node.now) (view value.now)) }
+    ensures { MeasuresPlace by.now (string_bytes into.old) (string_bytes into.new) result (one_node by.now node.now) (view value.now) }
 {
-    if value.is_null() {
-        return meter_null(alloc, node.nullable, into);
-    }
-    match node.list {
-        None => meter_value(alloc, node, value, into),
-        Some(list) => meter_list(alloc, node, list, value, into),
+    match form_of(by.of, node.row) {
+        ValueForm::Single { nullable } => meter_item(by, node, nullable, value, into),
+        ValueForm::Listed {
+            nullable,
+            item_nullable,
+        } => {
+            if value.is_null() {
+                meter_null(by.alloc, nullable, into)
+            } else {
+                meter_list(by, node, item_nullable, value, into)
+            }
+        }
     }
 }
 
 /// A list of at most its declared size.
 #[cycle(walk)]
 fn meter_list(
-    alloc: Global,
-    node: &FirstNode,
-    list: FirstList,
+    by: &Reading,
+    node: &Node,
+    nullable: bool,
     value: &Value,
     into: &mut String,
 ) -> Result<Cost, MeterFault>
-    ensures { MeasuresTree (string_bytes into.old) (string_bytes into.new) result (list_fault (λ v. value_fault (plan_in (first_of node.now)) v) list.nullable list.size (view value.now)) (plan_in (first_of node.now)) (list_tree (λ v. value_tree (plan_in (first_of node.now)) v) (view value.now)) }
+    ensures { MeasuresList by.now (string_bytes into.old) (string_bytes into.new) result nullable (one_node by.now node.now) (view value.now) }
 {
-    let Some(items) = value.as_array() else {
-        return Err(not_response(alloc, Why::NotList));
+    let Some(items) = items_of(value) else {
+        return Err(not_response(by.alloc, Why::NotList));
     };
-    let items = items.as_slice();
     let length = items.len() as u64;
-    match exceeded(list.size, length) {
-        Some(size) => Err(size_broken(alloc, size, length)),
+    match exceeded(node.row.size, length) {
+        Some(size) => Err(size_broken(by.alloc, size, length)),
         None => {
             into.push_str("[")?;
-            meter_items(alloc, node, list.nullable, items, into)
+            meter_items(by, node, nullable, items, into)
         }
     }
 }
@@ -247,22 +266,22 @@ fn exceeded(size: Option<u64>, length: u64) -> Option<u64>
 /// The items of a list, in their order, and a closing bracket.
 #[cycle(walk)]
 fn meter_items(
-    alloc: Global,
-    node: &FirstNode,
+    by: &Reading,
+    node: &Node,
     nullable: bool,
     items: &[Value],
     into: &mut String,
 ) -> Result<Cost, MeterFault>
-    ensures { MeasuresElements (string_bytes into.old) (string_bytes into.new) result (items_fault (λ v. value_fault (plan_in (first_of node.now)) v) nullable 0 (items_view items.now)) (plan_in (first_of node.now)) (items_tree (λ v. value_tree (plan_in (first_of node.now)) v) (items_view items.now)) }
+    ensures { MeasuresItems by.now (string_bytes into.old) (string_bytes into.new) result nullable (one_node by.now node.now) (items_view items.now) }
 {
     let mut cost = NOTHING;
     let mut front = "";
     let mut index: usize = 0;
     'items: for item in items {
         into.push_str(front)?;
-        match meter_item(alloc, node, nullable, item, into) {
+        match meter_item(by, node, nullable, item, into) {
             Ok(counted) => cost = sum(cost, counted),
-            Err(fault) => return Err(fault.at_item(alloc, index)),
+            Err(fault) => return Err(fault.at_item(by.alloc, index)),
         }
         index += 1;
         front = ",";
@@ -271,50 +290,70 @@ fn meter_items(
     Ok(cost)
 }
 
-/// An item of a list: null, or one value.
+/// Null, or one value of a node.
 #[cycle(walk)]
 fn meter_item(
-    alloc: Global,
-    node: &FirstNode,
+    by: &Reading,
+    node: &Node,
     nullable: bool,
     item: &Value,
     into: &mut String,
 ) -> Result<Cost, MeterFault>
-    ensures { MeasuresTree (string_bytes into.old) (string_bytes into.new) result (null_fault nullable (value_fault (plan_in (first_of node.now)) (view item.now)) (view item.now)) (plan_in (first_of node.now)) (null_tree (value_tree (plan_in (first_of node.now)) (view item.now)) (view item.now)) }
+    ensures { MeasuresItem by.now (string_bytes into.old) (string_bytes into.new) result nullable (one_node by.now node.now) (view item.now) }
 {
     if item.is_null() {
-        return meter_null(alloc, nullable, into);
+        return meter_null(by.alloc, nullable, into);
     }
-    meter_value(alloc, node, item, into)
+    meter_value(by, node, item, into)
 }
 
-/// Whether each key is that of one of these fields.
-fn keys_known(nodes: &[FirstNode], members: &Map<String, Value>) -> bool
-    ensures { result ≡ keys_known [] false (nodes_of nodes.now) (members_view members.now.entries) }
+/// Whether the key is that of one of these nodes or, where the type name is asked, the alias.
+fn is_known(by: &Reading, asked: bool, keys: &NameIndex<Node>, key: &str) -> bool
+    ensures { result ≡ (has_key key.now (nodes_in by.now keys.now.items.now) || (asked && bytes_eq key.now by.now.alias.now)) }
 {
+    keys.has(key) || (asked && key == by.alias)
+}
+
+/// Whether each key is one that is known.
+fn keys_known(
+    by: &Reading,
+    asked: bool,
+    nodes: &[Node],
+    members: &Map<String, Value>,
+) -> Result<bool, AllocError>
+    ensures { IfOk result (λ known. known ≡ keys_known by.now.alias.now asked (nodes_in by.now nodes.now) (members_view members.now.entries)) }
+{
+    let keys = index_of(by.alloc, nodes)?;
     'keys: for (key, _value) in members.iter() {
-        if !has_key(nodes, key.as_str()) {
-            return false;
+        if !is_known(by, asked, &keys, key.as_str()) {
+            return Ok(false);
         }
     }
-    true
+    Ok(true)
 }
 
-/// Whether one of these fields has the key.
-fn has_key(nodes: &[FirstNode], key: &str) -> bool
-    ensures { result ≡ has_key key.now (nodes_of nodes.now) }
+/// The data of a reply: null, or an object.
+pub(crate) fn meter_data(
+    by: &Reading,
+    types: &Types,
+    value: &Value,
+    into: &mut String,
+) -> Result<Cost, MeterFault>
+    ensures { MeasuresData by.now (string_bytes into.old) (string_bytes into.new) result (root_plan by.now types.now) (view value.now) }
 {
-    'nodes: for node in nodes {
-        if key == node.key.as_str() {
-            return true;
-        }
+    if value.is_null() {
+        return meter_null(by.alloc, true, into);
     }
-    false
-}
-
-/// The value that an object has under a key.
-fn member<'a>(members: &'a Map<String, Value>, key: &str) -> Option<&'a Value>
-    ensures { option_map (λ v. view v.now) result ≡ get_member key.now (members_view members.now.entries) }
-{
-    members.get(key)
+    let Some(members) = members_of(value) else {
+        return Err(not_response(by.alloc, Why::BadObject));
+    };
+    let root = by.of.root();
+    meter_object(
+        by,
+        false,
+        root,
+        &types.set(root.number).nodes,
+        members,
+        into,
+    )
 }

@@ -1,8 +1,4 @@
-pub mod Sound
-pub mod OneField
-pub mod Sums
 pub mod Bounds
-pub mod Made
 pub mod RowCosts
 pub mod Depths
 pub mod TablePasses

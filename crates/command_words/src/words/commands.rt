@@ -5,9 +5,9 @@ ghost use Rattle.clap.specs.Walk.{rows_of, first_of};
 ghost use Rattle.clap.specs.Matches.{found_of};
 ghost use Rattle.static_cost.specs.declared.part.Part.{Part as PartType};
 ghost use Rattle.command_words.specs.declared.command.Command.{Command as CommandType};
-ghost use Rattle.command_words.specs.Words.{GivesPart, GivesCheck, GivesPrice, GivesWorst, GivesMeter, AsksCheck, AsksPrice, AsksWorst, AsksMeter};
+ghost use Rattle.command_words.specs.Words.{GivesPart, GivesCheck, GivesPrice, GivesWorst, GivesForward, GivesMeter, AsksCheck, AsksPrice, AsksWorst, AsksForward, AsksMeter};
 
-use crate::builder::{check_command, meter_command, price_command, worst_command};
+use crate::builder::{check_command, forward_command, meter_command, price_command, worst_command};
 use crate::command::{Command, WordsFault};
 use crate::words::asked::{asked_of, place_text, place_word};
 use crate::words::matches::matches_of;
@@ -112,25 +112,42 @@ pub fn worst<'a>(alloc: Global, words: &'a [&'a str]) -> Result<Command, WordsFa
     }
 }
 
+// The forwarding that words ask for.
+fn forward_of(alloc: Global, matches: &ArgMatches) -> Result<Command, WordsFault>
+    ensures found { IfOk result (GivesForward (rows_of (found_of matches.now))) }
+    ensures usage { result ≡ Err WordsFault.Usage → (command : CommandType) → GivesForward (rows_of (found_of matches.now)) command → ⊥ }
+{
+    match asked_of(alloc, matches) {
+        Ok(asked) => Ok(Command::Forward { asked }),
+        Err(fault) => Err(fault),
+    }
+}
+
+/// `forward SCHEMA DOCUMENT`
+pub fn forward<'a>(alloc: Global, words: &'a [&'a str]) -> Result<Command, WordsFault>
+    ensures found { IfOk result (AsksForward (map (λ s. s.now) words.entry.now)) }
+    ensures usage { result ≡ Err WordsFault.Usage → (command : CommandType) → AsksForward (map (λ s. s.now) words.entry.now) command → ⊥ }
+{
+    let Ok(command) = forward_command(alloc) else {
+        return Err(WordsFault::Memory);
+    };
+    match matches_of(command, words) {
+        Ok(matches) => forward_of(alloc, &matches),
+        Err(fault) => Err(fault),
+    }
+}
+
 // The measure of a reply that words ask for.
 fn meter_of(alloc: Global, matches: &ArgMatches) -> Result<Command, WordsFault>
     ensures found { IfOk result (GivesMeter (rows_of (found_of matches.now))) }
     ensures usage { result ≡ Err WordsFault.Usage → (command : CommandType) → GivesMeter (rows_of (found_of matches.now)) command → ⊥ }
 {
-    let schema = match place_text(alloc, matches, "schema") {
-        Ok(schema) => schema,
+    let reply = match place_text(alloc, matches, "reply") {
+        Ok(reply) => reply,
         Err(fault) => return Err(fault),
     };
-    let document = match place_text(alloc, matches, "document") {
-        Ok(document) => document,
-        Err(fault) => return Err(fault),
-    };
-    match place_text(alloc, matches, "reply") {
-        Ok(reply) => Ok(Command::Meter {
-            schema,
-            document,
-            reply,
-        }),
+    match asked_of(alloc, matches) {
+        Ok(asked) => Ok(Command::Meter { asked, reply }),
         Err(fault) => Err(fault),
     }
 }

@@ -1,5 +1,5 @@
 -- The first word names one command.
-use Rattle.command_words.proofs.Names.{only_check, only_price, only_worst, only_meter}
+use Rattle.command_words.proofs.Names.{only_check, only_price, only_worst, only_forward, only_meter}
 use Rattle.command_words.proofs.reading.named_command.Goals as goal
 
 pub returns-in-check-clause-usage : goal.returns-in-check-clause-usage
@@ -10,6 +10,9 @@ returns-in-price-clause-usage c = λ failed command. only_price c.args.name.now 
 
 pub returns-in-worst-clause-usage : goal.returns-in-worst-clause-usage
 returns-in-worst-clause-usage c = λ failed command. only_worst c.args.name.now _ command c.in-worst.is (c.worst.ensures.usage failed command)
+
+pub returns-in-forward-clause-usage : goal.returns-in-forward-clause-usage
+returns-in-forward-clause-usage c = λ failed command. only_forward c.args.name.now _ command c.in-forward.is (c.forward.ensures.usage failed command)
 
 pub returns-in-meter-clause-usage : goal.returns-in-meter-clause-usage
 returns-in-meter-clause-usage c = λ failed command. only_meter c.args.name.now _ command c.in-meter.is (c.meter.ensures.usage failed command)

@@ -14,3 +14,11 @@ returns-in-Price g c =
 pub returns-in-Worst : goal.returns-in-Worst
 returns-in-Worst g c =
     subst (λ command. CommandCameTo command (files_told (g.F.Files.content c.args.files.now) (g.F.Files.faults c.args.files.now) (g.F.Files.faults c.worst.new.files)) c.worst.result) (sym c.in-Worst.is) c.worst.ensures
+
+pub returns-in-Forward : goal.returns-in-Forward
+returns-in-Forward g c =
+    subst (λ command. CommandCameTo command (files_told (g.F.Files.content c.args.files.now) (g.F.Files.faults c.args.files.now) (g.F.Files.faults c.forward.new.files)) c.forward.result) (sym c.in-Forward.is) c.forward.ensures
+
+pub returns-in-Meter : goal.returns-in-Meter
+returns-in-Meter g c =
+    subst (λ command. CommandCameTo command (files_told (g.F.Files.content c.args.files.now) (g.F.Files.faults c.args.files.now) (g.F.Files.faults c.meter.new.files)) c.meter.result) (sym c.in-Meter.is) c.meter.ensures

@@ -3,8 +3,8 @@ use Rattle.response_meter.proofs.Exact.{fault_or_reads, refused_only}
 use Rattle.response_meter.proofs.laws.fault_or_reading.Goals as goal
 
 pub returns-clause-passes : goal.returns-clause-passes
-returns-clause-passes c holds name alias plan bytes differ filled = fault_or_reads holds name alias differ plan bytes filled
+returns-clause-passes c holds name alias plan bytes named = fault_or_reads holds name alias plan bytes named
 
 pub returns-clause-refused : goal.returns-clause-refused
-returns-clause-refused c holds name alias plan bytes differ filled =
-    refused_only (first_fault holds name alias plan bytes) (IsReadable holds name alias plan bytes) (fault_or_reads holds name alias differ plan bytes filled)
+returns-clause-refused c holds name alias plan bytes named =
+    refused_only (first_fault holds name alias plan bytes) (IsReadable holds name alias plan bytes) (fault_or_reads holds name alias plan bytes named)

@@ -1,0 +1,59 @@
+-- What was checked for a request is what is prepared of it.
+use Rattle.std.proofs.Common.{◌≡◌, ◌∙◌, ℕ, List, [], ◌∷◌, map, false, refl, sym, ap, subst}
+use Rattle.std.specs.Borrow.{Bor}
+use Rattle.std.proofs.lemmas.Option.{same_Some}
+use Rattle.serde_json.specs.Data.{Data}
+use Rattle.serde_json.specs.Written.{has_float, compact_text}
+use Rattle.gql_base.specs.printing.Printing.{printed}
+use Rattle.document_reader.specs.declared.trees.Definition.{Definition}
+use Rattle.document_reader.specs.declared.trees.Operation.{Operation}
+use Rattle.document_reader.specs.declared.trees.Fragment.{Fragment}
+use Rattle.document_reader.specs.Trees.{definition_tree}
+use Rattle.document_reader.specs.PrintedDocuments.{document_symbols}
+use Rattle.document_reader.specs.Documents.{DefinitionTree}
+use Rattle.document_rules.specs.declared.checking.Checked.{Checked}
+use Rattle.document_rules.specs.Parts.{FragmentData, fragment_data, fragments_of}
+use Rattle.document_rules.specs.Met.{fragments_met}
+use Rattle.document_rules.specs.Checking.{reached_by}
+use Rattle.document_rules.specs.Sites.{type_of_kind}
+use Rattle.typename_rewrite.specs.AddedNames.{names_of_document, IsAlias}
+use Rattle.typename_rewrite.specs.Rewriting.{rewritten_document}
+use Rattle.typename_rewrite.specs.ForwardedBodies.{body_data}
+use Rattle.typename_rewrite.specs.Views.{fragment_seen, rewritten_of}
+use Rattle.acceptance.specs.Requests.{RequestData, Prepared, IsCheckFor, setting}
+use Rattle.acceptance.specs.Forwarding.{IsFreeIn, sent_document, sent_body, IsSentText}
+use Rattle.acceptance.proofs.OneVerdict.{same_operation}
+
+seen_fragments : (fs : List (Bor Fragment)) → map fragment_seen fs ≡ map fragment_data (map (λ f. f.now) fs)
+seen_fragments [] = refl
+seen_fragments (f ∷ fs) = ap (λ (gs : List FragmentData). fragment_data f.now ∷ gs) (seen_fragments fs)
+
+module _ (r : RequestData) (c : Checked) (check : IsCheckFor r c) (p : Prepared r) where
+  pub prepared_operation : c.operation.now ≡ p.operation
+  prepared_operation = same_operation r c.operation.now p.operation check.keeps.0 p.keeps.0
+
+  prepared_root : c.root.number ≡ p.root
+  prepared_root = same_Some c.root.number p.root (sym check.of.root ∙ (ap (λ (o : Operation). type_of_kind r.schema o.kind) prepared_operation ∙ p.on_root))
+
+  prepared_fragments : map fragment_seen c.fragments.items ≡ (setting r p).fragments
+  prepared_fragments =
+      seen_fragments c.fragments.items
+      ∙ (ap (map fragment_data) check.of.fragments
+      ∙ ap (λ (o : Operation). map fragment_data (fragments_met (fragments_of r.document) (reached_by r.document o))) prepared_operation)
+
+  same_document : (alias : List ℕ) → rewritten_of r.schema alias c ≡ sent_document r p alias
+  same_document alias =
+      ap (λ (n : ℕ). rewritten_document r.schema alias n c.operation.now (map fragment_seen c.fragments.items)) prepared_root
+      ∙ (ap (λ (o : Operation). rewritten_document r.schema alias p.root o (map fragment_seen c.fragments.items)) prepared_operation
+      ∙ ap (rewritten_document r.schema alias p.root p.operation) prepared_fragments)
+
+  pub same_body : (alias text : List ℕ) → text ≡ printed (document_symbols (rewritten_of r.schema alias c)) → body_data c.operation.now text r.given ≡ sent_body r p alias
+  same_body alias text is =
+      ap (λ (o : Operation). body_data o text r.given) prepared_operation
+      ∙ ap (λ (t : List ℕ). body_data p.operation t r.given) (is ∙ ap (λ (ds : List DefinitionTree). printed (document_symbols ds)) (same_document alias))
+
+  pub same_text : (alias text body : List ℕ) (json : Data) → json ≡ sent_body r p alias → (has_float json ≡ false → body ≡ compact_text json) → IsSentText r p alias body
+  same_text alias text body json same written = subst (λ (d : Data). has_float d ≡ false → body ≡ compact_text d) same written
+
+pub free_alias : (r : RequestData) (c : Checked) (alias : List ℕ) → IsCheckFor r c → IsAlias (names_of_document (map definition_tree c.document.now.definitions.items)) alias → IsFreeIn r alias
+free_alias r c alias check is = subst (λ (ds : List Definition). IsAlias (names_of_document (map definition_tree ds)) alias) check.of.document is

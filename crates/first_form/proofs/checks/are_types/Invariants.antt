@@ -1,9 +1,0 @@
-use Rattle.std.proofs.Common.{◌≡◌, drop}
-use Rattle.std.specs.List.{list_all}
-use Rattle.first_form.specs.Schemas.{is_type}
-use Rattle.first_form.specs.IndexedTypes.{indexed_types}
-use Rattle.first_form.proofs.checks.are_types.Given as goal
-
--- Those that are left are as they should be just where all are.
-abbrev pub invariant-loop-of : goal.invariant-loop-of
-invariant-loop-of l = list_all (is_type (indexed_types l.types.items.now)) (indexed_types (drop l.of-index l.some)) ≡ list_all (is_type (indexed_types l.types.items.now)) (indexed_types l.some)

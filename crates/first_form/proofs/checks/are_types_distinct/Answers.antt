@@ -1,8 +1,0 @@
-use Rattle.std.proofs.Common.{◌∙◌, ap}
-use Rattle.first_form.specs.Schemas.{are_distinct, name_of_type}
-use Rattle.first_form.specs.IndexedTypes.{indexed_type}
-use Rattle.first_form.proofs.Names.{map_view}
-use Rattle.first_form.proofs.checks.are_types_distinct.Goals as goal
-
-pub returns : goal.returns
-returns c = c.are_distinct.ensures ∙ ap are_distinct (map_view indexed_type name_of_type c.args.types.now.items.now)

@@ -1,7 +1,0 @@
-use Rattle.std.proofs.Common.{◌∙◌, ap, length}
-use Rattle.std.specs.Prelude.{◌==◌}
-use Rattle.first_form.proofs.Names.{field_list}
-use Rattle.first_form.proofs.checks.is_field_list.Goals as goal
-
-pub returns-then-not-is_empty : goal.returns-then-not-is_empty
-returns-then-not-is_empty c = field_list c.args.fields.now.items.now c.is_empty.result c.are_distinct.result (c.is_empty.ensures ∙ ap (λ l. length l == 0) c.items.ensures) c.if-not-is_empty.true c.are_distinct.ensures

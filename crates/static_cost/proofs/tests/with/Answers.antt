@@ -1,5 +1,0 @@
-use Rattle.static_cost.proofs.Made.{front_sized}
-use Rattle.static_cost.proofs.tests.with.Goals as goal
-
-pub returns : goal.returns
-returns c = front_sized _ c.args.others.items c.insert.new.self.items c.requires.list c.requires.below c.requires.others c.in_ok-insert.ensures.items
