@@ -5,3 +5,4 @@ mod AskedFiles
 mod AskedRefusals
 mod Measured
 mod OnePrice
+mod OneMeasure

@@ -59,7 +59,7 @@ one_given : (variables : Option (List ℕ)) (json other : Data) → IsGiven vari
 one_given None json other a b = a ∙ sym b
 one_given (Some text) json other a b = same_Some json other (sym a.0 ∙ b.0)
 
-ask_alike : OneReading → (asked : Asked) (texts : AskedTexts) (a b : Inputs) → HoldInputs asked texts a → HoldInputs asked texts b → AskAlike (request_in asked a) (request_in asked b)
+pub ask_alike : OneReading → (asked : Asked) (texts : AskedTexts) (a b : Inputs) → HoldInputs asked texts a → HoldInputs asked texts b → AskAlike (request_in asked a) (request_in asked b)
 ask_alike reading asked texts a b held other =
     let schema : schema_data a.weighed.schema ≡ schema_data b.weighed.schema = reading.one_schema texts.schema a.weighed.schema b.weighed.schema held.is_schema.0 other.is_schema.0 in
     record {

@@ -140,7 +140,7 @@ module _ (IsName : List ℕ → Type 0) (files : FilesTold) where
 
   meter_answer : (asked : Asked) (texts : AskedTexts) (reply : List ℕ) (outcome : Outcome) → MeterOf asked texts reply outcome → IsAnswer IsName files outcome
   meter_answer asked texts reply outcome (inl memory) = memory_answer outcome memory
-  meter_answer asked texts reply outcome (inr (inl accepted)) = meter_plan_answer accepted.2 accepted.6 (plan_tree (request_in asked accepted.0) accepted.4.is_planned.prepared) reply outcome accepted.8
+  meter_answer asked texts reply outcome (inr (inl accepted)) = meter_plan_answer accepted.2.0 accepted.2.4.0 (plan_tree (request_in asked accepted.0) accepted.2.2.is_planned.prepared) reply outcome accepted.2.4.2
   meter_answer asked texts reply outcome (inr (inr refused)) = refused_answer _ outcome refused.2
 
 -- ---- commands

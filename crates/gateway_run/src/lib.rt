@@ -13,6 +13,7 @@ mod forward;
 mod inputs;
 mod limits;
 mod meter;
+mod meter_laws;
 mod outcome;
 mod price;
 mod price_laws;
@@ -27,6 +28,7 @@ mod worst;
 
 pub use check_laws::a_schema_file_has_one_check;
 pub use command_words::WordsFault;
+pub use meter_laws::{a_refused_operation_has_no_reply, a_reply_has_one_measure};
 pub use outcome::{
     DONE, FILE_FAILED, NO_MEMORY, NOT_RESPONSE, REFUSED, SIZE_BROKEN, STREAM_FAILED, USAGE,
 };

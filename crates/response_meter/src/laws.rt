@@ -1,7 +1,11 @@
 //! What holds of every plan and every reply.
 
-ghost use Rattle.std.specs.Prelude.{ℕ, List, Bool, Option, Some, None, ◌≡◌, ◌↔◌};
+ghost use Rattle.std.specs.Prelude.{ℕ, List, Bool, Option, Some, None, Ok, ◌≡◌, ◌↔◌};
 ghost use Rattle.serde_json.specs.Data.{Data};
+ghost use Rattle.schema_reader.specs.Schemas.{DefinitionTree};
+ghost use Rattle.schema_model.specs.SchemaViews.{schema_data};
+ghost use Rattle.schema_model.specs.declared.schema.Schema.{Schema};
+ghost use Rattle.schema_model.specs.Faults.{Builds};
 ghost use Rattle.response_model.specs.Plan.{Plan};
 ghost use Rattle.response_model.specs.Response.{Tree};
 ghost use Rattle.plan_table.specs.declared.table.Plan.{Plan as PlanTable};
@@ -29,4 +33,9 @@ pub fn one_reply()
 /// the types of its schema have different names.
 pub fn named_tables()
     ensures { (table : PlanTable) (tree : Plan) → TypesDiffer (setting_in table).schema → HasRows table tree → AreNamed (name_in table) tree }
+{}
+
+/// The types of a schema that a text says have different names.
+pub fn built_types_differ()
+    ensures { (text : List DefinitionTree) (schema : Schema) → Builds text (Ok schema) → TypesDiffer (schema_data schema) }
 {}
