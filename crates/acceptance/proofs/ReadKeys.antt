@@ -1,12 +1,13 @@
 -- Members are put at their keys in order, so an object that is read has each key once.
 use Rattle.std.proofs.Common.{◌≡◌, ◌∙◌, ℕ, List, Option, Some, None, option_map, option_and_then, Ordering, Less, Equal, Greater, nat_cmp, refl, ap, subst}
 use Rattle.std.proofs.lemmas.Cmp.{nat_list_cmp_total}
+use Rattle.std.proofs.lemmas.Option.{none-some, same_Some}
 use Rattle.std.specs.Cmp.Lexicographic.{slice_cmp}
 use Rattle.std.specs.Ordering.{match_ordering, ordering_reverse}
 use Rattle.json.specs.Lex.{tokens}
 use Rattle.json.specs.Json as json
-use Rattle.serde_json.specs.Data.{Data, number, array, object, Items, item, Members, no_members, member, put}
-use Rattle.serde_json.specs.Find.{get_member}
+use Rattle.serde_json.specs.Data.{Data, null, boolean, number, string, array, object, Items, item, Members, no_members, member, put}
+use Rattle.serde_json.specs.Find.{get, get_member}
 use Rattle.serde_json.specs.Read.{number_of, of_json, of_items, of_members, max_depth, read}
 use Rattle.acceptance.specs.Keys.{HasEachKeyOnce, ItemsHaveEachKeyOnce, MembersHaveEachKeyOnce}
 
@@ -97,3 +98,22 @@ mutual
 -- what is read has each key once
 pub read_once : (text : List ℕ) (d : Data) → read text ≡ Some d → HasEachKeyOnce d
 read_once text d is = subst (Holds HasEachKeyOnce) is (then_holds (λ _. Unit {0}) HasEachKeyOnce of_json (λ j h. once_of j) (option_and_then (λ p. json.if_last p.0 p.1) (json.value max_depth (tokens text))) (anything _))
+
+member_once_at : (o : Ordering) (d e : Data) (rest : Option Data) → HasEachKeyOnce e → (rest ≡ Some d → HasEachKeyOnce d) → match_ordering o rest (Some e) rest ≡ Some d → HasEachKeyOnce d
+member_once_at Less d e rest once later found = later found
+member_once_at Equal d e rest once later found = subst HasEachKeyOnce (same_Some e d found) once
+member_once_at Greater d e rest once later found = later found
+
+member_once : (key : List ℕ) (d : Data) (ms : Members) → MembersHaveEachKeyOnce ms → get_member key ms ≡ Some d → HasEachKeyOnce d
+member_once key d no_members once found = absurd (none-some d found)
+member_once key d (member other e others) once found =
+    member_once_at (slice_cmp nat_cmp key other) d e (get_member key others) once.1 (member_once key d others once.2) found
+
+-- the value of a member has each key once too
+pub value_once : (json d : Data) (key : List ℕ) → HasEachKeyOnce json → get key json ≡ Some d → HasEachKeyOnce d
+value_once null d key once found = absurd (none-some d found)
+value_once (boolean b) d key once found = absurd (none-some d found)
+value_once (number n) d key once found = absurd (none-some d found)
+value_once (string s) d key once found = absurd (none-some d found)
+value_once (array items) d key once found = absurd (none-some d found)
+value_once (object ms) d key once found = member_once key d ms once found

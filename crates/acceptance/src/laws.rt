@@ -2,7 +2,8 @@
 
 ghost use Rattle.std.specs.Prelude.{◌≡◌, ◌⊎◌, ℕ, List, Some, false};
 ghost use Rattle.serde_json.specs.Data.{Data};
-ghost use Rattle.serde_json.specs.Read.{read};
+ghost use Rattle.serde_json.specs.Find.{get};
+ghost use Rattle.serde_json.specs.Read.{read as read_text};
 ghost use Rattle.serde_json.specs.Written.{has_float};
 ghost use Rattle.cost_num.specs.declared.Cost.{Cost as CostType};
 ghost use Rattle.plan_table.specs.declared.table.Plan.{Plan as PlanType};
@@ -55,9 +56,10 @@ pub fn a_request_has_a_verdict()
     one_bound();
 }
 
-/// A JSON text that is read has each key once in each of its objects: of equal keys the last value stays.
+/// JSON that is read has each key once in each of its objects: of equal keys the last value stays. So has each member of it.
 pub fn read_values_have_each_key_once()
-    ensures { (text : List ℕ) (json : Data) → read text ≡ Some json → HasEachKeyOnce json }
+    ensures whole { (text : List ℕ) (json : Data) → read_text text ≡ Some json → HasEachKeyOnce json }
+    ensures member { (json value : Data) (key : List ℕ) → HasEachKeyOnce json → get key json ≡ Some value → HasEachKeyOnce value }
 {}
 
 /// A body that is sent holds no float. The values of the declared variables are coerced, and no type takes a float; other
