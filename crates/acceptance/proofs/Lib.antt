@@ -6,4 +6,5 @@ mod SentBodies
 mod AlikeDocuments
 mod AlikeOperations
 mod AlikeRequests
+mod AlikeBodies
 mod HasVerdict

@@ -1,6 +1,6 @@
 //! What holds of all requests. These functions do nothing: their contracts are the laws.
 
-ghost use Rattle.std.specs.Prelude.{◌≡◌, ◌⊎◌};
+ghost use Rattle.std.specs.Prelude.{◌≡◌, ◌⊎◌, ℕ, List};
 ghost use Rattle.cost_num.specs.declared.Cost.{Cost as CostType};
 ghost use Rattle.plan_table.specs.declared.table.Plan.{Plan as PlanType};
 ghost use Rattle.acceptance.specs.declared.fault.Refusal.{Refusal};
@@ -8,6 +8,7 @@ ghost use Rattle.acceptance.specs.Requests.{RequestData, IsOfSchema, Prepared, p
 ghost use Rattle.acceptance.specs.Bounds.{IsAffordable, IsAccepted};
 ghost use Rattle.acceptance.specs.Refusals.{IsRefusedFor};
 ghost use Rattle.acceptance.specs.AskAlike.{AskAlike};
+ghost use Rattle.acceptance.specs.Forwarding.{sent_body};
 
 use plan_model::laws::{operations_planned_well, responses_of_a_plan};
 use response_model::laws::{greatest_is_bound, one_bound};
@@ -24,11 +25,12 @@ pub fn a_request_has_one_verdict()
 {}
 
 /// Of two requests that ask the same, where one is accepted, the other is, with the same plan and the same bound; where one
-/// is refused, the other is, for the same reason.
+/// is refused, the other is, for the same reason. The same body is sent for both.
 pub fn alike_requests_are_answered_alike()
     ensures accepted { (r q : RequestData) (plan : PlanType) (bound : CostType) → AskAlike r q → IsAccepted r plan bound → IsAccepted q plan bound }
     ensures refused { (r q : RequestData) (refusal : Refusal) → AskAlike r q → IsRefusedFor r refusal → IsRefusedFor q refusal }
     ensures one_plan { (r q : RequestData) (p : Prepared r) (other : Prepared q) → AskAlike r q → plan_tree r p ≡ plan_tree q other }
+    ensures one_body { (r q : RequestData) (p : Prepared r) (other : Prepared q) (alias : List ℕ) → AskAlike r q → sent_body r p alias ≡ sent_body q other alias }
 {}
 
 /// So one of them isn't accepted where the other is refused, both are accepted with one bound, and both are refused in one way,
