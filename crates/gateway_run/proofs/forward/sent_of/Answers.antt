@@ -5,10 +5,10 @@ returns-in-Ok-forwarded_in-clause-sent c =
     let accepted = c.in-Ok-accepted.ensures.accepted in (
       c.in-Ok.inputs,
       c.in-Ok.ensures.held,
-      c.in-Ok-accepted.accepted.plan,
-      c.in-Ok-accepted.accepted.bound,
-      accepted,
-      c.in-Ok-forwarded_in.forwarded.alias,
-      c.in-Ok-forwarded_in.ensures.alias,
-      c.in-Ok-forwarded_in.ensures.body accepted.is_planned.prepared,
+      (
+        c.in-Ok-accepted.accepted.plan,
+        c.in-Ok-accepted.accepted.bound,
+        accepted,
+        (c.in-Ok-forwarded_in.forwarded.alias, c.in-Ok-forwarded_in.ensures.alias, c.in-Ok-forwarded_in.ensures.body accepted.is_planned.prepared),
+      ),
     )
