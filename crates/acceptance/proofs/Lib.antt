@@ -2,6 +2,10 @@ mod Picked
 mod Stages
 mod Costs
 mod OneVerdict
+pub mod ReadKeys
+mod FoundMembers
+mod Floatless
+mod SentFloats
 mod SentBodies
 mod AlikeDocuments
 mod AlikeOperations

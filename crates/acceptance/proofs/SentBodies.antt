@@ -21,8 +21,10 @@ use Rattle.typename_rewrite.specs.Rewriting.{rewritten_document}
 use Rattle.typename_rewrite.specs.ForwardedBodies.{body_data}
 use Rattle.typename_rewrite.specs.Views.{fragment_seen, rewritten_of}
 use Rattle.acceptance.specs.Requests.{RequestData, Prepared, IsCheckFor, setting}
+use Rattle.acceptance.specs.Keys.{HasEachKeyOnce}
 use Rattle.acceptance.specs.Forwarding.{IsFreeIn, sent_document, sent_body, IsSentText}
 use Rattle.acceptance.proofs.OneVerdict.{same_operation}
+use Rattle.acceptance.proofs.SentFloats.{sent_floatless}
 
 seen_fragments : (fs : List (Bor Fragment)) → map fragment_seen fs ≡ map fragment_data (map (λ f. f.now) fs)
 seen_fragments [] = refl
@@ -53,7 +55,10 @@ module _ (r : RequestData) (c : Checked) (check : IsCheckFor r c) (p : Prepared 
       ∙ ap (λ (t : List ℕ). body_data p.operation t r.given) (is ∙ ap (λ (ds : List DefinitionTree). printed (document_symbols ds)) (same_document alias))
 
   pub same_text : (alias text body : List ℕ) (json : Data) → json ≡ sent_body r p alias → (has_float json ≡ false → body ≡ compact_text json) → IsSentText r p alias body
-  same_text alias text body json same written = subst (λ (d : Data). has_float d ≡ false → body ≡ compact_text d) same written
+  same_text alias text body json same written = λ once. subst (λ (d : Data). has_float d ≡ false → body ≡ compact_text d) same written (sent_floatless r p alias once)
 
 pub free_alias : (r : RequestData) (c : Checked) (alias : List ℕ) → IsCheckFor r c → IsAlias (names_of_document (map definition_tree c.document.now.definitions.items)) alias → IsFreeIn r alias
 free_alias r c alias check is = subst (λ (ds : List Definition). IsAlias (names_of_document (map definition_tree ds)) alias) check.of.document is
+
+pub one_text : (r : RequestData) (p : Prepared r) (alias text other : List ℕ) → HasEachKeyOnce r.given → IsSentText r p alias text → IsSentText r p alias other → text ≡ other
+one_text r p alias text other once is same = is once ∙ sym (same once)

@@ -1,7 +1,7 @@
 -- What is sent to the upstream for a request.
-use Rattle.std.specs.Prelude.{◌≡◌, ℕ, List, map, false}
+use Rattle.std.specs.Prelude.{◌≡◌, ℕ, List, map}
 use Rattle.serde_json.specs.Data.{Data}
-use Rattle.serde_json.specs.Written.{compact_text, has_float}
+use Rattle.serde_json.specs.Written.{compact_text}
 use Rattle.gql_base.specs.printing.Printing.{printed}
 use Rattle.document_reader.specs.Documents.{DefinitionTree}
 use Rattle.document_reader.specs.Trees.{definition_tree}
@@ -10,6 +10,7 @@ use Rattle.typename_rewrite.specs.Rewriting.{rewritten_document}
 use Rattle.typename_rewrite.specs.AddedNames.{names_of_document, IsAlias}
 use Rattle.typename_rewrite.specs.ForwardedBodies.{body_data}
 use Rattle.acceptance.specs.Requests.{RequestData, Prepared, setting}
+use Rattle.acceptance.specs.Keys.{HasEachKeyOnce}
 
 -- The response key under which names of types are added: it has the fewest underscores with which it is no name of the document.
 abbrev pub IsFreeIn : RequestData → List ℕ → Type 0
@@ -23,6 +24,6 @@ sent_document r p alias = rewritten_document r.schema alias p.root p.operation (
 abbrev pub sent_body : (r : RequestData) → Prepared r → List ℕ → Data
 sent_body r p alias = body_data p.operation (printed (document_symbols (sent_document r p alias))) r.given
 
--- The text is that of the body. Nothing is said of a body that holds a float.
+-- The text is that of the body, where each key stands once in what is given.
 abbrev pub IsSentText : (r : RequestData) → Prepared r → List ℕ → List ℕ → Type 0
-IsSentText r p alias text = has_float (sent_body r p alias) ≡ false → text ≡ compact_text (sent_body r p alias)
+IsSentText r p alias text = HasEachKeyOnce r.given → text ≡ compact_text (sent_body r p alias)

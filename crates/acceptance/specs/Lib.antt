@@ -3,6 +3,7 @@ pub mod Requests
 pub mod Bounds
 pub mod Refusals
 -- What is sent for it.
+pub mod Keys
 pub mod Forwarding
 pub mod AskAlike
 pub mod Texts

@@ -19,8 +19,8 @@ pub struct Forwarded {
     pub alias: Text,
 }
 
-/// What is sent to the upstream for an operation that was checked and whose variables have values. Nothing is said of the text
-/// of a body that holds a float.
+/// What is sent to the upstream for an operation that was checked and whose variables have values. The text is said where each
+/// object in what is given has each key once, as in all JSON that was read; the body then holds no float.
 ///
 /// # Errors
 ///

@@ -1,6 +1,13 @@
 //! What holds of all requests. These functions do nothing: their contracts are the laws.
 
+<<<<<<< HEAD
 ghost use Rattle.std.specs.Prelude.{◌≡◌, ◌⊎◌, ℕ, List};
+=======
+ghost use Rattle.std.specs.Prelude.{◌≡◌, ◌⊎◌, ℕ, List, Some, false};
+ghost use Rattle.serde_json.specs.Data.{Data};
+ghost use Rattle.serde_json.specs.Read.{read};
+ghost use Rattle.serde_json.specs.Written.{has_float};
+>>>>>>> 12ebb6220d9298905c467241a11c423755aac094
 ghost use Rattle.cost_num.specs.declared.Cost.{Cost as CostType};
 ghost use Rattle.plan_table.specs.declared.table.Plan.{Plan as PlanType};
 ghost use Rattle.acceptance.specs.declared.fault.Refusal.{Refusal};
@@ -8,7 +15,12 @@ ghost use Rattle.acceptance.specs.Requests.{RequestData, IsOfSchema, Prepared, p
 ghost use Rattle.acceptance.specs.Bounds.{IsAffordable, IsAccepted};
 ghost use Rattle.acceptance.specs.Refusals.{IsRefusedFor};
 ghost use Rattle.acceptance.specs.AskAlike.{AskAlike};
+<<<<<<< HEAD
 ghost use Rattle.acceptance.specs.Forwarding.{sent_body};
+=======
+ghost use Rattle.acceptance.specs.Keys.{HasEachKeyOnce};
+ghost use Rattle.acceptance.specs.Forwarding.{sent_body, IsSentText};
+>>>>>>> 12ebb6220d9298905c467241a11c423755aac094
 
 use plan_model::laws::{operations_planned_well, responses_of_a_plan};
 use response_model::laws::{greatest_is_bound, one_bound};
@@ -51,3 +63,15 @@ pub fn a_request_has_a_verdict()
     greatest_is_bound();
     one_bound();
 }
+
+/// A JSON text that is read has each key once in each of its objects: of equal keys the last value stays.
+pub fn read_values_have_each_key_once()
+    ensures { (text : List ℕ) (json : Data) → read text ≡ Some json → HasEachKeyOnce json }
+{}
+
+/// A body that is sent holds no float. The values of the declared variables are coerced, and no type takes a float; other
+/// values that are given aren't sent. So one text is sent for one request under one alias.
+pub fn sent_bodies_hold_no_float()
+    ensures no_float { (r : RequestData) (p : Prepared r) (alias : List ℕ) → HasEachKeyOnce r.given → has_float (sent_body r p alias) ≡ false }
+    ensures one_text { (r : RequestData) (p : Prepared r) (alias text other : List ℕ) → HasEachKeyOnce r.given → IsSentText r p alias text → IsSentText r p alias other → text ≡ other }
+{}

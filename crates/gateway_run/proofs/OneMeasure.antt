@@ -4,6 +4,7 @@ use Rattle.std.proofs.lemmas.Bool.{cases_lt}
 use Rattle.std.proofs.lemmas.Option.{none-some}
 use Rattle.cost_num.specs.declared.Cost.{Cost}
 use Rattle.serde_json.specs.Data.{Data}
+use Rattle.serde_json.specs.Written.{compact_text}
 use Rattle.response_model.specs.Plan.{Plan as PlanTree}
 use Rattle.response_model.specs.Response.{Tree}
 use Rattle.response_model.specs.Cost.{types, fields}
@@ -22,7 +23,7 @@ use Rattle.static_cost.specs.TableBound.{holds_in}
 use Rattle.command_words.specs.declared.command.Asked.{Asked}
 use Rattle.acceptance.specs.Requests.{RequestData, Prepared, plan_tree}
 use Rattle.acceptance.specs.Bounds.{IsAccepted}
-use Rattle.acceptance.specs.Forwarding.{IsFreeIn}
+use Rattle.acceptance.specs.Forwarding.{IsFreeIn, sent_body}
 use Rattle.acceptance.specs.AskAlike.{AskAlike}
 use Rattle.response_meter.specs.declared.metered.Metered.{Metered}
 use Rattle.response_meter.specs.declared.fault.MeterFault.{MeterFault}
@@ -87,6 +88,12 @@ named_of : OneReply → (asked : Asked) (texts : AskedTexts) (inputs : Inputs) (
 named_of laws asked texts inputs plan bound held accepted of_schema =
     laws.named plan (plan_tree (request_in asked inputs) accepted.is_planned.prepared) (subst (λ s. TypesDiffer (schema_data s)) (sym of_schema) (laws.types_differ texts.schema inputs.weighed.schema held.is_schema.0)) accepted.is_planned.rows
 
+-- both are sent under one alias
+one_free : OneReply → (asked : Asked) (texts : AskedTexts) (a b : Inputs) → HoldInputs asked texts a → HoldInputs asked texts b → (alias other : List ℕ) → IsFreeIn (request_in asked a) alias → IsFreeIn (request_in asked b) other → alias ≡ other
+one_free laws asked texts a b held held_too alias other free free_too =
+    one_alias (names_of_document (map definition_tree b.document.definitions.items)) alias other
+      (subst (λ trees. IsAlias (names_of_document trees) alias) (laws.reading.trees texts.document a.document b.document held.is_document held_too.is_document) free) free_too
+
 -- Whatever holds of both holds of one plan, with one alias and one tree.
 same_of : OneReply → (asked : Asked) (texts : AskedTexts) (a b : Inputs) (p q : Plan) (m n : Cost) (alias other : List ℕ) → HoldInputs asked texts a → HoldInputs asked texts b
     → (accepted : IsAccepted (request_in asked a) p m) (accepted_too : IsAccepted (request_in asked b) q n) → p.schema.now ≡ a.weighed.schema → q.schema.now ≡ b.weighed.schema
@@ -94,8 +101,7 @@ same_of : OneReply → (asked : Asked) (texts : AskedTexts) (a b : Inputs) (p q 
     → IsSame p alias (plan_tree (request_in asked a) accepted.is_planned.prepared) q other (plan_tree (request_in asked b) accepted_too.is_planned.prepared)
 same_of laws asked texts a b p q m n alias other held held_too accepted accepted_too of_schema of_schema_too free free_too = record {
   schema = ap schema_data of_schema_too ∙ (laws.reading.one_schema texts.schema b.weighed.schema a.weighed.schema held_too.is_schema.0 held.is_schema.0 ∙ sym (ap schema_data of_schema));
-  alias = one_alias (names_of_document (map definition_tree b.document.definitions.items)) other alias free_too
-    (subst (λ trees. IsAlias (names_of_document trees) alias) (laws.reading.trees texts.document a.document b.document held.is_document held_too.is_document) free);
+  alias = sym (one_free laws asked texts a b held held_too alias other free free_too);
   tree = laws.one_tree (request_in asked b) (request_in asked a) accepted_too.is_planned.prepared accepted.is_planned.prepared (ask_alike laws.reading asked texts b a held_too held);
   named = named_of laws asked texts a p m held accepted of_schema;
 }
@@ -183,3 +189,12 @@ measured_or_faulty laws asked texts reply metered fault (a, held, (p, m, accepte
     let tree = plan_tree (request_in asked a) accepted.is_planned.prepared in
     let tree_too = plan_tree (request_in asked b) accepted_too.is_planned.prepared in
     told_some fault (subst (Tells fault) (fault_alike p q alias alias_too tree tree_too reply same ∙ no_fault laws p alias tree reply metered same.named measured) first.0) first.1
+
+-- ---- what is sent
+
+pub one_sent : OneReply → ((r q : RequestData) (p : Prepared r) (other : Prepared q) (alias : List ℕ) → AskAlike r q → sent_body r p alias ≡ sent_body q other alias)
+    → (asked : Asked) (texts : AskedTexts) (text other : List ℕ) → IsSent asked texts text → IsSent asked texts other → text ≡ other
+one_sent laws one_body asked texts text other (a, held, (p, m, accepted, (alias, free, is))) (b, held_too, (q, n, accepted_too, (alias_too, free_too, is_too))) =
+    is
+    ∙ (ap (λ x. compact_text (sent_body (request_in asked a) accepted.is_planned.prepared x)) (one_free laws asked texts a b held held_too alias alias_too free free_too)
+    ∙ (ap compact_text (one_body (request_in asked a) (request_in asked b) accepted.is_planned.prepared accepted_too.is_planned.prepared alias_too (ask_alike laws.reading asked texts a b held held_too)) ∙ sym is_too))

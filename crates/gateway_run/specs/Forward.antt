@@ -1,10 +1,11 @@
 -- What a forward command comes to.
 use Rattle.std.specs.Prelude.{◌≡◌, ◌⊎◌, ℕ, List}
+use Rattle.serde_json.specs.Written.{compact_text}
 use Rattle.cost_num.specs.declared.Cost.{Cost}
 use Rattle.plan_table.specs.declared.table.Plan.{Plan}
 use Rattle.command_words.specs.declared.command.Asked.{Asked}
 use Rattle.acceptance.specs.Bounds.{IsAccepted}
-use Rattle.acceptance.specs.Forwarding.{IsFreeIn, IsSentText}
+use Rattle.acceptance.specs.Forwarding.{IsFreeIn, sent_body}
 use Rattle.gateway_run.specs.declared.asked.AskedTexts.{AskedTexts}
 use Rattle.gateway_run.specs.declared.asking.Inputs.{Inputs}
 use Rattle.gateway_run.specs.declared.outcome.Outcome.{Outcome}
@@ -12,11 +13,11 @@ use Rattle.gateway_run.specs.declared.outcome.Outcome.TheVariants.{Memory}
 use Rattle.gateway_run.specs.Outcomes.{FilesTold, IsDone}
 use Rattle.gateway_run.specs.Asked.{HoldTexts, HaveNoTexts, HoldInputs, request_in, IsAskedRefused}
 
--- The operation is accepted, and this text is what is sent for it.
+-- The operation is accepted, and this is the text of the body that is sent for it.
 abbrev pub IsSent : Asked → AskedTexts → List ℕ → Type 0
 IsSent asked texts text = (inputs : Inputs) × HoldInputs asked texts inputs
     × ((plan : Plan) × (bound : Cost) × (accepted : IsAccepted (request_in asked inputs) plan bound)
-    × ((alias : List ℕ) × IsFreeIn (request_in asked inputs) alias × IsSentText (request_in asked inputs) accepted.is_planned.prepared alias text))
+    × ((alias : List ℕ) × IsFreeIn (request_in asked inputs) alias × (text ≡ compact_text (sent_body (request_in asked inputs) accepted.is_planned.prepared alias))))
 
 -- By the texts: what is sent is the output, or the operation is refused, or there was no memory.
 abbrev pub ForwardOf : Asked → AskedTexts → Outcome → Type 0

@@ -26,6 +26,19 @@ pub fn a_refused_operation_has_no_reply()
     a_refused_operation_has_no_price();
 }
 
+/// For an operation of texts one text is sent at most, however often the texts are read.
+pub fn one_text_is_sent()
+    ensures { (asked : Asked) (texts : AskedTexts) (text other : List ℕ) → IsSent asked texts text → IsSent asked texts other → text ≡ other }
+{
+    a_schema_file_has_one_check();
+    a_text_is_one_document();
+    alike_requests_are_answered_alike();
+    built_types_differ();
+    named_tables();
+    one_reply();
+    fault_or_reading();
+}
+
 /// A reply to an operation of texts is measured in one way at most, or has one fault at most, and not both, however often the
 /// texts are read.
 pub fn a_reply_has_one_measure()

@@ -1,0 +1,183 @@
+-- What is coerced holds no float: a float is a fraction, and no type takes one (GraphQL October 2021, 3.5).
+use Rattle.std.proofs.Common.{◌≡◌, ◌∙◌, ℕ, List, [], ◌∷◌, Bool, true, false, ◌||◌, ◌&&◌, Option, Some, None, Ok, Err, bytes_eq, true≢false, refl, sym, ap, subst}
+use Rattle.std.specs.List.{list_all}
+use Rattle.std.proofs.lemmas.Option.{none-some}
+use Rattle.serde_json.specs.Data.{Data, null, boolean, number, string, array, object, unsigned, negative, float, Items, no_items, item, Members, no_members, member}
+use Rattle.serde_json.specs.Find.{get_member}
+use Rattle.serde_json.specs.Written.{has_float, items_have_float, members_have_float}
+use Rattle.input_values.specs.values.Coerced.{CoercedTree, coerced_list, coerced_object, CoercedTrees, CoercedFields, coerced_then, coerced_field_then}
+use Rattle.input_values.specs.inputs.Shapes.{ShapeTree, named_shape, list_shape}
+use Rattle.input_values.specs.coercion.Answers.{Answer, both}
+use Rattle.input_values.specs.coercion.Given.{GivenFields, given_names, is_nothing}
+use Rattle.input_values.specs.coercion.Customs.{any_value, any_items, any_fields}
+use Rattle.input_values.specs.coercion.Forms.{FieldForm, is_field, InputForm, integer_form, string_form, boolean_form, id_form, custom_form, enum_form, object_form, no_form}
+use Rattle.input_values.specs.coercion.Leaves.{custom_at}
+use Rattle.input_values.specs.coercion.Relation.{IsSingle, IsThere, Either, AreFields, NamesAreRight, IsObject, IsCoerced, AreCoerced, IsField}
+use Rattle.input_values.proofs.CoercionLaws.Found.{mapped_ok, no_ok}
+use Rattle.variable_coercion.specs.Json.{json_given, json_items, json_members}
+use Rattle.acceptance.specs.Keys.{HasEachKeyOnce, ItemsHaveEachKeyOnce, MembersHaveEachKeyOnce}
+use Rattle.acceptance.proofs.FoundMembers.{equal_bytes, other_bytes, by_cases, found_here, found_later, another_key}
+
+pub neither : (a b : Bool) → a ≡ false → b ≡ false → (a || b) ≡ false
+neither true b first second = first
+neither false b first second = second
+
+-- ---- at a custom scalar
+
+both_are_ok : {A B C : Type 0} (f : A → B → C) (a : Answer A) (b : Answer B) (t : C) → both f a b ≡ Ok t → (x : A) × (y : B) × (a ≡ Ok x) × (b ≡ Ok y)
+both_are_ok f (Ok x) (Ok y) t is = (x, y, refl, refl)
+both_are_ok f (Ok x) (Err path) t is = no_ok path t is
+both_are_ok f (Err path) b t is = no_ok path t is
+
+mutual
+  any_floatless : (json : Data) (t : CoercedTree) → any_value (json_given json) ≡ Ok t → has_float json ≡ false
+  any_floatless null t is = refl
+  any_floatless (boolean b) t is = refl
+  any_floatless (number (unsigned n)) t is = refl
+  any_floatless (number (negative z)) t is = refl
+  any_floatless (number (float x)) t is = no_ok [] t is
+  any_floatless (string s) t is = refl
+  any_floatless (array items) t is = let m = mapped_ok coerced_list (any_items (json_items items)) t is in any_items_floatless items m.0 m.1
+  any_floatless (object ms) t is = let m = mapped_ok coerced_object (any_fields (json_members ms)) t is in any_members_floatless ms m.0 m.1
+
+  any_items_floatless : (items : Items) (ts : CoercedTrees) → any_items (json_items items) ≡ Ok ts → items_have_float items ≡ false
+  any_items_floatless no_items ts is = refl
+  any_items_floatless (item json others) ts is =
+      let m = both_are_ok coerced_then (any_value (json_given json)) (any_items (json_items others)) ts is in
+      neither (has_float json) (items_have_float others) (any_floatless json m.0 m.2) (any_items_floatless others m.1 m.3)
+
+  any_members_floatless : (ms : Members) (cs : CoercedFields) → any_fields (json_members ms) ≡ Ok cs → members_have_float ms ≡ false
+  any_members_floatless no_members cs is = refl
+  any_members_floatless (member key json others) cs is =
+      let m = both_are_ok (coerced_field_then key) (any_value (json_given json)) (any_fields (json_members others)) cs is in
+      neither (has_float json) (members_have_float others) (any_floatless json m.0 m.2) (any_members_floatless others m.1 m.3)
+
+custom_only : (form : InputForm) (a : Answer CoercedTree) (t : CoercedTree) → custom_at form a ≡ Ok t → a ≡ Ok t
+custom_only custom_form a t is = is
+custom_only integer_form a t is = no_ok [] t is
+custom_only string_form a t is = no_ok [] t is
+custom_only boolean_form a t is = no_ok [] t is
+custom_only id_form a t is = no_ok [] t is
+custom_only (enum_form names) a t is = no_ok [] t is
+custom_only (object_form fields) a t is = no_ok [] t is
+custom_only no_form a t is = no_ok [] t is
+
+-- ---- choices
+
+first_of_either : (test : Bool) (A B : Type 0) → test ≡ true → Either test A B → A
+first_of_either true A B is either = either
+first_of_either false A B is either = absurd (true≢false (sym is))
+
+second_of_either : (test : Bool) (A B : Type 0) → test ≡ false → Either test A B → B
+second_of_either true A B is either = absurd (true≢false is)
+second_of_either false A B is either = either
+
+there : (Is : CoercedTree → Type 0) (o : Option CoercedTree) → IsThere Is o → (t : CoercedTree) × Is t
+there Is None is = absurd is
+there Is (Some t) is = (t, is)
+
+both_true : (a b : Bool) → (a && b) ≡ true → (a ≡ true) × (b ≡ true)
+both_true true b is = (refl, is)
+both_true false b is = absurd (true≢false (sym is))
+
+something : (json : Data) → is_nothing (json_given json) ≡ false
+something null = refl
+something (boolean b) = refl
+something (number (unsigned n)) = refl
+something (number (negative z)) = refl
+something (number (float x)) = refl
+something (string s) = refl
+something (array items) = refl
+something (object ms) = refl
+
+single_only : (P : Type 0) (Is : ℕ → CoercedTree → Type 0) (shape : ShapeTree) (t : CoercedTree) → ((of : ℕ) (u : CoercedTree) → Is of u → P) → IsSingle Is shape t → P
+single_only P Is (named_shape of nullable) t each is = each of t is
+single_only P Is (list_shape inner nullable) t each is = single_only P Is inner is.0 each is.2
+
+-- ---- at an input object
+
+-- a key of members passes a test that all their keys pass
+name_passes : (test : List ℕ → Bool) (key : List ℕ) (d : Data) (ms : Members) → list_all test (given_names (json_members ms)) ≡ true → get_member key ms ≡ Some d → test key ≡ true
+name_passes test key d no_members all some = absurd (none-some d some)
+name_passes test key d (member other json others) all some =
+    let passed = both_true (test other) (list_all test (given_names (json_members others))) all in
+    by_cases key other (test key ≡ true) (λ same. ap test same ∙ passed.0)
+    (λ apart. name_passes test key d others passed.1 (sym (found_later key other json others apart) ∙ some))
+
+module _ (form : ℕ → InputForm) where
+  abbrev HasField : List ℕ → GivenFields → Type 0
+  HasField name fields = (f : FieldForm) × (o : Option CoercedTree) × IsField form name fields f o
+
+  field_of_name : (fields : GivenFields) (name : List ℕ) (inputs : List FieldForm) (cs : CoercedFields) → is_field inputs name ≡ true → AreFields inputs (λ f o. IsField form f.name fields f o) cs → HasField name fields
+  field_of_name fields name [] cs is are = absurd (true≢false (sym is))
+  field_of_name fields name (f ∷ others) cs is are =
+      by_cases f.name name (HasField name fields) (λ same. (f, are.0, subst (λ (n : List ℕ). IsField form n fields f are.0) same are.3))
+      (λ apart. field_of_name fields name others are.1 (ap (λ b. b || is_field others name) (sym (other_bytes f.name name apart)) ∙ is) are.4)
+
+  -- each member is that of a field
+  abbrev AllAreFields : Members → Type 0
+  AllAreFields ms = (key : List ℕ) (d : Data) → get_member key ms ≡ Some d → HasField key (json_members ms)
+
+  object_only : (ms : Members) (x : InputForm) (u : CoercedTree) (P : Type 0)
+      → (AllAreFields ms → P)
+      → (any_value (json_given (object ms)) ≡ Ok u → P)
+      → IsObject x (λ inputs v. NamesAreRight true inputs (given_names (json_members ms)) × (cs : CoercedFields) × (v ≡ coerced_object cs) × AreFields inputs (λ f o. IsField form f.name (json_members ms) f o) cs) (any_value (json_given (object ms))) u
+      → P
+  object_only ms (object_form inputs) u P fields any is =
+      fields (λ key d some. field_of_name (json_members ms) key inputs is.1 (name_passes (is_field inputs) key d ms is.0.0 some) is.3)
+  object_only ms custom_form u P fields any is = any is
+  object_only ms integer_form u P fields any is = absurd is
+  object_only ms string_form u P fields any is = absurd is
+  object_only ms boolean_form u P fields any is = absurd is
+  object_only ms id_form u P fields any is = absurd is
+  object_only ms (enum_form names) u P fields any is = absurd is
+  object_only ms no_form u P fields any is = absurd is
+
+  first_field : (key : List ℕ) (json : Data) (others : Members) (f : FieldForm) (o : Option CoercedTree)
+      → IsField form key (json_members (member key json others)) f o → (t : CoercedTree) × IsCoerced form (json_given json) f.shape t
+  unfolding IsCoerced AreCoerced IsField
+  first_field key json others f o is =
+      there (λ u. IsCoerced form (json_given json) f.shape u) o
+      (second_of_either (is_nothing (json_given json)) _ _ (something json) (first_of_either (bytes_eq key key) _ _ (equal_bytes key) is))
+
+  later_field : (key name : List ℕ) (json : Data) (others : Members) (f : FieldForm) (o : Option CoercedTree) → (key ≡ name → ⊥)
+      → IsField form name (json_members (member key json others)) f o → IsField form name (json_members others) f o
+  unfolding IsCoerced AreCoerced IsField
+  later_field key name json others f o apart is = second_of_either (bytes_eq key name) _ _ (other_bytes key name apart) is
+
+  later_fields : (key : List ℕ) (json : Data) (others : Members) → get_member key others ≡ None → AllAreFields (member key json others) → AllAreFields others
+  later_fields key json others none are = λ name d some.
+      let apart = another_key key name d others none some in
+      let field = are name d (found_later name key json others (λ same. apart (sym same)) ∙ some) in
+      (field.0, field.1, later_field key name json others field.0 field.1 apart field.2)
+
+  mutual
+    unfolding IsCoerced AreCoerced IsField
+
+    pub coerced_floatless : (json : Data) (shape : ShapeTree) (t : CoercedTree) → HasEachKeyOnce json → IsCoerced form (json_given json) shape t → has_float json ≡ false
+    coerced_floatless null shape t once is = refl
+    coerced_floatless (boolean b) shape t once is = refl
+    coerced_floatless (number (unsigned n)) shape t once is = refl
+    coerced_floatless (number (negative z)) shape t once is = refl
+    coerced_floatless (number (float x)) shape t once is = absurd is
+    coerced_floatless (string s) shape t once is = refl
+    coerced_floatless (array items) (named_shape of nullable) t once is = any_floatless (array items) t (custom_only (form of) (any_value (json_given (array items))) t is)
+    coerced_floatless (array items) (list_shape shape nullable) t once is = items_floatless items shape is.0 once is.2
+    coerced_floatless (object ms) shape t once is =
+        single_only (members_have_float ms ≡ false) _ shape t
+        (λ of u h. object_only ms (form of) u (members_have_float ms ≡ false) (members_floatless ms once) (any_floatless (object ms) u) h)
+        is
+
+    items_floatless : (items : Items) (shape : ShapeTree) (ts : CoercedTrees) → ItemsHaveEachKeyOnce items → AreCoerced form (json_items items) shape ts → items_have_float items ≡ false
+    items_floatless no_items shape ts once are = refl
+    items_floatless (item json others) shape ts once are =
+        neither (has_float json) (items_have_float others) (coerced_floatless json shape are.0 once.0 are.3) (items_floatless others shape are.1 once.1 are.4)
+
+    members_floatless : (ms : Members) → MembersHaveEachKeyOnce ms → AllAreFields ms → members_have_float ms ≡ false
+    members_floatless no_members once are = refl
+    members_floatless (member key json others) once are =
+        let field = are key json (found_here key json others) in
+        let first = first_field key json others field.0 field.1 field.2 in
+        neither (has_float json) (members_have_float others)
+        (coerced_floatless json field.0.shape first.0 once.1 first.1)
+        (members_floatless others once.2 (later_fields key json others once.0 are))
