@@ -1,6 +1,8 @@
 -- The operation is accepted, and its reply came to that.
+use Rattle.std.proofs.Common.{subst}
 use Rattle.acceptance.specs.Requests.{plan_tree}
 use Rattle.gateway_run.specs.Asked.{request_in}
+use Rattle.gateway_run.specs.Meter.{MeterOfPlan}
 use Rattle.gateway_run.proofs.Measured.{sound_in}
 use Rattle.gateway_run.proofs.meter.meter_in.Goals as goal
 
@@ -24,8 +26,9 @@ returns-in-Ok-forwarded_in-clause-accepted c =
         (
           c.in-Ok-forwarded_in.forwarded.alias,
           c.in-Ok-forwarded_in.ensures.alias,
-          c.meter_plan.ensures (plan_tree (request_in c.args.asked.now c.in-Ok.inputs) accepted.is_planned.prepared)
-            (sound_in c.args.asked.now c.in-Ok.inputs c.in-Ok-accepted.accepted.plan c.in-Ok-accepted.accepted.bound accepted c.in-Ok-accepted.ensures.schema),
+          subst (λ alias. MeterOfPlan c.in-Ok-accepted.accepted.plan alias (plan_tree (request_in c.args.asked.now c.in-Ok.inputs) accepted.is_planned.prepared) c.args.reply.now c.meter_plan.result) c.as_str.ensures
+            (c.meter_plan.ensures (plan_tree (request_in c.args.asked.now c.in-Ok.inputs) accepted.is_planned.prepared)
+              (sound_in c.args.asked.now c.in-Ok.inputs c.in-Ok-accepted.accepted.plan c.in-Ok-accepted.accepted.bound accepted c.in-Ok-accepted.ensures.schema)),
         ),
       ),
     )

@@ -1,6 +1,5 @@
 -- What is measured is within the cap.
 use Rattle.std.proofs.Common.{inl, inr}
-use Rattle.response_meter.specs.declared.fault.MeterFault.TheVariants.{NotResponse, SizeBroken}
 use Rattle.gateway_run.proofs.Measured.{types_within, fields_within}
 use Rattle.gateway_run.proofs.meter.meter_plan.Goals as goal
 
@@ -16,10 +15,3 @@ measured-requires-clause-fields_within c =
 
 pub returns-in-Ok : goal.returns-in-Ok
 returns-in-Ok c = λ tree held. inr (inl (c.in-Ok.metered, c.in-Ok.ensures.metered tree held, c.measured.ensures))
-
-pub returns-in-NotResponse : goal.returns-in-NotResponse
-returns-in-NotResponse c = λ tree held. inr (inr (NotResponse c.in-NotResponse.path c.in-NotResponse.why, (c.in-NotResponse.ensures.fault tree held, λ same. cc), c.no_response.ensures))
-
-pub returns-in-SizeBroken : goal.returns-in-SizeBroken
-returns-in-SizeBroken c =
-    λ tree held. inr (inr (SizeBroken c.in-SizeBroken.path c.in-SizeBroken.size c.in-SizeBroken.length, (c.in-SizeBroken.ensures.fault tree held, λ same. cc), c.size_broken.ensures))
