@@ -10,7 +10,7 @@ returns c = one_sent record {
     offsets = c.a_text_is_one_document.ensures.places;
   };
   one_tree = c.alike_requests_are_answered_alike.ensures.one_plan;
-  types_differ = λ bytes schema held. c.built_types_differ.ensures held.0 schema held.2;
+  types_differ = λ bytes schema held. c.types_of_built_schemas_differ.ensures.differ held.0 schema held.2;
   named = c.named_tables.ensures;
   one_reply = c.one_reply.ensures;
   passes = c.fault_or_reading.ensures.passes;
