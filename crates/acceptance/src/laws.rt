@@ -1,13 +1,9 @@
 //! What holds of all requests. These functions do nothing: their contracts are the laws.
 
-<<<<<<< HEAD
-ghost use Rattle.std.specs.Prelude.{◌≡◌, ◌⊎◌, ℕ, List};
-=======
 ghost use Rattle.std.specs.Prelude.{◌≡◌, ◌⊎◌, ℕ, List, Some, false};
 ghost use Rattle.serde_json.specs.Data.{Data};
 ghost use Rattle.serde_json.specs.Read.{read};
 ghost use Rattle.serde_json.specs.Written.{has_float};
->>>>>>> 12ebb6220d9298905c467241a11c423755aac094
 ghost use Rattle.cost_num.specs.declared.Cost.{Cost as CostType};
 ghost use Rattle.plan_table.specs.declared.table.Plan.{Plan as PlanType};
 ghost use Rattle.acceptance.specs.declared.fault.Refusal.{Refusal};
@@ -15,12 +11,8 @@ ghost use Rattle.acceptance.specs.Requests.{RequestData, IsOfSchema, Prepared, p
 ghost use Rattle.acceptance.specs.Bounds.{IsAffordable, IsAccepted};
 ghost use Rattle.acceptance.specs.Refusals.{IsRefusedFor};
 ghost use Rattle.acceptance.specs.AskAlike.{AskAlike};
-<<<<<<< HEAD
-ghost use Rattle.acceptance.specs.Forwarding.{sent_body};
-=======
 ghost use Rattle.acceptance.specs.Keys.{HasEachKeyOnce};
 ghost use Rattle.acceptance.specs.Forwarding.{sent_body, IsSentText};
->>>>>>> 12ebb6220d9298905c467241a11c423755aac094
 
 use plan_model::laws::{operations_planned_well, responses_of_a_plan};
 use response_model::laws::{greatest_is_bound, one_bound};

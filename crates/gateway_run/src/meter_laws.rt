@@ -15,7 +15,9 @@ use crate::check_laws::a_schema_file_has_one_check;
 use crate::price_laws::a_refused_operation_has_no_price;
 use acceptance::alike_requests_are_answered_alike;
 use document_reader::a_text_is_one_document;
-use response_meter::laws::{types_of_built_schemas_differ, fault_or_reading, named_tables, one_reply};
+use response_meter::laws::{
+    fault_or_reading, named_tables, one_reply, types_of_built_schemas_differ,
+};
 
 /// For an operation that is refused nothing is sent, and a reply to it isn't measured and has no fault.
 pub fn a_refused_operation_has_no_reply()

@@ -224,7 +224,13 @@ fn filled(alloc: Global, text: &str, length: usize) -> Result<Vec<u8>, Fail> {
 fn files_of_their_limits_are_taken(rt: HostRuntime) -> Result<(), Fail> {
     for (schema, document, reply, status, err) in [
         (4_194_304, 262_144, 4_194_304, 0, ""),
-        (4_194_305, 262_145, 4_194_305, 1, "input 1 TooLarge schema\n"),
+        (
+            4_194_305,
+            262_145,
+            4_194_305,
+            1,
+            "input 1 TooLarge schema\n",
+        ),
         (100, 262_145, 4_194_305, 1, "input 1 TooLarge document\n"),
         (100, 100, 4_194_305, 1, "input 1 TooLarge reply\n"),
     ] {

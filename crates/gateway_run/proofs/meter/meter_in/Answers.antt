@@ -27,7 +27,7 @@ returns-in-Ok-forwarded_in-clause-accepted c =
           c.in-Ok-forwarded_in.forwarded.alias,
           c.in-Ok-forwarded_in.ensures.alias,
           subst (λ alias. MeterOfPlan c.in-Ok-accepted.accepted.plan alias (plan_tree (request_in c.args.asked.now c.in-Ok.inputs) accepted.is_planned.prepared) c.args.reply.now c.meter_plan.result) c.as_str.ensures
-            (c.meter_plan.ensures (plan_tree (request_in c.args.asked.now c.in-Ok.inputs) accepted.is_planned.prepared)
+              (c.meter_plan.ensures (plan_tree (request_in c.args.asked.now c.in-Ok.inputs) accepted.is_planned.prepared)
               (sound_in c.args.asked.now c.in-Ok.inputs c.in-Ok-accepted.accepted.plan c.in-Ok-accepted.accepted.bound accepted c.in-Ok-accepted.ensures.schema)),
         ),
       ),
