@@ -4,13 +4,14 @@ use Rattle.std.specs.Prelude.{slice_get, option_map, is_some, not, ◌&&◌}
 use Rattle.std.proofs.lemmas.Option.{same_Some, slice_get-map}
 use Rattle.gql_base.specs.declared.parts.trees.OperationKind.{OperationKind}
 use Rattle.gql_base.specs.declared.parts.trees.OperationKind.TheVariants.{Query}
+use Rattle.gql_base.specs.ways.Reading.{Identifier}
 use Rattle.gql_base.specs.parts.Arguments.{DirectiveTree}
 use Rattle.gql_base.specs.parts.Trees.{directive_tree}
 use Rattle.document_reader.specs.declared.trees.Operation.{Operation}
 use Rattle.document_reader.specs.declared.trees.Fragment.{Fragment}
 use Rattle.document_reader.specs.declared.trees.Definition.{Definition}
 use Rattle.document_reader.specs.Documents.{SelectionTrees, VariableTree, DefinitionTree, operation_tree, fragment_tree}
-use Rattle.document_reader.specs.Trees.{variable_tree, set_tree, definition_tree}
+use Rattle.document_reader.specs.Trees.{maybe_identifier, variable_tree, set_tree, definition_tree}
 use Rattle.serde_json.specs.Data.{Data}
 use Rattle.input_values.specs.coercion.Literals.{Environment}
 use Rattle.schema_rules.specs.First.{or_else, told}
@@ -34,6 +35,10 @@ abbrev kind_in : DefinitionTree → OperationKind
 kind_in (operation_tree kind name variables directives below) = kind
 kind_in (fragment_tree name on directives below) = Query
 
+abbrev named_in : DefinitionTree → Option Identifier
+named_in (operation_tree kind name variables directives below) = name
+named_in (fragment_tree name on directives below) = None
+
 abbrev variables_in : DefinitionTree → List VariableTree
 variables_in (operation_tree kind name variables directives below) = variables
 variables_in (fragment_tree name on directives below) = []
@@ -49,6 +54,7 @@ below_in (fragment_tree name on directives below) = below
 -- Their trees and their offsets are the same.
 pub record AreAlike (o p : Operation) : Type 0 where
   pub kind : o.kind ≡ p.kind
+  pub name : maybe_identifier o.name ≡ maybe_identifier p.name
   pub variables : map variable_tree o.variables.items ≡ map variable_tree p.variables.items
   pub directives : map directive_tree o.directives.items ≡ map directive_tree p.directives.items
   pub below : set_tree o.selections.items ≡ set_tree p.selections.items
@@ -57,6 +63,7 @@ pub record AreAlike (o p : Operation) : Type 0 where
 pub parts_alike : (o p : Operation) → seen_of o ≡ seen_of p → AreAlike o p
 parts_alike o p same = record {
   kind = ap (λ (s : Seen). kind_in s.0) same;
+  name = ap (λ (s : Seen). named_in s.0) same;
   variables = ap (λ (s : Seen). variables_in s.0) same;
   directives = ap (λ (s : Seen). directives_in s.0) same;
   below = ap (λ (s : Seen). below_in s.0) same;

@@ -46,23 +46,23 @@ module _ (r q : RequestData) (alike : AskAlike r q) where
   breach_alike : (o p : Operation) → AreAlike o p → first_broken r.schema r.document o ≡ first_broken q.schema q.document p
   breach_alike o p same = ap (λ s. first_broken s r.document o) alike.schema ∙ broken_alike q.schema r.document q.document o p documents_alike alike.trees same
 
-  kept_alike : (o : Operation) → KeepsRules r o → (p : Operation) × KeepsRules q p × AreAlike o p
+  pub kept_alike : (o : Operation) → KeepsRules r o → (p : Operation) × KeepsRules q p × AreAlike o p
   kept_alike o keeps =
       let asked = asked_alike o keeps.0 in
       (asked.0, (asked.1, sym (breach_alike o asked.0 asked.2) ∙ keeps.1), asked.2)
 
-  answer_alike : (o p : Operation) → AreAlike o p → variables_answer r.schema o.variables.items r.given ≡ variables_answer q.schema p.variables.items q.given
+  pub answer_alike : (o p : Operation) → AreAlike o p → variables_answer r.schema o.variables.items r.given ≡ variables_answer q.schema p.variables.items q.given
   answer_alike o p same = ap₂ (λ s given. variables_answer s o.variables.items given) alike.schema alike.given ∙ values_alike q.schema q.given o p same
 
 -- ---- what is planned
 
 -- By what an operation is planned: the setting, the type on which its selections are written, and these.
-record Planning : Type 0 where
-  setting : Setting
-  root : ℕ
-  position : Position
+pub record Planning : Type 0 where
+  pub setting : Setting
+  pub root : ℕ
+  pub position : Position
 
-abbrev planning : (r : RequestData) → Prepared r → Planning
+abbrev pub planning : (r : RequestData) → Prepared r → Planning
 planning r p = record { setting = setting r p; root = p.root; position = root_position p.root p.operation }
 
 abbrev answer_by : Planning → PlanAnswer
@@ -78,7 +78,7 @@ abbrev ExceedsBy : Part → Planning → Type 0
 ExceedsBy part x = (t : Tree) × IsResponseTo x.setting (root_place x.root) x.position t × (CAP < response_cost x.setting part (root_place x.root) x.position t)
 
 module _ (r q : RequestData) (alike : AskAlike r q) (p : Prepared r) where
-  abbrev other : Prepared q
+  abbrev pub other : Prepared q
   other =
       let kept = kept_alike r q alike p.operation p.keeps in
       record {
@@ -90,7 +90,7 @@ module _ (r q : RequestData) (alike : AskAlike r q) (p : Prepared r) where
         are_values = sym (answer_alike r q alike p.operation kept.0 kept.2) ∙ p.are_values;
       }
 
-  planned_alike : planning r p ≡ planning q other
+  pub planned_alike : planning r p ≡ planning q other
   planned_alike =
       let kept = kept_alike r q alike p.operation p.keeps in
       ap₂ (λ e position. record { setting = e; root = p.root; position = position })

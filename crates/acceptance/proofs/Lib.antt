@@ -10,4 +10,5 @@ mod SentBodies
 mod AlikeDocuments
 mod AlikeOperations
 mod AlikeRequests
+mod AlikeBodies
 mod HasVerdict

@@ -30,11 +30,12 @@ pub fn a_request_has_one_verdict()
 {}
 
 /// Of two requests that ask the same, where one is accepted, the other is, with the same plan and the same bound; where one
-/// is refused, the other is, for the same reason.
+/// is refused, the other is, for the same reason. The same body is sent for both.
 pub fn alike_requests_are_answered_alike()
     ensures accepted { (r q : RequestData) (plan : PlanType) (bound : CostType) → AskAlike r q → IsAccepted r plan bound → IsAccepted q plan bound }
     ensures refused { (r q : RequestData) (refusal : Refusal) → AskAlike r q → IsRefusedFor r refusal → IsRefusedFor q refusal }
     ensures one_plan { (r q : RequestData) (p : Prepared r) (other : Prepared q) → AskAlike r q → plan_tree r p ≡ plan_tree q other }
+    ensures one_body { (r q : RequestData) (p : Prepared r) (other : Prepared q) (alias : List ℕ) → AskAlike r q → sent_body r p alias ≡ sent_body q other alias }
 {}
 
 /// So one of them isn't accepted where the other is refused, both are accepted with one bound, and both are refused in one way,

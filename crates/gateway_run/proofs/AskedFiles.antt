@@ -1,12 +1,14 @@
 -- Files that are read one after another.
-use Rattle.std.proofs.Common.{◌≡◌, ◌≤◌, ◌<◌, ◌⊎◌, inl, inr, ℕ, List, Option, None, Some, subst, arith}
+use Rattle.std.proofs.Common.{◌≡◌, ◌≤◌, ◌<◌, ◌⊎◌, inl, inr, ℕ, List, length, Option, None, Some, subst, arith}
 use Rattle.outside.specs.Faults.{Rose}
 use Rattle.gateway_run.specs.declared.outcome.Outcome.{Outcome}
 use Rattle.gateway_run.specs.declared.outcome.Outcome.TheVariants.{Done, Refused, FileFailed, Faulty, Usage, Memory}
-use Rattle.gateway_run.specs.declared.limits.TheConstants.{VARIABLES_LIMIT}
-use Rattle.gateway_run.specs.Outcomes.{FilesTold, files_told, IsStopped}
+use Rattle.gateway_run.specs.declared.limits.TheConstants.{VARIABLES_LIMIT, REPLY_LIMIT}
+use Rattle.gateway_run.specs.Texts.{too_large_text}
+use Rattle.gateway_run.specs.Outcomes.{FilesTold, files_told, IsStopped, IsRefusedAs}
 use Rattle.gateway_run.specs.Reading.{IsRead, IsTextOf, IsNoText, HasNoText}
 use Rattle.gateway_run.specs.Asked.{HoldsText, HasNoVariables}
+use Rattle.gateway_run.specs.Meter.{IsReply, HasNoReply}
 
 pub le_then : (a b d : ℕ) → a ≤ b → b ≤ d → a ≤ d
 le_then a b d p q = omega (arith, p, q)
@@ -39,3 +41,11 @@ module _ (content later : List ℕ → Option (List ℕ)) (before at after : Lis
 
   pub holds_sooner : (limit : ℕ) (name text : List ℕ) → IsTextOf limit (later name) text → HoldsText limit (content name)
   holds_sooner limit name text held = (text, text_sooner limit name text held)
+
+  pub no_reply_sooner : (name : List ℕ) (outcome : Outcome) → HasNoReply name (files_told later at after) outcome → HasNoReply name (files_told content before after) outcome
+  no_reply_sooner name outcome (inl stopped) = inl (stopped_sooner (λ other. other ≡ name) outcome stopped)
+  no_reply_sooner name outcome (inr large) = inr (subst (λ c. (bytes : List ℕ) × IsRead REPLY_LIMIT (c name) bytes × (REPLY_LIMIT < length bytes) × IsRefusedAs (too_large_text name) outcome) same large)
+
+-- a reply that was read after another file
+pub reply_sooner : (content later : List ℕ → Option (List ℕ)) → later ≡ content → (name bytes : List ℕ) → IsReply (later name) bytes → IsReply (content name) bytes
+reply_sooner content later same name bytes held = subst (λ c. IsReply (c name) bytes) same held

@@ -4,6 +4,7 @@ use Rattle.std.proofs.lemmas.Bool.{cases_lt}
 use Rattle.std.proofs.lemmas.Option.{none-some}
 use Rattle.cost_num.specs.declared.Cost.{Cost}
 use Rattle.serde_json.specs.Data.{Data}
+use Rattle.serde_json.specs.Written.{compact_text}
 use Rattle.response_model.specs.Plan.{Plan as PlanTree}
 use Rattle.response_model.specs.Response.{Tree}
 use Rattle.response_model.specs.Cost.{types, fields}
@@ -22,14 +23,14 @@ use Rattle.static_cost.specs.TableBound.{holds_in}
 use Rattle.command_words.specs.declared.command.Asked.{Asked}
 use Rattle.acceptance.specs.Requests.{RequestData, Prepared, plan_tree}
 use Rattle.acceptance.specs.Bounds.{IsAccepted}
-use Rattle.acceptance.specs.Forwarding.{IsFreeIn}
+use Rattle.acceptance.specs.Forwarding.{IsFreeIn, sent_body}
 use Rattle.acceptance.specs.AskAlike.{AskAlike}
 use Rattle.response_meter.specs.declared.metered.Metered.{Metered}
 use Rattle.response_meter.specs.declared.fault.MeterFault.{MeterFault}
 use Rattle.response_meter.specs.declared.fault.MeterFault.TheVariants.{NotResponse, SizeBroken, Memory as MeterMemory}
 use Rattle.response_meter.specs.Faults.{Fault, not_response, size_broken, Tells}
 use Rattle.response_meter.specs.FirstFault.{AreNamed}
-use Rattle.response_meter.specs.Reply.{ReplyReads, IsResponseOrNone, IsReadable, first_fault, reply_cost}
+use Rattle.response_meter.specs.Reply.{ReplyReads, IsResponseOrNone, ReadsOnce, PassesWhereReadable, first_fault, reply_cost}
 use Rattle.response_meter.specs.Metered.{name_in, TypesDiffer, first_fault_in, IsMetered}
 use Rattle.gateway_run.specs.declared.asked.AskedTexts.{AskedTexts}
 use Rattle.gateway_run.specs.declared.asking.Inputs.{Inputs}
@@ -79,13 +80,19 @@ pub record OneReply : Type 0 where
   pub one_tree : (r q : RequestData) (p : Prepared r) (other : Prepared q) → AskAlike r q → plan_tree r p ≡ plan_tree q other
   pub types_differ : (bytes : List ℕ) (schema : Schema) → HoldsChecked bytes schema → TypesDiffer (schema_data schema)
   pub named : (table : Plan) (tree : PlanTree) → TypesDiffer (setting_in table).schema → HasRows table tree → AreNamed (name_in table) tree
-  pub one_reply : (name : ℕ → List ℕ) (alias : List ℕ) (plan : PlanTree) (bytes : List ℕ) (t s : Option Tree) (es fs : List ResponseError) → AreNamed name plan → ReplyReads name alias plan bytes t es → ReplyReads name alias plan bytes s fs → (t ≡ s) × (es ≡ fs)
-  pub passes : (holds : ℕ → Data → Bool) (name : ℕ → List ℕ) (alias : List ℕ) (plan : PlanTree) (bytes : List ℕ) → AreNamed name plan → ((first_fault holds name alias plan bytes ≡ None) ↔ IsReadable holds name alias plan bytes)
+  pub one_reply : (name : ℕ → List ℕ) (alias : List ℕ) (plan : PlanTree) (bytes : List ℕ) → AreNamed name plan → ReadsOnce name alias plan bytes
+  pub passes : (holds : ℕ → Data → Bool) (name : ℕ → List ℕ) (alias : List ℕ) (plan : PlanTree) (bytes : List ℕ) → AreNamed name plan → PassesWhereReadable holds name alias plan bytes
 
 named_of : OneReply → (asked : Asked) (texts : AskedTexts) (inputs : Inputs) (plan : Plan) (bound : Cost) → HoldInputs asked texts inputs → (accepted : IsAccepted (request_in asked inputs) plan bound) → plan.schema.now ≡ inputs.weighed.schema
     → AreNamed (name_in plan) (plan_tree (request_in asked inputs) accepted.is_planned.prepared)
 named_of laws asked texts inputs plan bound held accepted of_schema =
     laws.named plan (plan_tree (request_in asked inputs) accepted.is_planned.prepared) (subst (λ s. TypesDiffer (schema_data s)) (sym of_schema) (laws.types_differ texts.schema inputs.weighed.schema held.is_schema.0)) accepted.is_planned.rows
+
+-- both are sent under one alias
+one_free : OneReply → (asked : Asked) (texts : AskedTexts) (a b : Inputs) → HoldInputs asked texts a → HoldInputs asked texts b → (alias other : List ℕ) → IsFreeIn (request_in asked a) alias → IsFreeIn (request_in asked b) other → alias ≡ other
+one_free laws asked texts a b held held_too alias other free free_too =
+    one_alias (names_of_document (map definition_tree b.document.definitions.items)) alias other
+    (subst (λ trees. IsAlias (names_of_document trees) alias) (laws.reading.trees texts.document a.document b.document held.is_document held_too.is_document) free) free_too
 
 -- Whatever holds of both holds of one plan, with one alias and one tree.
 same_of : OneReply → (asked : Asked) (texts : AskedTexts) (a b : Inputs) (p q : Plan) (m n : Cost) (alias other : List ℕ) → HoldInputs asked texts a → HoldInputs asked texts b
@@ -94,8 +101,7 @@ same_of : OneReply → (asked : Asked) (texts : AskedTexts) (a b : Inputs) (p q 
     → IsSame p alias (plan_tree (request_in asked a) accepted.is_planned.prepared) q other (plan_tree (request_in asked b) accepted_too.is_planned.prepared)
 same_of laws asked texts a b p q m n alias other held held_too accepted accepted_too of_schema of_schema_too free free_too = record {
   schema = ap schema_data of_schema_too ∙ (laws.reading.one_schema texts.schema b.weighed.schema a.weighed.schema held_too.is_schema.0 held.is_schema.0 ∙ sym (ap schema_data of_schema));
-  alias = one_alias (names_of_document (map definition_tree b.document.definitions.items)) other alias free_too
-    (subst (λ trees. IsAlias (names_of_document trees) alias) (laws.reading.trees texts.document a.document b.document held.is_document held_too.is_document) free);
+  alias = sym (one_free laws asked texts a b held held_too alias other free free_too);
   tree = laws.one_tree (request_in asked b) (request_in asked a) accepted_too.is_planned.prepared accepted.is_planned.prepared (ask_alike laws.reading asked texts b a held_too held);
   named = named_of laws asked texts a p m held accepted of_schema;
 }
@@ -137,9 +143,9 @@ same_parts m n ts fs texts = ap (λ t. made t m.cost.fields m.text) ts ∙ (ap (
 
 measured_once : OneReply → (p : Plan) (alias : List ℕ) (tree : PlanTree) (bytes : List ℕ) (m n : Metered) → AreNamed (name_in p) tree → IsMetered p alias tree bytes m → IsMetered p alias tree bytes n → m ≡ n
 measured_once laws p alias tree bytes m n named a b =
-    let same = laws.one_reply (name_in p) alias tree bytes a.content b.content a.errors b.errors named a.reads b.reads in
+    let same = laws.one_reply (name_in p) alias tree bytes named a.content b.content a.errors b.errors a.reads b.reads in
     same_parts m n (a.types_cost ∙ (ap (reply_cost types tree) same.0 ∙ sym b.types_cost)) (a.fields_cost ∙ (ap (reply_cost fields tree) same.0 ∙ sym b.fields_cost))
-      (a.text ∙ (ap (λ content. response_text content a.errors) same.0 ∙ (ap (response_text b.content) same.1 ∙ sym b.text)))
+    (a.text ∙ (ap (λ content. response_text content a.errors) same.0 ∙ (ap (response_text b.content) same.1 ∙ sym b.text)))
 
 -- the fault that an answer tells of the first test that doesn't pass
 abbrev told_by : Option Fault → MeterFault
@@ -167,7 +173,7 @@ pub one_measure : OneReply → (asked : Asked) (texts : AskedTexts) (reply : Lis
 one_measure laws asked texts reply metered other (a, held, (p, m, accepted, of_schema, (alias, free, measured))) (b, held_too, (q, n, accepted_too, of_schema_too, (alias_too, free_too, measured_too))) =
     let same = same_of laws asked texts a b p q m n alias alias_too held held_too accepted accepted_too of_schema of_schema_too free free_too in
     measured_once laws p alias (plan_tree (request_in asked a) accepted.is_planned.prepared) reply metered other same.named measured
-      (measured_alike p q alias alias_too (plan_tree (request_in asked a) accepted.is_planned.prepared) (plan_tree (request_in asked b) accepted_too.is_planned.prepared) reply other same measured_too)
+    (measured_alike p q alias alias_too (plan_tree (request_in asked a) accepted.is_planned.prepared) (plan_tree (request_in asked b) accepted_too.is_planned.prepared) reply other same measured_too)
 
 pub one_fault : OneReply → (asked : Asked) (texts : AskedTexts) (reply : List ℕ) (fault other : MeterFault) → HasReplyFault asked texts reply fault → HasReplyFault asked texts reply other → fault ≡ other
 one_fault laws asked texts reply fault other (a, held, (p, m, accepted, of_schema, (alias, free, first))) (b, held_too, (q, n, accepted_too, of_schema_too, (alias_too, free_too, first_too))) =
@@ -183,3 +189,12 @@ measured_or_faulty laws asked texts reply metered fault (a, held, (p, m, accepte
     let tree = plan_tree (request_in asked a) accepted.is_planned.prepared in
     let tree_too = plan_tree (request_in asked b) accepted_too.is_planned.prepared in
     told_some fault (subst (Tells fault) (fault_alike p q alias alias_too tree tree_too reply same ∙ no_fault laws p alias tree reply metered same.named measured) first.0) first.1
+
+-- ---- what is sent
+
+pub one_sent : OneReply → ((r q : RequestData) (p : Prepared r) (other : Prepared q) (alias : List ℕ) → AskAlike r q → sent_body r p alias ≡ sent_body q other alias)
+    → (asked : Asked) (texts : AskedTexts) (text other : List ℕ) → IsSent asked texts text → IsSent asked texts other → text ≡ other
+one_sent laws one_body asked texts text other (a, held, (p, m, accepted, (alias, free, is))) (b, held_too, (q, n, accepted_too, (alias_too, free_too, is_too))) =
+    is
+    ∙ (ap (λ x. compact_text (sent_body (request_in asked a) accepted.is_planned.prepared x)) (one_free laws asked texts a b held held_too alias alias_too free free_too)
+    ∙ (ap compact_text (one_body (request_in asked a) (request_in asked b) accepted.is_planned.prepared accepted_too.is_planned.prepared alias_too (ask_alike laws.reading asked texts a b held held_too)) ∙ sym is_too))

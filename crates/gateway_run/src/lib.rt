@@ -28,7 +28,7 @@ mod worst;
 
 pub use check_laws::a_schema_file_has_one_check;
 pub use command_words::WordsFault;
-pub use meter_laws::{a_refused_operation_has_no_reply, a_reply_has_one_measure};
+pub use meter_laws::{a_refused_operation_has_no_reply, a_reply_has_one_measure, one_text_is_sent};
 pub use outcome::{
     DONE, FILE_FAILED, NO_MEMORY, NOT_RESPONSE, REFUSED, SIZE_BROKEN, STREAM_FAILED, USAGE,
 };

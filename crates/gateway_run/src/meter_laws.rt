@@ -15,7 +15,9 @@ use crate::check_laws::a_schema_file_has_one_check;
 use crate::price_laws::a_refused_operation_has_no_price;
 use acceptance::alike_requests_are_answered_alike;
 use document_reader::a_text_is_one_document;
-use response_meter::laws::{built_types_differ, fault_or_reading, named_tables, one_reply};
+use response_meter::laws::{
+    fault_or_reading, named_tables, one_reply, types_of_built_schemas_differ,
+};
 
 /// For an operation that is refused nothing is sent, and a reply to it isn't measured and has no fault.
 pub fn a_refused_operation_has_no_reply()
@@ -24,6 +26,19 @@ pub fn a_refused_operation_has_no_reply()
     ensures faulty { (asked : Asked) (texts : AskedTexts) (reply : List ℕ) (fault : MeterFault) (refusal : AskedRefusal) → IsRefusalOf asked texts refusal → HasReplyFault asked texts reply fault → ⊥ }
 {
     a_refused_operation_has_no_price();
+}
+
+/// For an operation of texts one text is sent at most, however often the texts are read.
+pub fn one_text_is_sent()
+    ensures { (asked : Asked) (texts : AskedTexts) (text other : List ℕ) → IsSent asked texts text → IsSent asked texts other → text ≡ other }
+{
+    a_schema_file_has_one_check();
+    a_text_is_one_document();
+    alike_requests_are_answered_alike();
+    types_of_built_schemas_differ();
+    named_tables();
+    one_reply();
+    fault_or_reading();
 }
 
 /// A reply to an operation of texts is measured in one way at most, or has one fault at most, and not both, however often the
@@ -36,7 +51,7 @@ pub fn a_reply_has_one_measure()
     a_schema_file_has_one_check();
     a_text_is_one_document();
     alike_requests_are_answered_alike();
-    built_types_differ();
+    types_of_built_schemas_differ();
     named_tables();
     one_reply();
     fault_or_reading();

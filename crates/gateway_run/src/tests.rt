@@ -226,13 +226,13 @@ fn files_of_their_limits_are_taken(rt: HostRuntime) -> Result<(), Fail> {
         (4_194_304, 262_144, 4_194_304, 0, ""),
         (
             4_194_305,
-            262_144,
-            4_194_304,
+            262_145,
+            4_194_305,
             1,
-            "first 1 NotBuilt schema\n",
+            "input 1 TooLarge schema\n",
         ),
-        (100, 262_145, 4_194_304, 1, "first 1 NotBuilt document\n"),
-        (4_194_305, 262_145, 4_194_305, 1, "input 1 TooLarge reply\n"),
+        (100, 262_145, 4_194_305, 1, "input 1 TooLarge document\n"),
+        (100, 100, 4_194_305, 1, "input 1 TooLarge reply\n"),
     ] {
         let alloc = rt.alloc();
         let schema = filled(alloc, SCHEMA, schema)?;

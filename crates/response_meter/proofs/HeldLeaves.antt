@@ -1,5 +1,6 @@
 -- What leaves hold has whole numbers alone.
-use Rattle.std.proofs.Common.{◌≡◌, ℕ, List, Bool, true, false, true≢false, not, Some, refl, sym, ap, ◌∙◌}
+use Rattle.std.proofs.Common.{◌≡◌, ℕ, List, Bool, true, false, true≢false, Some, refl, sym, ap, ◌∙◌}
+use Rattle.std.proofs.lemmas.Bool.{not-true}
 use Rattle.serde_json.specs.Data.{Data, null, boolean, number, string, array, object, unsigned, negative, float}
 use Rattle.serde_json.specs.Written.{has_float, items_have_float, members_have_float}
 use Rattle.input_values.specs.coercion.Kinds.{scalar_kind}
@@ -10,10 +11,6 @@ use Rattle.schema_rules.specs.declared.kind.Kind.TheVariants.{Scalar, Object, In
 use Rattle.schema_model.specs.SchemaData.{TypeData, SchemaData, type_at}
 use Rattle.plan_model.specs.SelectedFields.{scalar_holds, enum_holds, holds_by, holds}
 use Rattle.response_meter.specs.FirstFault.{is_text}
-
-is_not : (b : Bool) → not b ≡ true → b ≡ false
-is_not true h = absurd (true≢false (sym h))
-is_not false h = refl
 
 scalar_whole : (kind : InputKind) (d : Data) → scalar_holds kind d ≡ true → has_float d ≡ false
 scalar_whole kind null h = refl
@@ -33,7 +30,7 @@ scalar_whole Int (array ds) h = absurd (true≢false (sym h))
 scalar_whole String (array ds) h = absurd (true≢false (sym h))
 scalar_whole Boolean (array ds) h = absurd (true≢false (sym h))
 scalar_whole Id (array ds) h = absurd (true≢false (sym h))
-scalar_whole Custom (array ds) h = is_not (items_have_float ds) h
+scalar_whole Custom (array ds) h = not-true (items_have_float ds) h
 scalar_whole EnumInput (array ds) h = absurd (true≢false (sym h))
 scalar_whole ObjectInput (array ds) h = absurd (true≢false (sym h))
 scalar_whole NoInput (array ds) h = absurd (true≢false (sym h))
@@ -41,7 +38,7 @@ scalar_whole Int (object ms) h = absurd (true≢false (sym h))
 scalar_whole String (object ms) h = absurd (true≢false (sym h))
 scalar_whole Boolean (object ms) h = absurd (true≢false (sym h))
 scalar_whole Id (object ms) h = absurd (true≢false (sym h))
-scalar_whole Custom (object ms) h = is_not (members_have_float ms) h
+scalar_whole Custom (object ms) h = not-true (members_have_float ms) h
 scalar_whole EnumInput (object ms) h = absurd (true≢false (sym h))
 scalar_whole ObjectInput (object ms) h = absurd (true≢false (sym h))
 scalar_whole NoInput (object ms) h = absurd (true≢false (sym h))

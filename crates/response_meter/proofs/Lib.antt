@@ -1,3 +1,4 @@
+pub mod BuiltNames
 pub mod Depths
 pub mod Elements
 pub mod ErrorFaults

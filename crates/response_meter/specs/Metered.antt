@@ -1,5 +1,6 @@
 -- What is measured of a reply to an operation of a plan.
-use Rattle.std.specs.Prelude.{◌≡◌, ◌<◌, ℕ, List, length, Option}
+use Rattle.std.specs.Prelude.{◌≡◌, ◌<◌, ◌≤◌, ℕ, List, length, Option}
+use Rattle.cost_num.specs.declared.Cost.{Cost}
 use Rattle.schema_model.specs.SchemaData.{SchemaData, type_at}
 use Rattle.response_model.specs.Plan.{Plan as PlanTree}
 use Rattle.response_model.specs.Response.{Tree}
@@ -39,3 +40,7 @@ pub record IsMetered (p : Plan) (alias : List ℕ) (tree : PlanTree) (bytes : Li
   pub types_cost : metered.cost.types ≡ reply_cost types tree content
   pub fields_cost : metered.cost.fields ≡ reply_cost fields tree content
   pub text : metered.text ≡ response_text content errors
+
+-- Neither component is more than that of the other cost.
+abbrev pub IsAtMost : Cost → Cost → Type 0
+IsAtMost cost greatest = (cost.types ≤ greatest.types) × (cost.fields ≤ greatest.fields)

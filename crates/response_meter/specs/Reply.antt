@@ -1,5 +1,5 @@
 -- A reply: what its bytes read as, and the first test that they do not pass.
-use Rattle.std.specs.Prelude.{◌≡◌, ◌<◌, ℕ, List, [], ◌∷◌, length, Bool, Option, Some, None, codes, if◌then◌else◌}
+use Rattle.std.specs.Prelude.{◌≡◌, ◌↔◌, ◌<◌, ℕ, List, [], ◌∷◌, length, Bool, Option, Some, None, codes, if◌then◌else◌}
 use Rattle.std.specs.Str.{is_utf8}
 use Rattle.serde_json.specs.Data.{Data, Members, object as json_object}
 use Rattle.serde_json.specs.Read.{read}
@@ -40,6 +40,10 @@ module _ (name : ℕ → List ℕ) (alias : List ℕ) where
     pub errors_read : errors_of (errors_entry members) ≡ Some errors
     pub data_read : DataReads plan errors (data_entry members) tree
 
+  -- A reply reads as one tree or none, and with one list of errors.
+  abbrev pub ReadsOnce : Plan → List ℕ → Type 0
+  ReadsOnce plan bytes = (t s : Option Tree) (es fs : List ResponseError) → ReplyReads plan bytes t es → ReplyReads plan bytes s fs → (t ≡ s) × (es ≡ fs)
+
 -- The data that was read, if any, is a response of the plan: it fits, and keeps the declared sizes.
 abbrev pub IsResponseOrNone : (ℕ → Data → Bool) → Plan → Option Tree → Type 0
 IsResponseOrNone holds plan None = Unit {0}
@@ -67,6 +71,14 @@ module _ (holds : ℕ → Data → Bool) (name : ℕ → List ℕ) (alias : List
   -- Its path begins at the data.
   abbrev pub first_fault : Plan → List ℕ → Option Fault
   first_fault plan bytes = at_step (codes "data") (reply_fault plan bytes)
+
+  -- A reply passes every test exactly where it reads and its data, if any, is a response.
+  abbrev pub PassesWhereReadable : Plan → List ℕ → Type 0
+  PassesWhereReadable plan bytes = (first_fault plan bytes ≡ None) ↔ IsReadable holds name alias plan bytes
+
+  -- There is a first fault exactly where it doesn't, or its data is no response.
+  abbrev pub FailsWhereUnreadable : Plan → List ℕ → Type 0
+  FailsWhereUnreadable plan bytes = ((fault : Fault) × (first_fault plan bytes ≡ Some fault)) ↔ (IsReadable holds name alias plan bytes → ⊥)
 
 -- What a reply costs: that of its data, or nothing where it has none.
 abbrev pub reply_cost : Part → Plan → Option Tree → ℕ

@@ -1,6 +1,6 @@
 //! The measuring of a whole reply.
 
-ghost use Rattle.std.specs.Prelude.{◌≡◌, ◌≤◌, List, None, IfOk, IfErr, Some, option_map, string_bytes};
+ghost use Rattle.std.specs.Prelude.{◌≡◌, List, None, IfOk, IfErr, Some, option_map, string_bytes};
 ghost use Rattle.serde_json.specs.View.{view};
 ghost use Rattle.cost_num.specs.declared.Cost.{Cost as CostType};
 ghost use Rattle.response_model.specs.Plan.{Plan as PlanTree};
@@ -10,7 +10,7 @@ ghost use Rattle.static_cost.specs.Worst.{IsCounted};
 ghost use Rattle.response_model.specs.Errors.{ResponseError, has_errors};
 ghost use Rattle.response_meter.specs.declared.fault.Why.TheVariants.{NotJson};
 ghost use Rattle.response_meter.specs.Faults.{Tells, given};
-ghost use Rattle.response_meter.specs.Metered.{first_fault_in, IsMetered};
+ghost use Rattle.response_meter.specs.Metered.{first_fault_in, IsMetered, IsAtMost};
 ghost use Rattle.response_meter.specs.Reply.{json_of};
 ghost use Rattle.response_meter.specs.Walks.{root_plan, MeasuresContent, MeasuresReply};
 
@@ -42,7 +42,7 @@ pub fn meter(alloc: Global, plan: &Plan, alias: &str, body: &[u8]) -> Result<Met
     ensures metered { IfOk result (λ metered. (tree : PlanTree) → HoldsSound plan.now tree → IsMetered plan.now alias.now tree body.now metered) }
     ensures passed { IfOk result (λ metered. (tree : PlanTree) → HoldsSound plan.now tree → first_fault_in plan.now alias.now tree body.now ≡ None) }
     ensures fault { IfErr result (λ fault. (tree : PlanTree) → HoldsSound plan.now tree → Tells fault (first_fault_in plan.now alias.now tree body.now)) }
-    ensures at_most { IfOk result (λ metered. (tree : PlanTree) → HoldsSound plan.now tree → (bound : CostType) → IsBoundIn plan.now tree bound → (metered.cost.types ≤ bound.types) × (metered.cost.fields ≤ bound.fields)) }
+    ensures at_most { IfOk result (λ metered. (tree : PlanTree) → HoldsSound plan.now tree → (bound : CostType) → IsBoundIn plan.now tree bound → IsAtMost metered.cost bound) }
 {
     let by = Reading {
         alloc,

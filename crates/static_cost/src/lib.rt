@@ -11,7 +11,7 @@ pub mod laws;
 mod leaves;
 mod part;
 #[cfg(test)]
-mod table_tests;
+mod tests;
 mod too_costly;
 mod totals;
 

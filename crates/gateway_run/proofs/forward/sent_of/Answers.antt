@@ -17,10 +17,10 @@ returns-in-Ok-forwarded_in-clause-sent c =
     let once = given_once c.args.texts.now.variables (view c.in-Ok.inputs.given) c.in-Ok.ensures.held.is_given in (
       c.in-Ok.inputs,
       c.in-Ok.ensures.held,
-      c.in-Ok-accepted.accepted.plan,
-      c.in-Ok-accepted.accepted.bound,
-      accepted,
-      c.in-Ok-forwarded_in.forwarded.alias,
-      c.in-Ok-forwarded_in.ensures.alias,
-      c.in-Ok-forwarded_in.ensures.body accepted.is_planned.prepared once,
+      (
+        c.in-Ok-accepted.accepted.plan,
+        c.in-Ok-accepted.accepted.bound,
+        accepted,
+        (c.in-Ok-forwarded_in.forwarded.alias, c.in-Ok-forwarded_in.ensures.alias, c.in-Ok-forwarded_in.ensures.body accepted.is_planned.prepared once),
+      ),
     )

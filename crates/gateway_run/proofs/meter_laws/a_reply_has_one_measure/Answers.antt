@@ -10,7 +10,7 @@ returns-clause-measure c = one_measure record {
     offsets = c.a_text_is_one_document.ensures.places;
   };
   one_tree = c.alike_requests_are_answered_alike.ensures.one_plan;
-  types_differ = λ bytes schema held. c.built_types_differ.ensures held.0 schema held.2;
+  types_differ = λ bytes schema held. c.types_of_built_schemas_differ.ensures.differ held.0 schema held.2;
   named = c.named_tables.ensures;
   one_reply = c.one_reply.ensures;
   passes = c.fault_or_reading.ensures.passes;
@@ -24,7 +24,7 @@ returns-clause-fault c = one_fault record {
     offsets = c.a_text_is_one_document.ensures.places;
   };
   one_tree = c.alike_requests_are_answered_alike.ensures.one_plan;
-  types_differ = λ bytes schema held. c.built_types_differ.ensures held.0 schema held.2;
+  types_differ = λ bytes schema held. c.types_of_built_schemas_differ.ensures.differ held.0 schema held.2;
   named = c.named_tables.ensures;
   one_reply = c.one_reply.ensures;
   passes = c.fault_or_reading.ensures.passes;
@@ -38,7 +38,7 @@ returns-clause-not_both c = measured_or_faulty record {
     offsets = c.a_text_is_one_document.ensures.places;
   };
   one_tree = c.alike_requests_are_answered_alike.ensures.one_plan;
-  types_differ = λ bytes schema held. c.built_types_differ.ensures held.0 schema held.2;
+  types_differ = λ bytes schema held. c.types_of_built_schemas_differ.ensures.differ held.0 schema held.2;
   named = c.named_tables.ensures;
   one_reply = c.one_reply.ensures;
   passes = c.fault_or_reading.ensures.passes;
