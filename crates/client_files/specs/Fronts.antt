@@ -1,24 +1,26 @@
 -- How far the lines of clients are read.
-use Rattle.std.specs.Prelude.{◌≡◌, ℕ, ◌+◌, ◌<◌, ◌≤◌, ◌⊎◌, true, List, length, take, slice_get, IfSome}
+use Rattle.std.specs.Prelude.{◌≡◌, ℕ, ◌+◌, ◌<◌, ◌≤◌, ◌⊎◌, true, List, [], ◌∷◌, ◌++◌, length, take}
 use Rattle.gql_base.specs.names.Names.{are_distinct}
 use Rattle.client_files.specs.declared.client.TheConstants.{CLIENT_LIMIT}
 use Rattle.client_files.specs.declared.client.Client.{Client}
 use Rattle.client_files.specs.declared.heading.Version.{Version}
-use Rattle.client_files.specs.Headings.{version_line, IsWindowLine}
 use Rattle.client_files.specs.ClientLines.{IsClientLine}
 use Rattle.client_files.specs.ClientFiles.{AreClientLines, keys_of}
-use Rattle.client_files.specs.Faults.{IsFirstFault}
 
--- no client is named by the line at this place
-abbrev pub NamesNone : Version → List (List ℕ) → ℕ → Type 0
-NamesNone version lines at = IfSome (slice_get lines at) (λ line. (client : Client) → ¬ (IsClientLine version line client))
+-- no client is named by the first of these lines
+abbrev pub NamesNone : Version → List (List ℕ) → Type 0
+NamesNone version [] = ⊥
+NamesNone version (line ∷ lines) = (client : Client) → ¬ (IsClientLine version line client)
 
--- the first lines name these clients, up to one more than there may be, up to a line that names none, or all
+-- a front of the lines names these clients, up to one more than there may be; nothing is left, or there are that many, or
+-- the next line names none
 pub record IsFront (version : Version) (lines : List (List ℕ)) (clients : List Client) : Type 0 where
-  pub named : AreClientLines version (take (length clients) lines) clients
-  pub within : length clients ≤ length lines
+  pub front : List (List ℕ)
+  pub left : List (List ℕ)
+  pub cut : lines ≡ front ++ left
+  pub named : AreClientLines version front clients
   pub most : length clients ≤ CLIENT_LIMIT + 1
-  pub ends : (length clients ≡ length lines) ⊎ ((length clients ≡ CLIENT_LIMIT + 1) ⊎ ((length clients < length lines) × NamesNone version lines (length clients)))
+  pub ends : (left ≡ []) ⊎ ((length clients ≡ CLIENT_LIMIT + 1) ⊎ NamesNone version left)
 
 -- the lines name these clients, which a file may name together
 pub record AreServed (version : Version) (lines : List (List ℕ)) (clients : List Client) : Type 0 where
@@ -26,3 +28,9 @@ pub record AreServed (version : Version) (lines : List (List ℕ)) (clients : Li
   pub some : 0 < length clients
   pub few : length clients ≤ CLIENT_LIMIT
   pub distinct : are_distinct (keys_of clients) ≡ true
+
+-- the first lines, as many as were gone through, name these clients
+pub record NamesSoFar (version : Version) (lines : List (List ℕ)) (clients : List Client) (at : ℕ) : Type 0 where
+  pub named : AreClientLines version (take at lines) clients
+  pub counted : length clients ≡ at
+  pub most : length clients ≤ CLIENT_LIMIT + 1

@@ -1,5 +1,5 @@
 -- The first two lines of a client file.
-use Rattle.std.specs.Prelude.{◌≡◌, ℕ, ◌≤◌, List, ◌++◌, codes}
+use Rattle.std.specs.Prelude.{◌≡◌, ℕ, ◌<◌, ◌≤◌, slice_index, List, ◌++◌, codes}
 use Rattle.std.specs.Fmt.{decimal}
 use Rattle.client_files.specs.declared.client.TheConstants.{WINDOW_LIMIT}
 use Rattle.client_files.specs.declared.heading.Version.{Version}
@@ -22,3 +22,7 @@ IsWindow seconds = (1 ≤ seconds) × (seconds ≤ WINDOW_LIMIT)
 pub record IsWindowLine (line : List ℕ) (seconds : ℕ) : Type 0 where
   pub text : line ≡ window_line seconds
   pub window : IsWindow seconds
+
+-- a text begins with a digit other than 0
+abbrev pub BeginsNumber : List ℕ → Type 0
+BeginsNumber text = (48 < slice_index text 0) × (slice_index text 0 < 58)

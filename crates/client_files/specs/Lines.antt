@@ -1,5 +1,5 @@
 -- The lines of a text, and the words of a line.
-use Rattle.std.specs.Prelude.{ℕ, Bool, ◌==◌, if◌then◌else◌, List, [], ◌∷◌, ◌++◌, length}
+use Rattle.std.specs.Prelude.{ℕ, Bool, ◌==◌, List, [], ◌∷◌, ◌++◌}
 use Rattle.std.specs.List.{slice_split}
 
 -- a line feed
@@ -10,10 +10,15 @@ is_line_feed byte = byte == 10
 abbrev pub is_space : ℕ → Bool
 is_space byte = byte == 32
 
+-- a part, and nothing where it is empty
+abbrev pub unless_empty : List ℕ → List (List ℕ)
+unless_empty [] = []
+unless_empty (byte ∷ bytes) = (byte ∷ bytes) ∷ []
+
 -- all parts but an empty last one
 abbrev pub but_an_empty_last : List (List ℕ) → List (List ℕ)
 but_an_empty_last [] = []
-but_an_empty_last (part ∷ []) = if length part == 0 then [] else part ∷ []
+but_an_empty_last (part ∷ []) = unless_empty part
 but_an_empty_last (part ∷ next ∷ more) = part ∷ but_an_empty_last (next ∷ more)
 
 -- The lines of a text end with line feeds, the last one optionally: they are the parts between its line feeds, and where

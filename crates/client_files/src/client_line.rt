@@ -1,13 +1,14 @@
 //! A line that names a client.
 
 ghost use Rattle.std.specs.Prelude.{◌≡◌, ◌∷◌, ◌↔◌, ℕ, Bool, List, IsTrue, IfOk, IfSome, IfNone, map};
+ghost use Rattle.std.specs.List.{list_all};
 ghost use Rattle.cost_num.specs.declared.Cost as cost_type;
 ghost use Rattle.client_files.specs.ClientLines.{is_key_byte, is_key, carry_words, Allows, IsAllowance, IsClient, IsClientLine};
 ghost use Rattle.client_files.specs.declared.client.Client as client_type;
 
 use crate::client::{CARRY_LIMIT, Client, KEY_LIMIT, THOUSANDTH};
 use crate::heading::Version;
-use crate::line::words_of;
+use crate::line::parts_of;
 use cost_num::{Cost, covers, read_allowance};
 use gql_base::Text;
 use std::alloc::{AllocError, Global};
@@ -27,8 +28,8 @@ pub fn client_in(alloc: Global, version: Version, line: &str) -> Result<Option<C
     ensures some { IfOk result (λ found. IfSome found (λ client. IsClientLine version line.now client)) }
     ensures none { IfOk result (λ found. IfNone found ((client : client_type.Client) → ¬ (IsClientLine version line.now client))) }
 {
-    let words = words_of(alloc, line)?;
-    match client_words(words.as_slice()) {
+    let words = parts_of(alloc, line, ' ')?;
+    match client_words(&words) {
         Some(words) => client_of(alloc, version, &words),
         None => Ok(None),
     }
@@ -121,8 +122,14 @@ fn allows(version: Version, allowance: Cost, carry: bool) -> bool
 fn is_key(text: &str) -> bool
     ensures { result ≡ is_key text.now }
 {
-    let bytes = text.as_bytes();
-    bytes.len() > 0 && bytes.len() <= KEY_LIMIT && bytes.iter().all(|byte| is_key_byte(*byte))
+    !text.is_empty() && text.len() <= KEY_LIMIT && are_key_bytes(text.as_bytes())
+}
+
+/// Whether each byte may stand in a key.
+fn are_key_bytes(bytes: &[u8]) -> bool
+    ensures { result ≡ list_all is_key_byte bytes.now }
+{
+    bytes.iter().all(|byte| is_key_byte(*byte))
 }
 
 /// Whether a byte may stand in a key.

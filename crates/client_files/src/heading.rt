@@ -1,8 +1,8 @@
 //! The first two lines of a client file: the version of the format, and the length of a window.
 
-ghost use Rattle.std.specs.Prelude.{◌≡◌, ◌<◌, ◌^◌, ℕ, IfSome, IfNone, codes, ◌++◌};
+ghost use Rattle.std.specs.Prelude.{◌≡◌, ◌<◌, ◌^◌, ◌↔◌, ℕ, IsTrue, IfSome, IfNone, codes, ◌++◌};
 ghost use Rattle.std.specs.Fmt.{decimal};
-ghost use Rattle.client_files.specs.Headings.{version_line, IsWindowLine};
+ghost use Rattle.client_files.specs.Headings.{version_line, IsWindowLine, BeginsNumber};
 ghost use Rattle.client_files.specs.declared.heading.Version as version_type;
 
 use crate::client::WINDOW_LIMIT;
@@ -34,7 +34,7 @@ pub fn window_in(line: &str) -> Option<u32>
     ensures none { IfNone result ((seconds : ℕ) → ¬ (IsWindowLine line.now seconds)) }
 {
     let seconds = number_in(line.strip_prefix("window ")?)?;
-    if 1 <= seconds && seconds <= WINDOW_LIMIT {
+    if seconds <= WINDOW_LIMIT {
         Some(seconds)
     } else {
         None
@@ -44,10 +44,23 @@ pub fn window_in(line: &str) -> Option<u32>
 /// The number above 0 that a text is, in decimal digits without a leading zero.
 fn number_in(text: &str) -> Option<u32>
     ensures some { IfSome result (λ number. text.now ≡ decimal number) }
+    ensures within { IfSome result (λ number. number < 2 ^ 32) }
+    ensures above { IfSome result (λ number. 0 < number) }
     ensures none { IfNone result ((number : ℕ) → 0 < number → number < 2 ^ 32 → ¬ (text.now ≡ decimal number)) }
 {
-    if !matches!(text.as_bytes().first(), Some(b'1'..=b'9')) {
-        return None;
+    if begins_number(text.as_bytes()) {
+        text.parse::<u32>().ok()
+    } else {
+        None
     }
-    text.parse::<u32>().ok()
+}
+
+/// Whether a text begins with a digit other than 0.
+fn begins_number(text: &[u8]) -> bool
+    ensures { IsTrue result ↔ BeginsNumber text.now }
+{
+    match text.first() {
+        Some(first) => b'1' <= *first && *first <= b'9',
+        None => false,
+    }
 }

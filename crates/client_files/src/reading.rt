@@ -14,7 +14,7 @@ use crate::client::{CLIENT_LIMIT, Client, Clients};
 use crate::client_line::client_in;
 use crate::fault::ClientsFault;
 use crate::heading::{Version, version_in, window_in};
-use crate::line::lines_of;
+use crate::line::{line_count, parts_of};
 use gql_base::first_repeated;
 use std::alloc::{AllocError, Global};
 
@@ -33,8 +33,8 @@ pub fn read_clients(alloc: Global, text: &str) -> Result<Clients, ClientsFault>
     ensures only_file { (seconds : ℕ) (clients : List client_type.Client) → IsClientFile text.now seconds clients → Gives seconds clients result }
     ensures only_fault { (fault : fault_type.ClientsFault) → IsFirstFault (lines_of text.now) fault → Tells fault result }
 {
-    let lines = lines_of(alloc, text)?;
-    read_lines(alloc, lines.as_slice())
+    let parts = parts_of(alloc, text, '\n')?;
+    read_lines(alloc, &parts[..line_count(&parts)])
 }
 
 /// Reads the lines of a client file.
