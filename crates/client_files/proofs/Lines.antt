@@ -1,6 +1,9 @@
 -- The lines of a text, and the words of a line.
-use Rattle.std.proofs.Common.{◌≡◌, ℕ, ◌<◌, ◌≤◌, List, [], ◌∷◌, ◌++◌, length, refl, ap, arith, map, Bor}
-use Rattle.std.specs.Prelude.{slice_index_or, true}
+use Rattle.std.proofs.Common.{◌≡◌, ℕ, zero, suc, ◌<◌, ◌≤◌, List, [], ◌∷◌, ◌++◌, length, take, refl, sym, ap, ◌∙◌, arith, map, Bor}
+use Rattle.std.specs.Prelude.{slice_index_or, true, false, ◌==◌}
+use Rattle.std.proofs.Math.Seq.{take-append_seam}
+use Rattle.std.proofs.lemmas.Bool.{eqb-true}
+use Rattle.std.proofs.lemmas.List.{length-map, map-append, take_all}
 use Rattle.std.specs.Str.{bytes_eq}
 use Rattle.std.proofs.lemmas.Slice.Eq.{bytes_eq-Decides}
 use Rattle.client_files.specs.Lines.{but_an_empty_last}
@@ -24,3 +27,24 @@ pub single_word : (words : List (Bor (List ℕ))) (other : Bor (List ℕ)) (text
 single_word [] other text some few same = absurd (omega (arith, some))
 single_word (word ∷ []) other text some few same = ap (λ bytes. bytes ∷ []) ((bytes_eq-Decides word.now text).0 same)
 single_word (word ∷ next ∷ more) other text some few same = absurd (omega (arith, few))
+
+-- how many parts are lines
+
+module _ (parts front : List (Bor (List ℕ))) (last : Bor (List ℕ)) (cut : parts ≡ front ++ (last ∷ [])) where
+  seen : map (λ part. part.now) parts ≡ map (λ part. part.now) front ++ (last.now ∷ [])
+  seen = ap (map (λ (part : Bor (List ℕ)). part.now)) cut ∙ map-append (λ (part : Bor (List ℕ)). part.now) front (last ∷ [])
+
+  pub count_front : true ≡ (length last.now == 0) → take (length front) (map (λ part. part.now) parts) ≡ but_an_empty_last (map (λ part. part.now) parts)
+  count_front none =
+      (λ i. take (sym (length-map front (λ (part : Bor (List ℕ)). part.now)) i) (seen i))
+      ∙ (take-append_seam (map (λ (part : Bor (List ℕ)). part.now) front) (last.now ∷ [])
+      ∙ sym (ap but_an_empty_last seen ∙ last_empty (map (λ (part : Bor (List ℕ)). part.now) front) last.now (eqb-true (length last.now) 0 (sym none))))
+
+  pub count_all : false ≡ (length last.now == 0) → take (length parts) (map (λ part. part.now) parts) ≡ but_an_empty_last (map (λ part. part.now) parts)
+  count_all some =
+      take_all (length parts) (map (λ (part : Bor (List ℕ)). part.now) parts) (omega (arith, length-map parts (λ (part : Bor (List ℕ)). part.now)))
+      ∙ sym (ap but_an_empty_last seen ∙ (last_full (map (λ (part : Bor (List ℕ)). part.now) front) last.now (above (length last.now) some) ∙ sym seen))
+    where
+      above : (n : ℕ) → false ≡ (n == 0) → 0 < n
+      above zero is = cc
+      above (suc n) is = omega arith

@@ -1,5 +1,5 @@
 -- What reading and migrating a text give.
-use Rattle.std.proofs.Common.{◌≡◌, ℕ, ◌⊎◌, inl, inr, List, take, map, refl, sym, ap, ◌∙◌, subst, Bor, Result, Ok, Err}
+use Rattle.std.proofs.Common.{◌≡◌, ℕ, ◌⊎◌, inl, inr, List, [], ◌∷◌, take, map, refl, sym, ap, ◌∙◌, subst, Bor, Result, Ok, Err}
 use Rattle.std.specs.Prelude.{IfOk, IfErr}
 use Rattle.std.specs.List.{slice_split}
 use Rattle.std.proofs.lemmas.List.{take-map}
@@ -7,11 +7,14 @@ use Rattle.client_files.specs.declared.client.Client.{Client}
 use Rattle.client_files.specs.declared.client.Clients.{Clients}
 use Rattle.client_files.specs.declared.fault.ClientsFault.{ClientsFault}
 use Rattle.client_files.specs.declared.fault.ClientsFault.TheVariants.{BadLine, Repeated, TooMany, NoClient, Memory}
+use Rattle.client_files.specs.declared.heading.Version.{Version}
+use Rattle.client_files.specs.Headings.{version_line, IsWindowLine}
 use Rattle.client_files.specs.Lines.{is_line_feed, but_an_empty_last, lines_of}
 use Rattle.client_files.specs.ClientFiles.{MayBeServed, AreFileLines, IsClientFile}
 use Rattle.client_files.specs.Faults.{IsFirstFault, IsFaultOf, IsFault}
 use Rattle.client_files.specs.Readings.{Gives, GivesText, Tells}
 use Rattle.client_files.specs.Written.{client_file, Migrates}
+use Rattle.client_files.proofs.FirstFaults.{bad_version, bad_window}
 use Rattle.client_files.proofs.OneReading.{windows_are_one, clients_are_one, one_fault, not_both}
 use Rattle.client_files.proofs.WrittenFiles.{read_may_be_served}
 
@@ -20,6 +23,25 @@ pub read_parts : (text : List ℕ) (parts : List (Bor (List ℕ))) (count : ℕ)
     → map (λ part. part.now) (take count parts) ≡ lines_of text
 unfolding lines_of
 read_parts text parts count cut counted = sym (take-map (λ (part : Bor (List ℕ)). part.now) count parts) ∙ (counted ∙ ap but_an_empty_last cut)
+
+-- the first two lines
+
+module _ (lines : List (Bor (List ℕ))) (first : Bor (List ℕ)) (rest : List (Bor (List ℕ))) (cut : lines ≡ first ∷ rest) where
+  pub tells_version : ((version : Version) → ¬ (first.now ≡ version_line version)) → IsFirstFault (map (λ line. line.now) lines) (BadLine 1)
+  tells_version none = subst (λ ls. IsFirstFault (map (λ (line : Bor (List ℕ)). line.now) ls) (BadLine 1)) (sym cut) (bad_version first.now (map (λ (line : Bor (List ℕ)). line.now) rest) none)
+
+  module _ (second : Bor (List ℕ)) (further : List (Bor (List ℕ))) (cut_again : rest ≡ second ∷ further) (version : Version) (is : first.now ≡ version_line version) where
+    whole : lines ≡ first ∷ second ∷ further
+    whole = cut ∙ ap (λ ls. first ∷ ls) cut_again
+
+    pub tells_window : ((seconds : ℕ) → ¬ (IsWindowLine second.now seconds)) → IsFirstFault (map (λ line. line.now) lines) (BadLine 2)
+    tells_window none = subst (λ ls. IsFirstFault (map (λ (line : Bor (List ℕ)). line.now) ls) (BadLine 2)) (sym whole) (bad_window first.now second.now (map (λ (line : Bor (List ℕ)). line.now) further) version is none)
+
+    pub tells_clients : (seconds : ℕ) → IsWindowLine second.now seconds → (fault : ClientsFault)
+        → ((other : List ℕ) (window : ℕ) → IsWindowLine other window → IsFaultOf (version_line version ∷ other ∷ map (λ line. line.now) further) fault) → IsFaultOf (map (λ line. line.now) lines) fault
+    tells_clients seconds given fault told =
+        subst (λ ls. IsFaultOf (map (λ (line : Bor (List ℕ)). line.now) ls) fault) (sym whole)
+        (subst (λ l. IsFaultOf (l ∷ second.now ∷ map (λ (line : Bor (List ℕ)). line.now) further) fault) (sym is) (told second.now seconds given))
 
 memory_only : (lines : List (List ℕ)) (fault : ClientsFault) → IsFaultOf lines fault → (IsFirstFault lines fault → ⊥) → fault ≡ Memory
 memory_only lines (BadLine at) is none = absurd (none is)

@@ -33,8 +33,9 @@ pub fn read_clients(alloc: Global, text: &str) -> Result<Clients, ClientsFault>
     ensures only_file { (seconds : ℕ) (clients : List client_type.Client) → IsClientFile text.now seconds clients → Gives seconds clients result }
     ensures only_fault { (fault : fault_type.ClientsFault) → IsFirstFault (lines_of text.now) fault → Tells fault result }
 {
-    let parts = parts_of(alloc, text, '\n')?;
-    read_lines(alloc, &parts[..line_count(&parts)])
+    let between_line_feeds = parts_of(alloc, text, '\n')?;
+    let parts = between_line_feeds.as_slice();
+    read_lines(alloc, &parts[..line_count(parts)])
 }
 
 /// Reads the lines of a client file.

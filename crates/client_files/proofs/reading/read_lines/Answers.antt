@@ -1,22 +1,17 @@
-use Rattle.std.proofs.Common.{rules, ◌≡◌, ◌∷◌, ℕ, List, IfOk, IfErr, map, ◌+◌, ◌-◌, ◌*◌, ◌<◌, ◌≤◌, length, ◌/◌, ◌%◌, Bool, true, false, nat_eq, nat_lt, [], ◌++◌, slice_index_or, slice_set, bit_and, bit_or, Fits, w8, w32, w64, Bor, MutBor}
-use Rattle.client_files.specs.Lines.{lines_of}
-use Rattle.client_files.specs.Headings.{version_line, IsWindowLine}
-use Rattle.client_files.specs.ClientFiles.{AreFileLines, IsClientFile, MayBeServed}
-use Rattle.client_files.specs.Faults.{IsFirstFault, IsFault, IsFaultOf}
-use Rattle.client_files.specs.Fronts.{IsFront, AreServed}
-use Rattle.client_files.specs.Readings.{Gives, Tells}
-use Rattle.client_files.specs.declared.client.Client as client_type
-use Rattle.client_files.specs.declared.fault.ClientsFault as fault_type
+use Rattle.std.proofs.lemmas.Result.{err_from_is_err_and}
+use Rattle.client_files.proofs.ReadTexts.{tells_version, tells_window, tells_clients}
 use Rattle.client_files.proofs.reading.read_lines.Goals as goal
 
--- src/reading.rt:49:9
 pub returns-in_default-version_in-clause-fault : goal.returns-in_default-version_in-clause-fault
-returns-in_default-version_in-clause-fault c = ?
+returns-in_default-version_in-clause-fault c = tells_version c.args.lines.now c.in-Some.first.now c.in-Some.rest.now c.in-Some.ensures.cases.0 c.in_default-version_in.ensures.none
 
--- src/reading.rt:55:9
 pub returns-in_default-window_in-clause-fault : goal.returns-in_default-window_in-clause-fault
-returns-in_default-window_in-clause-fault c = ?
+returns-in_default-window_in-clause-fault c =
+    tells_window c.args.lines.now c.in-Some.first.now c.in-Some.rest.now c.in-Some.ensures.cases.0 c.in-Some-split_first.second.now c.in-Some-split_first.further.now c.in-Some-split_first.ensures.cases.0 c.in-Some-version_in.version c.in-Some-version_in.ensures.some
+    c.in_default-window_in.ensures.none
 
--- src/reading.rt:57:19
 pub returns-in_err-clients-clause-fault : goal.returns-in_err-clients-clause-fault
-returns-in_err-clients-clause-fault c = ?
+returns-in_err-clients-clause-fault c =
+    let p = err_from_is_err_and c.from_residual.result c.from_residual.ensures.1 in
+    rw (p.1, p.2) (tells_clients c.args.lines.now c.in-Some.first.now c.in-Some.rest.now c.in-Some.ensures.cases.0 c.in-Some-split_first.second.now c.in-Some-split_first.further.now c.in-Some-split_first.ensures.cases.0 c.in-Some-version_in.version c.in-Some-version_in.ensures.some
+    c.in-Some-window_in.window_seconds c.in-Some-window_in.ensures.some c.in_err-clients.field-0.0 c.in_err-clients.ensures.fault)
