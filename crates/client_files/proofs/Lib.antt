@@ -1,0 +1,11 @@
+pub mod Lines
+pub mod Numbers
+pub mod ClientLines
+pub mod ClientLists
+pub mod Distinct
+pub mod FirstFaults
+pub mod GoodLines
+pub mod OneReading
+pub mod LeadingClients
+pub mod WrittenFiles
+pub mod ReadTexts
