@@ -1,18 +1,16 @@
 -- Lines that name clients, one each.
-use Rattle.std.proofs.Common.{◌≡◌, ℕ, suc, ◌+◌, ◌<◌, ◌≤◌, List, [], ◌∷◌, ◌++◌, length, take, drop, map, refl, sym, ap, ◌∙◌, subst, arith, Bool, true, false}
-use Rattle.std.specs.Prelude.{cond, ◌&&◌, not, ⊤}
+use Rattle.std.proofs.Common.{◌≡◌, ℕ, suc, ◌+◌, List, [], ◌∷◌, ◌++◌, length, take, map, refl, sym, ap, ◌∙◌, arith, Bool, true, false}
+use Rattle.std.specs.Prelude.{cond, not}
 use Rattle.std.specs.List.{before_first, prefix_len, slice_split, onto_first}
-use Rattle.cost_num.specs.declared.TheConstants.{CAP}
 use Rattle.cost_num.specs.declared.Cost.{Cost}
-use Rattle.cost_num.specs.Amount.{Spells, amount_in}
 use Rattle.cost_num.proofs.AmountTexts.{spelled_amount}
 use Rattle.client_files.specs.declared.client.Client.{Client}
 use Rattle.client_files.specs.declared.heading.Version.{Version}
 use Rattle.client_files.specs.Lines.{is_space, words_of}
-use Rattle.client_files.specs.ClientLines.{carry_words, IsClient, IsClientLine}
+use Rattle.client_files.specs.ClientLines.{IsClientLine}
 use Rattle.client_files.specs.ClientFiles.{AreClientLines, keys_of}
 use Rattle.client_files.specs.Faults.{first_word}
-use Rattle.client_files.proofs.ClientLines.{same_words, has_words}
+use Rattle.client_files.proofs.ClientLines.{has_words}
 
 -- one line more with one client more
 pub named_more : (version : Version) (lines : List (List ℕ)) (clients : List Client) (line : List ℕ) (client : Client) → AreClientLines version lines clients → IsClientLine version line client → AreClientLines version (lines ++ line ∷ []) (clients ++ client ∷ [])

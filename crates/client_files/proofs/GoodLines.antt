@@ -1,6 +1,5 @@
 -- Lines of which a front names clients.
 use Rattle.std.proofs.Common.{◌≡◌, ℕ, zero, suc, ◌+◌, ◌<◌, ◌≤◌, List, [], ◌∷◌, ◌++◌, length, take, map, refl, sym, ap, ◌∙◌, subst, arith, true, false, append_assoc}
-use Rattle.std.specs.Prelude.{◌&&◌, not}
 use Rattle.std.specs.List.{list_any}
 use Rattle.std.specs.Str.{bytes_eq}
 use Rattle.std.proofs.lemmas.List.{map-append, length-map, take_all}
@@ -13,8 +12,7 @@ use Rattle.client_files.specs.declared.heading.Version.{Version}
 use Rattle.client_files.specs.Headings.{version_line, IsWindowLine}
 use Rattle.client_files.specs.ClientLines.{IsClientLine}
 use Rattle.client_files.specs.ClientFiles.{AreClientLines, keys_of}
-use Rattle.client_files.specs.Faults.{first_word, Shows, IsFirstFault}
-use Rattle.client_files.specs.Fronts.{NamesNone}
+use Rattle.client_files.specs.Faults.{first_word, IsFirstFault}
 use Rattle.client_files.proofs.ClientLists.{named_at, named_length, first_words}
 use Rattle.client_files.proofs.Distinct.{distinct_push, distinct_front, new_of_distinct, known_of_repeated}
 use Rattle.client_files.proofs.FirstFaults.{ArePlaced, AreNew, head, behind, same_version, bad_line, repeated_line, too_many_line, no_client}

@@ -1,10 +1,10 @@
 -- The clients that the first lines name.
-use Rattle.std.proofs.Common.{◌≡◌, ℕ, zero, suc, ◌+◌, ◌<◌, ◌≤◌, ◌⊎◌, inl, inr, List, [], ◌∷◌, ◌++◌, length, take, drop, get_or, map, refl, sym, ap, ◌∙◌, subst, arith, true, false, Bor, Option, Some, None}
+use Rattle.std.proofs.Common.{◌≡◌, ℕ, zero, suc, ◌+◌, ◌<◌, ◌≤◌, ◌⊎◌, inl, inr, List, [], ◌∷◌, ◌++◌, length, take, drop, get_or, map, refl, sym, ap, ◌∙◌, subst, arith, true, false, Bor, Some, None}
 use Rattle.std.specs.Prelude.{◌==◌}
 use Rattle.std.proofs.lemmas.Bool.{eqb-true}
-use Rattle.std.proofs.lemmas.List.{length-append, length-map, append-nil, take-append-drop, take_more, drop_more, length-take}
+use Rattle.std.proofs.lemmas.List.{length-append, length-map, append-nil, take-append-drop, take_more, drop_more}
 use Rattle.std.proofs.Math.ListN.{get_or-map, drop_of_length-le}
-use Rattle.gql_base.specs.names.Names.{are_distinct, first_repeated}
+use Rattle.gql_base.specs.names.Names.{first_repeated}
 use Rattle.gql_base.proofs.NameLaws.RepeatedLaws.{none_distinct, before_distinct, with_it_repeated}
 use Rattle.client_files.specs.declared.client.TheConstants.{CLIENT_LIMIT}
 use Rattle.client_files.specs.declared.client.Client.{Client}
@@ -120,9 +120,9 @@ module _ (version : Version) (lines : List (List ℕ)) (clients : List Client) (
 
 -- whether there are any
 
-pub empty_count : (n count : ℕ) → n ≡ count → true ≡ (n == 0) → count ≡ 0
-empty_count n count same is = sym same ∙ eqb-true n 0 (sym is)
+pub empty_count : (n there : ℕ) → n ≡ there → true ≡ (n == 0) → there ≡ 0
+empty_count n there same is = sym same ∙ eqb-true n 0 (sym is)
 
-pub some_count : (n count : ℕ) → n ≡ count → false ≡ (n == 0) → 0 < count
-some_count zero count same is = cc
-some_count (suc n) count same is = omega (arith, same)
+pub some_count : (n there : ℕ) → n ≡ there → false ≡ (n == 0) → 0 < there
+some_count zero there same is = cc
+some_count (suc n) there same is = omega (arith, same)

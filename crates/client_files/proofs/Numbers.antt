@@ -1,12 +1,12 @@
 -- Numbers above 0 in decimal digits, and windows.
-use Rattle.std.proofs.Common.{◌≡◌, ◌≢◌, ℕ, zero, suc, ◌+◌, ◌<◌, ◌≤◌, ◌^◌, List, [], ◌∷◌, ◌++◌, length, get_or, drop, refl, sym, ap, ◌∙◌, subst, arith, Result, Ok, Err}
-use Rattle.std.specs.Prelude.{slice_index, IfSome, IfNone, codes}
+use Rattle.std.proofs.Common.{◌≡◌, ℕ, zero, suc, ◌<◌, List, ◌++◌, drop, refl, sym, ap, ◌∙◌, subst, arith, Result, Ok, Err}
+use Rattle.std.specs.Prelude.{IfSome, IfNone, codes}
 use Rattle.std.specs.Fmt.{decimal}
 use Rattle.std.specs.Result.{result_ok}
 use Rattle.std.specs.Str.Parse.{AllDigits, digits_value, ParsesUnsigned}
 use Rattle.std.proofs.lemmas.Fmt.{decimal_is_IsNumeral, first_decimal, decimal-digits_value, decimal_digit, decimal_injective, parse-decimal}
 use Rattle.std.proofs.lemmas.Str.Parse.{IsNumeralModel, parse_plain, digit_at}
-use Rattle.client_files.specs.Headings.{BeginsNumber, IsWindowLine, window_line}
+use Rattle.client_files.specs.Headings.{BeginsNumber, IsWindowLine}
 
 plain : IsNumeralModel (AllDigits 10) (digits_value 10)
 plain = record { to = λ ds d. d; from = λ ds d. d; same = λ ds d. refl }

@@ -1,13 +1,11 @@
 -- A text has one reading.
-use Rattle.std.proofs.Common.{◌≡◌, ℕ, suc, ◌+◌, ◌<◌, ◌≤◌, ◌⊎◌, inl, inr, List, [], ◌∷◌, ◌++◌, length, take, map, refl, sym, ap, ◌∙◌, subst, arith, true}
+use Rattle.std.proofs.Common.{◌≡◌, ℕ, ◌+◌, ◌<◌, ◌≤◌, List, [], length, refl, sym, ap, ◌∙◌, subst, arith}
 use Rattle.std.proofs.lemmas.List.{append-nil}
-use Rattle.gql_base.specs.names.Names.{are_distinct}
-use Rattle.client_files.specs.declared.client.TheConstants.{CLIENT_LIMIT}
 use Rattle.client_files.specs.declared.client.Client.{Client}
 use Rattle.client_files.specs.declared.fault.ClientsFault.{ClientsFault}
 use Rattle.client_files.specs.declared.fault.ClientsFault.TheVariants.{BadLine, Repeated, TooMany, NoClient, Memory}
-use Rattle.client_files.specs.Headings.{version_line, IsWindowLine}
-use Rattle.client_files.specs.ClientFiles.{AreClientLines, AreFileLines, keys_of}
+use Rattle.client_files.specs.Headings.{IsWindowLine}
+use Rattle.client_files.specs.ClientFiles.{AreClientLines, AreFileLines}
 use Rattle.client_files.specs.Faults.{Shows, turn, IsFirstFault}
 use Rattle.client_files.proofs.Numbers.{same_window}
 use Rattle.client_files.proofs.ClientLists.{same_clients, named_length}

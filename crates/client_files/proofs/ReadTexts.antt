@@ -1,5 +1,5 @@
 -- What reading and migrating a text give.
-use Rattle.std.proofs.Common.{◌≡◌, ℕ, ◌⊎◌, inl, inr, List, [], ◌∷◌, take, map, refl, sym, ap, ◌∙◌, subst, Bor, Result, Ok, Err}
+use Rattle.std.proofs.Common.{◌≡◌, ℕ, ◌⊎◌, inl, inr, List, ◌∷◌, take, map, refl, sym, ap, ◌∙◌, subst, Bor, Result, Ok, Err}
 use Rattle.std.specs.Prelude.{IfOk, IfErr}
 use Rattle.std.specs.List.{slice_split}
 use Rattle.std.proofs.lemmas.List.{take-map}
@@ -11,8 +11,8 @@ use Rattle.client_files.specs.declared.heading.Version.{Version}
 use Rattle.client_files.specs.Headings.{version_line, IsWindowLine}
 use Rattle.client_files.specs.Lines.{is_line_feed, but_an_empty_last, lines_of}
 use Rattle.client_files.specs.ClientFiles.{MayBeServed, AreFileLines, IsClientFile}
-use Rattle.client_files.specs.Faults.{IsFirstFault, IsFaultOf, IsFault}
-use Rattle.client_files.specs.Readings.{Gives, GivesText, Tells}
+use Rattle.client_files.specs.Faults.{IsFirstFault, IsFaultOf}
+use Rattle.client_files.specs.Readings.{Gives, Tells}
 use Rattle.client_files.specs.Written.{client_file, Migrates}
 use Rattle.client_files.proofs.FirstFaults.{bad_version, bad_window}
 use Rattle.client_files.proofs.OneReading.{windows_are_one, clients_are_one, one_fault, not_both}

@@ -1,7 +1,6 @@
 -- Files that are written are read back.
-use Rattle.std.proofs.Common.{◌≡◌, ℕ, suc, ◌+◌, ◌*◌, ◌<◌, ◌≤◌, ◌⊎◌, inl, inr, List, [], ◌∷◌, ◌++◌, length, take, get_or, map, refl, sym, ap, ◌∙◌, subst, arith, Bool, true, false, append_assoc}
-use Rattle.std.specs.Prelude.{◌==◌, ◌&&◌, ◌||◌, not, IsUtf8, nat_lt, nat_le, codes, slice_index_or, ⊤}
-use Rattle.std.specs.Char.{is_ascii_alphanumeric, digit_value}
+use Rattle.std.proofs.Common.{◌≡◌, ℕ, ◌+◌, ◌<◌, ◌≤◌, inl, inr, List, [], ◌∷◌, ◌++◌, length, take, get_or, map, refl, sym, ap, ◌∙◌, subst, arith, Bool, true, false, append_assoc}
+use Rattle.std.specs.Prelude.{◌==◌, ◌&&◌, not, IsUtf8, nat_lt, nat_le, codes, slice_index_or}
 use Rattle.std.specs.Fmt.{decimal}
 use Rattle.std.specs.List.{All, AllByRecursion, list_all, slice_split, flat_map}
 use Rattle.std.specs.Str.Parse.{AllDigits}
@@ -19,7 +18,7 @@ use Rattle.std.proofs.lemmas.List.Sums.{AllPass-from_list_all}
 use Rattle.std.proofs.lemmas.Str.Parse.{digit_from_value}
 use Rattle.cost_num.specs.declared.TheConstants.{CAP}
 use Rattle.cost_num.specs.declared.Cost.{Cost}
-use Rattle.cost_num.specs.Amount.{Spells, IsAmount}
+use Rattle.cost_num.specs.Amount.{Spells}
 use Rattle.cost_num.specs.CostText.{amount_text, cost_text}
 use Rattle.cost_num.proofs.PrintedAmounts.{printed_read_back}
 use Rattle.client_files.specs.declared.client.Client.{Client}

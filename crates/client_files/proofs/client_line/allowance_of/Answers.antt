@@ -1,5 +1,4 @@
 use Rattle.std.proofs.Common.{sym, ◌∙◌, subst}
-use Rattle.cost_num.specs.declared.Cost.{Cost}
 use Rattle.client_files.specs.ClientLines.{Allows}
 use Rattle.client_files.proofs.ClientLines.{same_read, not_read, true_not}
 use Rattle.client_files.proofs.client_line.allowance_of.Goals as goal

@@ -1,5 +1,4 @@
 use Rattle.std.proofs.Common.{refl, subst, sym}
-use Rattle.std.specs.Prelude.{codes}
 use Rattle.client_files.specs.Headings.{BeginsNumber}
 use Rattle.client_files.proofs.Numbers.{begins_number, number_some, number_above, number_none}
 use Rattle.client_files.proofs.ClientLines.{true_not}

@@ -1,4 +1,4 @@
-use Rattle.std.proofs.Common.{subst, sym, ap, ◌∙◌, refl, length, ◌≡◌}
+use Rattle.std.proofs.Common.{subst, sym, ap, ◌∙◌}
 use Rattle.std.specs.Prelude.{string_bytes}
 use Rattle.client_files.specs.Lines.{lines_of}
 use Rattle.client_files.specs.ClientFiles.{AreFileLines}

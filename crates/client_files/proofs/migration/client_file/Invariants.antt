@@ -1,8 +1,7 @@
-use Rattle.std.proofs.Common.{◌≡◌, List, take}
+use Rattle.std.proofs.Common.{◌≡◌, take}
 use Rattle.std.specs.Prelude.{string_bytes}
 use Rattle.std.specs.List.{flat_map}
 use Rattle.client_files.specs.Lines.{ended}
-use Rattle.client_files.specs.ClientFiles.{MayBeServed}
 use Rattle.client_files.specs.Written.{file_lines}
 use Rattle.client_files.proofs.migration.client_file.Given as goal
 

@@ -1,4 +1,4 @@
-use Rattle.std.proofs.Common.{◌∙◌, sym, ap, arith, []}
+use Rattle.std.proofs.Common.{arith, []}
 use Rattle.client_files.proofs.LeadingClients.{none_so_far, one_more, full_front, broken_front, whole_front}
 use Rattle.client_files.proofs.reading.leading_clients.Goals as goal
 
