@@ -48,9 +48,7 @@ fn files_are_migrated_or_refused(rt: HostRuntime) -> Result<(), Fail> {
 #[test]
 fn a_file_that_is_read_is_written_again(rt: HostRuntime) -> Result<(), Fail> {
     let text = "clients 2\nwindow 60\nalpha 6.000 6.000001\nbeta 0.000 1.500 carry\n";
-    let Ok(read) = read_clients(rt.alloc(), text) else {
-        return Err(Fail);
-    };
+    let read = read_clients(rt.alloc(), text)?;
     assert_eq!(rt; read.window_seconds, 60);
     assert_eq!(rt; read.clients.len(), 2);
     assert_eq!(rt; read.clients[0].key.as_str(), "alpha");
