@@ -1,0 +1,9 @@
+pub mod Cuts
+pub mod Words
+pub mod Lines
+pub mod Moments
+pub mod StepWords
+pub mod StepLines
+pub mod ScriptLines
+pub mod OneAnswer
+pub mod Fronts
