@@ -8,7 +8,7 @@ mod client;
 mod client_line;
 mod fault;
 mod heading;
-mod laws;
+pub mod laws;
 mod line;
 mod migration;
 mod reading;
