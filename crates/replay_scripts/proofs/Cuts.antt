@@ -1,5 +1,5 @@
 -- Cutting a list at a place.
-use Prim.Native.Nat.{zero, suc}
+use Prim.Native.Nat.{suc}
 use Rattle.std.proofs.Common.{◌≡◌, ℕ, ◌+◌, List, ◌∷◌, take, drop, ap, arith}
 
 pub take_one_more : (n x : ℕ) (xs : List ℕ) → take (1 + n) (x ∷ xs) ≡ x ∷ take n xs

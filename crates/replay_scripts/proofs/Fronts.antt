@@ -1,5 +1,5 @@
 -- How far a script is read.
-use Rattle.std.proofs.Common.{◌≡◌, ℕ, ◌+◌, ◌<◌, ◌≤◌, List, [], ◌∷◌, ◌++◌, length, append_assoc, Bool, true, false, refl, sym, ap, ◌∙◌, subst, arith, Option, map, nat_eq, true≢false}
+use Rattle.std.proofs.Common.{◌≡◌, ℕ, ◌<◌, ◌≤◌, List, [], ◌∷◌, ◌++◌, length, append_assoc, true, false, refl, sym, ap, ◌∙◌, subst, arith, Option, map, nat_eq, true≢false}
 use Rattle.std.specs.List.{before_first, after_first}
 use Rattle.std.proofs.lemmas.Bool.{eqb-true}
 use Rattle.std.proofs.lemmas.List.{append-nil, length-map, map-append}
@@ -9,7 +9,7 @@ use Rattle.replay_scripts.specs.declared.fault.ScriptFault.TheVariants.{BadLine,
 use Rattle.replay_scripts.specs.declared.step.Step.{Step}
 use Rattle.replay_scripts.specs.Answers.{UnlessMemory}
 use Rattle.replay_scripts.specs.Lines.{is_line_feed, lines_of}
-use Rattle.replay_scripts.specs.Steps.{StepData, step_data, IsStepLine}
+use Rattle.replay_scripts.specs.Steps.{StepData, step_data}
 use Rattle.replay_scripts.specs.Scripts.{has_begun, with_begun, begun_after, MayCome, AreScriptLines, IsScript}
 use Rattle.replay_scripts.specs.Faults.{IsAtFault, HasFault}
 use Rattle.replay_scripts.specs.Fronts.{stands, Know, Follows, IsFront}

@@ -1,5 +1,5 @@
 -- Scripts that get longer by a line.
-use Rattle.std.proofs.Common.{◌≡◌, ℕ, ◌+◌, ◌<◌, ◌≤◌, List, [], ◌∷◌, ◌++◌, length, Bool, true, false, refl, sym, ap, ◌∙◌, subst, arith}
+use Rattle.std.proofs.Common.{◌≡◌, ℕ, ◌<◌, List, [], ◌∷◌, ◌++◌, length, Bool, refl, arith}
 use Rattle.std.proofs.lemmas.List.{length-append}
 use Rattle.replay_scripts.specs.declared.step.TheConstants.{LINE_LIMIT}
 use Rattle.replay_scripts.specs.Steps.{StepData, begins, ends, IsStepLine}

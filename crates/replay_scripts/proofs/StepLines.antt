@@ -1,10 +1,10 @@
 -- A line spells one step.
-use Rattle.std.proofs.Common.{◌≡◌, ℕ, ◌<◌, List, [], ◌∷◌, ◌++◌, Option, None, Some, refl, sym, ap, ◌∙◌, true, codes, arith, IfSome}
+use Rattle.std.proofs.Common.{◌≡◌, ℕ, List, [], ◌∷◌, Option, None, Some, refl, sym, ap, ◌∙◌, arith, IfSome}
 use Rattle.std.specs.Fmt.{decimal}
 use Rattle.std.proofs.lemmas.Fmt.{decimal_injective}
 use Rattle.std.proofs.lemmas.Option.{same_Some}
 use Rattle.replay_scripts.specs.declared.step.Step.{Step}
-use Rattle.replay_scripts.specs.Steps.{step_data, ReturnedData, reply, down, failed, StepData, begins, ends, spaced, IsStep, step_word, step_rest, returned_word, IsStepLine}
+use Rattle.replay_scripts.specs.Steps.{step_data, reply, down, failed, StepData, begins, ends, spaced, IsStep, step_word, step_rest, IsStepLine}
 use Rattle.replay_scripts.specs.Words.{first_word, IsSpelled}
 use Rattle.replay_scripts.proofs.Words.{HasNoSpace, only_word, found_word, same_words, id_word, key_word, moment_word}
 

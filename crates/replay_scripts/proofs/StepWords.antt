@@ -1,5 +1,5 @@
 -- What stands behind the first word of a line.
-use Rattle.std.proofs.Common.{◌≡◌, ℕ, List, [], ◌∷◌, Option, None, Some, Bool, true, false, true≢false, arith, refl, sym, ap, ◌∙◌, subst, codes}
+use Rattle.std.proofs.Common.{◌≡◌, ℕ, List, [], ◌∷◌, None, Some, true, false, true≢false, arith, refl, sym, ap, ◌∙◌, codes}
 use Rattle.std.specs.Fmt.{decimal}
 use Rattle.std.proofs.lemmas.Option.{same_Some}
 use Rattle.replay_scripts.specs.Steps.{ReturnedData, reply, down, failed, StepData, begins, ends, spaced, is_id, is_key, IsStep, returned_word}

@@ -1,6 +1,5 @@
 -- The words of a line.
-use Prim.Native.Nat.{zero, suc}
-use Rattle.std.proofs.Common.{◌≡◌, ℕ, ◌+◌, ◌<◌, ◌≤◌, ◌&&◌, List, [], ◌∷◌, ◌++◌, length, take, drop, Bool, true, false, cond, not, nat_eq, nat_lt, Option, None, Some, refl, sym, ap, ◌∙◌, subst, arith, true≢false, if◌then◌else◌}
+use Rattle.std.proofs.Common.{◌≡◌, ℕ, ◌+◌, ◌<◌, ◌&&◌, List, [], ◌∷◌, length, take, drop, Bool, true, false, cond, not, nat_eq, nat_lt, Option, None, Some, refl, sym, ap, ◌∙◌, arith, true≢false, if◌then◌else◌}
 use Rattle.std.specs.Prelude.{⊤}
 use Rattle.std.specs.Char.{is_ascii_alphanumeric}
 use Rattle.std.specs.Fmt.{decimal}

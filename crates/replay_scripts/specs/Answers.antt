@@ -1,8 +1,8 @@
 -- What reading a script answers.
-use Rattle.std.specs.Prelude.{◌≡◌, ◌⊎◌, ℕ, List, map, Result, Ok, Err}
+use Rattle.std.specs.Prelude.{◌≡◌, ◌⊎◌, List, map, Result, Ok, Err}
 use Rattle.replay_scripts.specs.declared.step.Script.{Script}
 use Rattle.replay_scripts.specs.declared.fault.ScriptFault.{ScriptFault}
-use Rattle.replay_scripts.specs.declared.fault.ScriptFault.TheVariants.{BadLine, RepeatedId, UnknownId, Memory}
+use Rattle.replay_scripts.specs.declared.fault.ScriptFault.TheVariants.{Memory}
 use Rattle.replay_scripts.specs.Steps.{StepData, step_data}
 
 -- the steps of a script

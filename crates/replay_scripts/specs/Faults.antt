@@ -1,5 +1,5 @@
 -- The first fault of a text that is no script.
-use Rattle.std.specs.Prelude.{◌≡◌, ◌⊎◌, ℕ, ◌+◌, ◌<◌, Bool, true, false, List, [], ◌∷◌, ◌++◌, length, ⊤}
+use Rattle.std.specs.Prelude.{◌≡◌, ◌⊎◌, ℕ, ◌+◌, ◌<◌, Bool, true, false, List, [], ◌∷◌, ◌++◌, length}
 use Rattle.replay_scripts.specs.declared.step.TheConstants.{LINE_LIMIT}
 use Rattle.replay_scripts.specs.declared.fault.ScriptFault.{ScriptFault}
 use Rattle.replay_scripts.specs.declared.fault.ScriptFault.TheVariants.{BadLine, RepeatedId, UnknownId, Memory}

@@ -1,6 +1,5 @@
 -- How far a script is read.
-use Rattle.std.specs.Prelude.{◌≡◌, ℕ, ◌<◌, Bool, is_some, List, [], ◌++◌, length, Option}
-use Rattle.replay_scripts.specs.declared.step.TheConstants.{LINE_LIMIT}
+use Rattle.std.specs.Prelude.{◌≡◌, ℕ, Bool, is_some, List, [], ◌++◌, Option}
 use Rattle.replay_scripts.specs.Lines.{lines_of}
 use Rattle.replay_scripts.specs.Steps.{StepData}
 use Rattle.replay_scripts.specs.Scripts.{has_begun, begun_after, MayCome, AreScriptLines}

@@ -1,5 +1,3 @@
-use Rattle.replay_scripts.proofs.Fronts.{front_start, front_step, front_end, front_fault, front_few}
-use Rattle.replay_scripts.proofs.Lines.{next_line, shorter}
 use Rattle.replay_scripts.specs.Lines.{lines_of}
 use Rattle.replay_scripts.proofs.ScriptLines.{same_steps}
 use Rattle.replay_scripts.proofs.OneAnswer.{no_fault, one_fault}
