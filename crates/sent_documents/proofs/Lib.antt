@@ -1,0 +1,4 @@
+mod SendableParts
+mod SendableSelections
+mod SendableDocuments
+mod SentTextLaws

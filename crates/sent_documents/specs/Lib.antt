@@ -1,0 +1,2 @@
+-- The texts of documents that are sent.
+pub mod SentTexts

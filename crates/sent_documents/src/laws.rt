@@ -1,0 +1,19 @@
+//! What holds of the texts of all documents that are sent.
+
+ghost use Rattle.std.specs.Prelude.{◌≡◌, ℕ, List, IsUtf8};
+ghost use Rattle.gql_base.specs.printing.ReadingBack.{SpellsAgain};
+ghost use Rattle.document_reader.specs.Documents.{DefinitionTree, IsDocument};
+ghost use Rattle.document_reader.specs.DocumentAnswers.{HasDocument};
+ghost use Rattle.document_reader.specs.PlacelessDocuments.{document_placeless};
+ghost use Rattle.acceptance.specs.Requests.{RequestData, Prepared};
+ghost use Rattle.acceptance.specs.Forwarding.{IsFreeIn, sent_document};
+ghost use Rattle.sent_documents.specs.SentTexts.{IsClientText, sent_text};
+
+/// Where no string of the client's text holds a control character but those that have an escape by a letter (GraphQL October
+/// 2021, 2.9.4), the text that is sent is UTF-8. It is the text of the document that is sent, but for the offsets of
+/// names, is nested no deeper than documents may be, and is no other document's.
+pub fn what_is_sent_reads_back()
+    ensures reads_back { (r : RequestData) (p : Prepared r) (alias text : List ℕ) → IsFreeIn r alias → IsClientText r text → SpellsAgain IsDocument document_placeless (sent_text r p alias) (sent_document r p alias) }
+    ensures utf8 { (r : RequestData) (p : Prepared r) (alias text : List ℕ) → IsFreeIn r alias → IsClientText r text → IsUtf8 (sent_text r p alias) }
+    ensures only { (r : RequestData) (p : Prepared r) (alias text : List ℕ) (trees : List DefinitionTree) → IsFreeIn r alias → IsClientText r text → HasDocument (sent_text r p alias) trees → document_placeless trees ≡ document_placeless (sent_document r p alias) }
+{}
