@@ -5,3 +5,7 @@ mod Possible
 mod Readings
 mod RulesKept
 mod SentOperations
+mod PossibleTypes
+mod Placed
+mod Telling
+mod KnownFields

@@ -14,9 +14,11 @@ use Rattle.plan_model.specs.SelectedFields.{Setting, Place, written_below, is_as
 use Rattle.plan_model.specs.Collecting.{WrittenSelections}
 use Rattle.plan_model.specs.Merging.{Position}
 use Rattle.plan_model.specs.Plans.{IsPlan}
-use Rattle.plan_model.specs.Operations.{IsOperationPlan}
+use Rattle.plan_model.specs.Operations.{operation_answer, planned_operation}
+use Rattle.plan_model.specs.Visits.{planned_well}
 use Rattle.typename_rewrite.specs.Rewriting.{call_of, ended, rewritten_selections}
 use Rattle.stripped_responses.specs.Stripping.{HasNoAlias, SentOperation, own_setting}
+use Rattle.sent_replies.specs.Interfaces.{KeepsInterfaces}
 
 -- ---- selections that can be ended
 
@@ -120,13 +122,17 @@ module _ (alias : List ℕ) where
   abbrev pub ReadsIn : SchemaData → Form → Bool → Plan → Data → Tree → Type 0
   ReadsIn s form asked plan json t = Reads (type_names s) alias form asked plan json t
 
-  -- The plan of an operation that breaks no rule and is sent, where the names of types are asked for where several are
-  -- possible.
-  pub record IsPlanOfSent (x : SentOperation alias) (plan : Plan) : Type 0 where
+  -- An operation that is sent, of a schema whose types keep their interfaces: it breaks no rule and is planned well.
+  pub record IsPlannedWell (x : SentOperation alias) : Type 0 where
+    pub keeps : KeepsInterfaces x.schema
     pub kept : first_broken x.schema x.document x.operation ≡ None
     pub root : type_of_kind x.schema x.operation.kind ≡ Some x.root
-    pub is_plan : IsOperationPlan (own_setting alias x) x.root x.operation plan
-    pub tells : TellsTypes false plan
+    pub well : operation_answer (own_setting alias x) x.root x.operation ≡ planned_well
 
-  abbrev pub ReadsReplyTo : SentOperation alias → Plan → Data → Tree → Type 0
-  ReadsReplyTo x plan json t = ReadsReply (type_names x.schema) alias plan json t
+  -- the client's own plan of it
+  abbrev pub own_plan : SentOperation alias → Plan
+  own_plan x = planned_operation (own_setting alias x) x.root x.operation
+
+  -- A JSON value reads by it as a tree.
+  abbrev pub ReadsReplyTo : SentOperation alias → Data → Tree → Type 0
+  ReadsReplyTo x json t = ReadsReply (type_names x.schema) alias (own_plan x) json t
