@@ -9,3 +9,6 @@ mod PossibleTypes
 mod Placed
 mod Telling
 mod KnownFields
+mod BuiltSchemas
+mod NamedKinds
+mod KeptInterfaces
