@@ -1,5 +1,5 @@
 -- The types of a schema that a text says keep their interfaces.
-use Rattle.std.proofs.Common.{◌≡◌, ◌⊎◌, inl, inr, ⊎_elim, ℕ, zero, suc, ◌+◌, List, [], ◌∷◌, ◌++◌, map, drop, get_or, length, Bool, true, false, not, true≢false, ◌||◌, ◌&&◌, eqb-true, Option, Some, None, refl, sym, ap, ◌∙◌, subst}
+use Rattle.std.proofs.Common.{◌≡◌, ◌⊎◌, inl, inr, ⊎_elim, ℕ, zero, suc, ◌+◌, List, [], ◌∷◌, ◌++◌, map, drop, get_or, length, Bool, true, false, not, true≢false, ◌||◌, eqb-true, Option, Some, None, refl, sym, ap, ◌∙◌, subst}
 use Rattle.std.specs.Prelude.{nat_eq, if◌then◌else◌}
 use Rattle.std.specs.List.{list_any, list_all}
 use Rattle.std.proofs.lemmas.Bool.{cases_Bool, not-false}
@@ -9,16 +9,15 @@ use Rattle.input_values.specs.coercion.Forms.{InputForm}
 use Rattle.input_values.specs.coercion.Places.{innermost}
 use Rattle.input_values.specs.inputs.Shapes.{ShapeTree, named_shape, list_shape}
 use Rattle.schema_reader.specs.Schemas.{BodyTree, schema_body, scalar_body, object_body, interface_body, union_body, enum_body, input_body, directive_body, DefinitionTree}
-use Rattle.schema_rules.specs.declared.kind.Kind.{Kind}
-use Rattle.schema_rules.specs.declared.kind.Kind.TheVariants.{Scalar, Object, Interface, Union, Enum, Input}
+use Rattle.schema_rules.specs.declared.kind.Kind.TheVariants.{Scalar, Union}
 use Rattle.schema_rules.specs.Places.{PlaceTree, at_type}
 use Rattle.schema_rules.specs.Items.{ItemTree}
 use Rattle.schema_rules.specs.TypeNames.{NamedKind}
 use Rattle.schema_rules.specs.DirectiveUses.{weight_of}
 use Rattle.schema_model.specs.Drafts.{FieldDraft, TypeDraft, bare, body_draft, definition_draft, scalar_draft, defined_drafts, drafts_of}
-use Rattle.schema_model.specs.Implementing.{draft_at, is_kind_of, is_no_looser, is_narrower, field_among, is_implemented, names_all, lacks_interfaces, lacking_field, in_type, lack_at, not_implemented}
+use Rattle.schema_model.specs.Implementing.{draft_at, is_kind_of, is_no_looser, is_narrower, names_all, lacks_interfaces, lacking_field, in_type, lack_at, not_implemented}
 use Rattle.schema_model.specs.Schemas.{field_name, types_from, no_type}
-use Rattle.schema_model.specs.SchemaData.{TypeData, SchemaData, type_at, field_at, field_named, number_at, same_text}
+use Rattle.schema_model.specs.SchemaData.{TypeData, SchemaData, type_at, field_named, number_at, same_text}
 use Rattle.gql_base.specs.names.Names.{place_of_name}
 use Rattle.cost_directives.proofs.FirstsFound.{none_at, both}
 use Rattle.cost_directives.proofs.DraftedFields.{FieldOf, made, own_interfaces, field_or_none}
@@ -170,14 +169,13 @@ module _ (form : ℕ → InputForm) (items : List ItemTree) (types : List NamedK
           ⊎_elim
           (λ none. absurd (none-some k.0 (sym none.1 ∙ k.1)))
           (λ (f : FieldOf form s ds T name). (
-            let same : f.draft ≡ k.0 = same_Some f.draft k.0 (sym f.drafted ∙ k.1) in
-            let own : type_of_field s f.number ≡ innermost k.0.shape = ap (λ field. innermost field.shape) f.field ∙ ap (λ (d : FieldDraft). innermost d.shape) same in
-            let theirs : type_of_field s wanted ≡ innermost v.draft.shape = sym (ap (type_of_field s) number) ∙ ap (λ field. innermost field.shape) v.field in
-            (
-              f.number,
-              f.named,
-              subst (λ (n : ℕ). IsNarrower s n (type_of_field s wanted)) (sym own)
-                  (subst (λ (n : ℕ). IsNarrower s (innermost k.0.shape) n) (sym theirs) (narrower_types (innermost k.0.shape) (innermost v.draft.shape) (kinds_within ds k.0.shape v.draft.shape narrower))),
-            )
+          let same : f.draft ≡ k.0 = same_Some f.draft k.0 (sym f.drafted ∙ k.1) in
+          let own : type_of_field s f.number ≡ innermost k.0.shape = ap (λ field. innermost field.shape) f.field ∙ ap (λ (d : FieldDraft). innermost d.shape) same in
+          let theirs : type_of_field s wanted ≡ innermost v.draft.shape = sym (ap (type_of_field s) number) ∙ ap (λ field. innermost field.shape) v.field in (
+            f.number,
+            f.named,
+            subst (λ (n : ℕ). IsNarrower s n (type_of_field s wanted)) (sym own)
+                (subst (λ (n : ℕ). IsNarrower s (innermost k.0.shape) n) (sym theirs) (narrower_types (innermost k.0.shape) (innermost v.draft.shape) (kinds_within ds k.0.shape v.draft.shape narrower))),
+          )
           ))
           (field_or_none form items types ds T name)

@@ -1,5 +1,5 @@
 -- The alias is a key of what is sent where one of the lists of selections ends with it, and nowhere else.
-use Rattle.std.proofs.Common.{◌≡◌, ◌⊎◌, inl, inr, ⊎_elim, ℕ, zero, suc, List, [], ◌∷◌, ◌++◌, map, Bool, true, false, true≢false, ◌||◌, bytes_eq, Option, Some, None, refl, sym, ap, ◌∙◌, subst}
+use Rattle.std.proofs.Common.{◌≡◌, ⊎_elim, ℕ, zero, suc, List, [], ◌∷◌, map, Bool, true, false, true≢false, ◌||◌, bytes_eq, Option, refl, sym, ap, ◌∙◌, subst}
 use Rattle.std.specs.Prelude.{find, if◌then◌else◌}
 use Rattle.std.specs.List.{list_any}
 use Rattle.std.proofs.lemmas.Bool.{cases_Bool, or_right}
@@ -13,16 +13,13 @@ use Rattle.plan_model.specs.Collecting.{is_included, applies_if_named, applies_b
 use Rattle.plan_model.specs.Merging.{Position, keys_from, has_key, fields_at, keys_at}
 use Rattle.typename_rewrite.specs.Rewriting.{typename_under, and_then, ended, rewritten_selection, rewritten_selections, rewritten_fragment}
 use Rattle.stripped_responses.specs.Stripping.{IsFreeOne, IsFree, AreFree, AreFragmentsFree, HasNoAlias}
-use Rattle.stripped_responses.proofs.RewrittenFields.{Each, each_append, e'}
+use Rattle.stripped_responses.proofs.RewrittenFields.{Each, each_append, each_where, e'}
+use Rattle.stripped_responses.proofs.RewrittenKeys.{symmetric}
 use Rattle.sent_replies.specs.Asking.{MarkedSelections, is_marked, written_of, CanBeEnded, sent_of, IsSentAsking}
 
 pub neither_of : (b c : Bool) → (b || c) ≡ false → (b ≡ false) × (c ≡ false)
 neither_of true c h = absurd (true≢false h)
 neither_of false c h = (refl, h)
-
-pub each_where : {X : Type 0} (P : X → Type 0) (b : Bool) (xs : List X) → Each P xs → Each P (if b then xs else [])
-each_where P true xs h = h
-each_where P false xs h = tt
 
 module _ (alias : List ℕ) where
   -- a field and a key that aren't the alias
@@ -31,12 +28,6 @@ module _ (alias : List ℕ) where
 
   abbrev pub IsOwnKey : List ℕ → Type 0
   IsOwnKey k = bytes_eq k alias ≡ false
-
-  pub other_way : (a k : List ℕ) → bytes_eq a k ≡ false → bytes_eq k a ≡ false
-  other_way a k isnt = ⊎_elim
-      (λ (same : bytes_eq k a ≡ true). absurd (true≢false (sym ((bytes_eq-Decides a k).1 (sym ((bytes_eq-Decides k a).0 same))) ∙ isnt)))
-      (λ (other : bytes_eq k a ≡ false). other)
-      (cases_Bool (bytes_eq k a))
 
   -- ---- keys
 
@@ -60,7 +51,7 @@ module _ (alias : List ℕ) where
       (λ (new : list_any (bytes_eq f.key) seen ≡ false). rw (new) (⊎_elim
       (λ (same : bytes_eq f.key k ≡ true). rw ((bytes_eq-Decides k f.key).1 (sym ((bytes_eq-Decides f.key k).0 same))) refl)
       (λ (other : bytes_eq f.key k ≡ false). or_right (bytes_eq k f.key) (list_any (bytes_eq k) (keys_from (f.key ∷ seen) fs))
-      (key_found k (f.key ∷ seen) fs (ap (λ (b : Bool). b || list_any (bytes_eq k) seen) (other_way f.key k other) ∙ unseen) (sym (ap (λ (b : Bool). b || list_any (has_key k) fs) other) ∙ has)))
+      (key_found k (f.key ∷ seen) fs (ap (λ (b : Bool). b || list_any (bytes_eq k) seen) (symmetric alias f.key k other) ∙ unseen) (sym (ap (λ (b : Bool). b || list_any (has_key k) fs) other) ∙ has)))
       (cases_Bool (bytes_eq f.key k))))
       (cases_Bool (list_any (bytes_eq f.key) seen))
 

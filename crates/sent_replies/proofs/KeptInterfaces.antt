@@ -1,19 +1,17 @@
 -- A schema that a text says keeps its interfaces.
-use Rattle.std.proofs.Common.{◌≡◌, ℕ, List, map, None, Ok, sym, ap, ◌∙◌, subst}
+use Rattle.std.proofs.Common.{◌≡◌, ℕ, List, None, Ok, sym, ap, ◌∙◌, subst}
 use Rattle.std.specs.Prelude.{nat_eq}
 use Rattle.std.specs.List.{list_any}
 use Rattle.input_values.specs.coercion.Forms.{InputForm}
 use Rattle.schema_reader.specs.Schemas.{DefinitionTree}
-use Rattle.schema_rules.specs.First.{first_of}
 use Rattle.schema_rules.specs.Items.{ItemTree, items_of}
 use Rattle.schema_rules.specs.TypeNames.{NamedKind, types_of}
 use Rattle.schema_rules.specs.Roots.{has_schema}
-use Rattle.schema_rules.specs.WrongKind.{wrong_at, wrong_kind}
+use Rattle.schema_rules.specs.WrongKind.{wrong_kind}
 use Rattle.schema_rules.proofs.FirstFaults.{neither}
 use Rattle.schema_model.specs.declared.schema.Schema.{Schema}
 use Rattle.schema_model.specs.Drafts.{TypeDraft, drafts_of}
 use Rattle.schema_model.specs.Implementing.{draft_at, not_implemented}
-use Rattle.schema_model.specs.SchemaData.{SchemaData}
 use Rattle.schema_model.specs.SchemaViews.{schema_data}
 use Rattle.schema_model.specs.Faults.{fault_of_items, fault_of_names, fault_of_types, fault_of_drafts, fault_from_types, fault_from_names, Builds}
 use Rattle.cost_directives.proofs.FittingSizes.{unmapped}

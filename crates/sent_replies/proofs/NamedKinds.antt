@@ -1,5 +1,5 @@
 -- The interfaces that the types of a text name are interfaces.
-use Rattle.std.proofs.Common.{◌≡◌, ◌⊎◌, inl, inr, ⊎_elim, ℕ, zero, suc, ◌+◌, ◌<◌, List, [], ◌∷◌, ◌++◌, map, flat_map, drop, get_or, length, Bool, true, false, not, true≢false, ◌||◌, eqb-true, bytes_eq, Option, Some, None, refl, sym, ap, ◌∙◌, subst, append_assoc, append-nil, arith}
+use Rattle.std.proofs.Common.{◌≡◌, ⊎_elim, ℕ, zero, suc, ◌+◌, ◌<◌, List, [], ◌∷◌, ◌++◌, map, flat_map, drop, get_or, length, Bool, true, false, not, true≢false, ◌||◌, eqb-true, bytes_eq, Option, Some, None, refl, sym, ap, ◌∙◌, subst, append_assoc, append-nil, arith}
 use Rattle.std.specs.Prelude.{nat_eq, codes, if◌then◌else◌}
 use Rattle.std.specs.List.{list_any}
 use Rattle.std.proofs.lemmas.Bool.{cases_Bool, not-false}
@@ -11,8 +11,8 @@ use Rattle.schema_reader.specs.Schemas.{NameText, FieldDefTree, BodyTree, schema
 use Rattle.schema_rules.specs.declared.kind.Kind.{Kind}
 use Rattle.schema_rules.specs.declared.kind.Kind.TheVariants.{Scalar, Object, Interface, Union, Enum, Input}
 use Rattle.schema_rules.specs.Kinds.{is_interface}
-use Rattle.schema_rules.specs.First.{told, first_of}
-use Rattle.schema_rules.specs.Items.{ItemTree, interface_item, member_item, argument_item, input_field_item, directive_argument_item, type_item, field_item, root_item_of, field_type_of, enum_value_of, field_items, is_none_of, body_items, definition_items, items_of, place_of}
+use Rattle.schema_rules.specs.First.{first_of}
+use Rattle.schema_rules.specs.Items.{ItemTree, interface_item, member_item, argument_item, input_field_item, directive_argument_item, type_item, root_item_of, field_type_of, enum_value_of, field_items, is_none_of, body_items, definition_items, items_of, place_of}
 use Rattle.schema_rules.specs.TypeNames.{NamedKind, name_of, with_type, types_defined, with_scalar, with_built_ins, types_of, kind_or_scalar, kind_named}
 use Rattle.schema_rules.specs.WrongKind.{is_wrong, wrong_at}
 use Rattle.schema_rules.specs.DirectiveUses.{weight_of}
@@ -123,7 +123,6 @@ module _ (types : List NamedKind) (has : Bool) where
   abbrev pub IsOfInterface : ℕ → Type 0
   IsOfInterface n = (name : List ℕ) × (n ≡ number_named types name) × (is_interface (kind_named types name) ≡ true)
 
-
   both_right : (xs ys : List ItemTree) → first_of (wrong_at types has) (xs ++ ys) ≡ None → (first_of (wrong_at types has) xs ≡ None) × (first_of (wrong_at types has) ys ≡ None)
   both_right xs ys none = neither (first_of (wrong_at types has) xs) (first_of (wrong_at types has) ys) (sym (first_of_append (wrong_at types has) xs ys) ∙ none)
 
@@ -196,14 +195,14 @@ module _ (form : ℕ → InputForm) (types : List NamedKind) (ds : List TypeDraf
   kind_of_number name is = ⊎_elim
       (λ none. absurd (true≢false (sym is ∙ ap (λ found. is_interface (kind_or_scalar found)) none.1)))
       (λ (here : Standing (λ t. bytes_eq (name_of t) name) 0 types). (
-        let long : length ds ≡ length types = sym (length-map ds named_kind) ∙ ap length agree in
-        let within : here.place < length ds = omega (arith, here.within, long) in
-        let e : 0 + here.place ≡ here.place = omega arith in
-        let at : number_named types name ≡ here.place = ap (or_past types) (here.placed ∙ ap Some e) in
-        let same : named_kind (draft_at ds here.place) ≡ here.item =
-        sym (get_or-map named_kind ds here.place (bare [] Scalar None) here.item within) ∙ (ap (λ l. get_or l here.place here.item) agree ∙ here.there) in
-        let found : here.item.kind ≡ Interface = only_interface here.item.kind (sym (ap (λ o. is_interface (kind_or_scalar o)) here.found) ∙ is) in
-        ap (λ n. (get_or (types_from form 0 ds) n no_type).kind) at ∙ (kind_at form 0 ds here.place within ∙ (ap (λ (t : NamedKind). t.kind) same ∙ found))
+      let long : length ds ≡ length types = sym (length-map ds named_kind) ∙ ap length agree in
+      let within : here.place < length ds = omega (arith, here.within, long) in
+      let e : 0 + here.place ≡ here.place = omega arith in
+      let at : number_named types name ≡ here.place = ap (or_past types) (here.placed ∙ ap Some e) in
+      let same : named_kind (draft_at ds here.place) ≡ here.item =
+      sym (get_or-map named_kind ds here.place (bare [] Scalar None) here.item within) ∙ (ap (λ l. get_or l here.place here.item) agree ∙ here.there) in
+      let found : here.item.kind ≡ Interface = only_interface here.item.kind (sym (ap (λ o. is_interface (kind_or_scalar o)) here.found) ∙ is) in
+      ap (λ n. (get_or (types_from form 0 ds) n no_type).kind) at ∙ (kind_at form 0 ds here.place within ∙ (ap (λ (t : NamedKind). t.kind) same ∙ found))
       ))
       (standing (λ t. bytes_eq (name_of t) name) 0 types)
 

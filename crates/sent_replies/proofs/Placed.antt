@@ -1,26 +1,22 @@
 -- Selections that stand where objects of a type may: each of their fields is one that the object's own type has.
-use Rattle.std.proofs.Common.{◌≡◌, ◌⊎◌, inl, inr, ⊎_elim, ℕ, zero, suc, ◌+◌, List, [], ◌∷◌, ◌++◌, map, Bool, true, false, not, true≢false, ◌&&◌, ◌||◌, eqb-true, bytes_eq, Option, Some, None, refl, sym, ap, ◌∙◌, subst}
-use Rattle.std.specs.Prelude.{slice_get, option_map, find, nat_eq, if◌then◌else◌}
-use Rattle.std.specs.List.{list_any}
+use Rattle.std.proofs.Common.{◌≡◌, ◌⊎◌, inl, inr, ⊎_elim, ℕ, zero, suc, List, [], ◌∷◌, Bool, true, false, not, true≢false, ◌&&◌, eqb-true, bytes_eq, Option, Some, None, refl, sym, ap, ◌∙◌, subst}
+use Rattle.std.specs.Prelude.{find, if◌then◌else◌}
 use Rattle.std.proofs.lemmas.Bool.{cases_Bool}
-use Rattle.std.proofs.lemmas.Option.{none-some, same_Some}
-use Rattle.gql_base.specs.ways.Reading.{Identifier}
+use Rattle.std.proofs.lemmas.Option.{none-some}
 use Rattle.document_reader.specs.Documents.{SelectionTree, field_selection, fragment_spread, inline_fragment, SelectionTrees, no_selection, selection_then}
 use Rattle.schema_rules.specs.declared.kind.Kind.{Kind}
 use Rattle.schema_rules.specs.declared.kind.Kind.TheVariants.{Scalar, Object, Interface, Union, Enum, Input}
 use Rattle.schema_rules.specs.Kinds.{is_object, is_output_only}
 use Rattle.schema_model.specs.SchemaData.{TypeData, SchemaData, type_at, type_named, field_named, applies_to, applies, possible}
 use Rattle.document_rules.specs.Parts.{FragmentData, fragment_name}
-use Rattle.document_rules.specs.Sites.{Meaning, no_position, no_such_field, name_of_type, known_field, name_of_field, typename, is_composite, when_composite, composite_named, field_or_none, meaning_on, type_of_field, below_field, below_inline}
+use Rattle.document_rules.specs.Sites.{name_of_field, is_composite, when_composite, composite_named, meaning_on, below_field, below_inline}
 use Rattle.document_rules.specs.Rules.{is_no_such_field}
-use Rattle.plan_model.specs.SelectedFields.{Setting, FieldCall, Place, leaf_place, object_place, types_of, place_of_type, place_of, place_at, is_abstract, written_below, is_asked}
-use Rattle.plan_model.specs.Collecting.{is_included, applies_where, applies_by_name, applies_if_named, fragment_named, nesting, CollectedField, WrittenSelections, written_in, fields_of, fields_in, fields_written, fields_entered, fields_spread, collected_to, collected}
-use Rattle.plan_model.specs.Merging.{Position, has_key, fields_of_key, selections_below, asks, fields_at, fields_under}
-use Rattle.plan_model.specs.Responses.{is_among}
-use Rattle.stripped_responses.proofs.RewrittenFields.{Each, each_append}
-use Rattle.sent_replies.specs.Interfaces.{Implements, IsMember, IsNarrower, HasField, KeepsInterfaces}
-use Rattle.sent_replies.proofs.Ends.{each_where}
-use Rattle.sent_replies.proofs.PossibleTypes.{HasNoSecond, possible_applies, object_alone}
+use Rattle.plan_model.specs.SelectedFields.{Setting, is_abstract}
+use Rattle.plan_model.specs.Collecting.{is_included, applies_where, applies_by_name, fragment_named, nesting, CollectedField, WrittenSelections, fields_of, fields_in, fields_written, fields_entered, fields_spread, collected_to, collected}
+use Rattle.plan_model.specs.Merging.{Position, fields_of_key, fields_at, fields_under}
+use Rattle.stripped_responses.proofs.RewrittenFields.{Each, each_append, each_where}
+use Rattle.sent_replies.specs.Interfaces.{Implements, IsNarrower, HasField, KeepsInterfaces}
+use Rattle.sent_replies.proofs.PossibleTypes.{HasNoSecond, object_alone}
 
 module _ (s : SchemaData) where
   -- ---- fields that are known
@@ -114,9 +110,6 @@ module _ (s : SchemaData) where
     kind_left Scalar composite plain = absurd (true≢false (sym composite))
     kind_left Enum composite plain = absurd (true≢false (sym composite))
     kind_left Input composite plain = absurd (true≢false (sym composite))
-
-    abstract_kind : Kind → Bool
-    abstract_kind kind = is_output_only kind && not (is_object kind)
 
     pub object_is_narrowest : (B A : ℕ) → IsNarrower s B A → is_composite s B ≡ true → is_abstract s (when_composite s (Some A)) ≡ false → HasNoSecond (possible s B)
     object_is_narrowest B A narrower composite plain = by_way narrower

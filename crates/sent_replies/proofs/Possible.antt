@@ -1,6 +1,5 @@
 -- An object of a possible type, by the plan: its nodes, its keys, and the name of its type.
-use Rattle.std.proofs.Common.{◌≡◌, ◌⊎◌, inl, inr, ⊎_elim, ℕ, List, [], ◌∷◌, Bool, true, false, true≢false, ◌||◌, ◌&&◌, eqb, eqb-true, bytes_eq, Option, Some, None, refl, sym, ap, ◌∙◌, subst}
-use Rattle.std.specs.Prelude.{if◌then◌else◌}
+use Rattle.std.proofs.Common.{◌≡◌, ⊎_elim, ℕ, List, [], ◌∷◌, Bool, true, false, true≢false, ◌||◌, ◌&&◌, eqb, eqb-true, bytes_eq, Some, refl, sym, ap, ◌∙◌, subst}
 use Rattle.std.specs.List.{list_any}
 use Rattle.std.proofs.lemmas.Bool.{cases_Bool, or_right}
 use Rattle.std.proofs.lemmas.Slice.Eq.{bytes_eq-Decides}
@@ -19,7 +18,7 @@ use Rattle.stripped_responses.proofs.RewrittenKeys.{own_keys, IsTypename}
 use Rattle.stripped_responses.proofs.SameCalls.{typename_form, typename_place}
 use Rattle.sent_replies.specs.Saying.{has_entry, AreKeysOf, SaysTree, SayEntries}
 use Rattle.sent_replies.specs.Asking.{HasOneType, TellsType, BelowTypesTell, BelowNodesTell, type_names}
-use Rattle.sent_replies.proofs.Ends.{IsOwnKey, other_way}
+use Rattle.sent_replies.proofs.Ends.{IsOwnKey}
 
 module _ (e : Setting) where
   pub is_possible_type : (Ts : List ℕ) (p : Position) (possible : ObjectTypes) (T : ℕ) → ArePossible e Ts p possible → is_among T Ts ≡ true → is_possible T possible ≡ true

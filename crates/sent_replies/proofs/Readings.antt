@@ -1,24 +1,24 @@
 -- What is said of a response to rewritten selections reads by the client's own plan.
-use Rattle.std.proofs.Common.{◌≡◌, ◌⊎◌, inl, inr, ⊎_elim, ℕ, List, [], ◌∷◌, Bool, true, false, true≢false, ◌||◌, ◌&&◌, bytes_eq, Option, Some, None, refl, sym, ap, ◌∙◌, subst}
+use Rattle.std.proofs.Common.{◌≡◌, ⊎_elim, ℕ, List, [], ◌∷◌, Bool, true, false, true≢false, ◌||◌, ◌&&◌, bytes_eq, Some, refl, sym, ap, ◌∙◌, subst}
 use Rattle.std.specs.Prelude.{if◌then◌else◌}
 use Rattle.std.specs.List.{list_any}
 use Rattle.std.proofs.lemmas.Bool.{cases_Bool, or_right}
 use Rattle.serde_json.specs.Data.{Data, string, Items, no_items, item, Members}
 use Rattle.serde_json.specs.Find.{get_member}
-use Rattle.response_model.specs.Plan.{Form, single, listed, Selected, Plan, leaf_plan, position, ObjectTypes, Nodes, no_node, node, nodes_of}
+use Rattle.response_model.specs.Plan.{Form, single, listed, Selected, Plan, leaf_plan, position, Nodes, no_node, node, nodes_of}
 use Rattle.response_model.specs.Response.{Tree, null, leaf, list_of, object, Elements, no_element, element, Entries, no_entry, entry, is_null}
 use Rattle.response_model.specs.Reading.{has_key, Reads, EntriesRead, ElementsRead}
-use Rattle.plan_model.specs.SelectedFields.{Setting, FieldCall, Place, leaf_place, object_place, form_at, place_at}
-use Rattle.plan_model.specs.Merging.{Position, asks, fields_under, fields_at, keys_at, call_under, selected_under, below_key}
+use Rattle.plan_model.specs.SelectedFields.{Setting, Place, leaf_place, object_place, form_at, place_at}
+use Rattle.plan_model.specs.Merging.{Position, asks, fields_under, keys_at, call_under, selected_under, below_key}
 use Rattle.plan_model.specs.Plans.{IsPlan, AreNodes, with_capped}
 use Rattle.plan_model.specs.Responses.{FitsSelections, EntriesFitSelections, ElementsFitSelections}
 use Rattle.stripped_responses.specs.Stripping.{stripped, stripped_entries, stripped_elements, IsRewritten, HasNoAlias}
 use Rattle.stripped_responses.proofs.RewrittenFields.{Each, e'}
 use Rattle.stripped_responses.proofs.RewrittenKeys.{own_keys, Between, between}
 use Rattle.stripped_responses.proofs.Stripping.{own_form, own_place}
-use Rattle.sent_replies.specs.Saying.{has_entry, SaysTree, SayEntries, SayElements}
-use Rattle.sent_replies.specs.Asking.{AllHaveSelections, FragmentsHaveSelections, IsSentAsking, TellsTypes, BelowNodesTell, type_names, IsSentBy}
-use Rattle.sent_replies.proofs.Ends.{IsOwnKey, alias_is_key, alias_is_none}
+use Rattle.sent_replies.specs.Saying.{SaysTree, SayEntries, SayElements}
+use Rattle.sent_replies.specs.Asking.{AllHaveSelections, FragmentsHaveSelections, TellsTypes, BelowNodesTell, type_names, IsSentBy}
+use Rattle.sent_replies.proofs.Ends.{alias_is_key, alias_is_none}
 use Rattle.sent_replies.proofs.Selected.{FieldHas, under_has, below_has}
 use Rattle.sent_replies.proofs.Below.{sent_is_rewritten, asks_below}
 use Rattle.sent_replies.proofs.Possible.{is_possible_type, AreItsNodes, its_nodes, node_of_key, of_type, known_keys, among_own, each_own, key_of_entry, name_said}

@@ -1,5 +1,5 @@
 -- What is collected from selections that can be ended: below each field they can be ended again.
-use Rattle.std.proofs.Common.{◌≡◌, ◌⊎◌, inl, inr, ⊎_elim, ℕ, zero, suc, List, [], ◌∷◌, ◌++◌, map, Bool, true, false, bytes_eq, Option, Some, None, refl, subst}
+use Rattle.std.proofs.Common.{◌≡◌, ⊎_elim, ℕ, zero, suc, List, [], ◌∷◌, map, true, false, bytes_eq, Option}
 use Rattle.std.specs.Prelude.{find, if◌then◌else◌}
 use Rattle.std.proofs.lemmas.Bool.{cases_Bool}
 use Rattle.document_reader.specs.Documents.{SelectionTree, field_selection, fragment_spread, inline_fragment, SelectionTrees, no_selection, selection_then}
@@ -7,10 +7,9 @@ use Rattle.document_rules.specs.Parts.{FragmentData, fragment_name}
 use Rattle.document_rules.specs.Sites.{has_selections, composite_named, below_inline}
 use Rattle.plan_model.specs.SelectedFields.{Setting, written_below}
 use Rattle.plan_model.specs.Collecting.{is_included, applies_if_named, applies_by_name, fragment_named, nesting, CollectedField, WrittenSelections, fields_of, fields_in, fields_written, fields_entered, fields_spread, collected_to, collected}
-use Rattle.plan_model.specs.Merging.{Position, has_key, fields_of_key, selections_below, asks, fields_at, fields_under, below_key}
-use Rattle.stripped_responses.proofs.RewrittenFields.{Each, each_append}
+use Rattle.plan_model.specs.Merging.{Position, fields_of_key, selections_below, asks, fields_at, fields_under}
+use Rattle.stripped_responses.proofs.RewrittenFields.{Each, each_append, each_where}
 use Rattle.sent_replies.specs.Asking.{HasSelections, HaveSelections, AllHaveSelections, FragmentsHaveSelections, MarkedSelections, CanBeEnded}
-use Rattle.sent_replies.proofs.Ends.{each_where}
 
 module _ (e : Setting) where
   -- A field whose type is an interface or a union has selections, and so it is below it.

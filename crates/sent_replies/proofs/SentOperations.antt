@@ -1,11 +1,10 @@
 -- What is sent in place of a whole operation.
-use Rattle.std.proofs.Common.{◌≡◌, ◌⊎◌, inl, inr, ⊎_elim, ℕ, List, [], ◌∷◌, Bool, false, true, true≢false, ◌||◌, eqb, eqb-true, None, Some, refl, ap, sym, ◌∙◌}
+use Rattle.std.proofs.Common.{◌≡◌, inl, ⊎_elim, ℕ, List, [], ◌∷◌, Bool, false, true, true≢false, ◌||◌, eqb, eqb-true, Some, refl, ap, sym, ◌∙◌}
 use Rattle.std.proofs.lemmas.Bool.{cases_Bool}
 use Rattle.serde_json.specs.Data.{Data}
-use Rattle.document_reader.specs.Documents.{SelectionTrees, no_selection, selection_then}
+use Rattle.document_reader.specs.Documents.{SelectionTrees}
 use Rattle.document_reader.specs.Trees.{set_tree}
-use Rattle.document_rules.specs.Checking.{reached_by}
-use Rattle.response_model.specs.Plan.{single, Plan}
+use Rattle.response_model.specs.Plan.{single}
 use Rattle.response_model.specs.Response.{Tree}
 use Rattle.plan_model.specs.SelectedFields.{Setting}
 use Rattle.plan_model.specs.Responses.{is_among}
@@ -13,9 +12,9 @@ use Rattle.plan_model.specs.Visits.{visits, level_limit, node_limit}
 use Rattle.plan_model.proofs.FaultlessPlans.{faultless_is_planned}
 use Rattle.plan_model.proofs.PlannedWell.{none_at_fault}
 use Rattle.plan_model.specs.Operations.{root_place, root_position}
-use Rattle.typename_rewrite.specs.Rewriting.{ended, rewritten_selections}
-use Rattle.stripped_responses.specs.Stripping.{stripped, rewritten_root, HasNoAlias, SentOperation, own_setting, IsSentResponse}
-use Rattle.stripped_responses.proofs.FreeNames.{free_at, free_met}
+use Rattle.typename_rewrite.specs.Rewriting.{rewritten_selections}
+use Rattle.stripped_responses.specs.Stripping.{stripped, rewritten_root, SentOperation, own_setting, IsSentResponse}
+use Rattle.stripped_responses.proofs.Sent.{unended, no_alias}
 use Rattle.sent_replies.specs.Saying.{SaysTree}
 use Rattle.sent_replies.specs.Asking.{IsSentAsking, IsSentBy, TellsTypes, IsPlannedWell, own_plan, ReadsReplyTo}
 use Rattle.sent_replies.proofs.RulesKept.{operation_has}
@@ -24,21 +23,13 @@ use Rattle.sent_replies.proofs.Placed.{AllStandAt}
 use Rattle.sent_replies.proofs.Telling.{plan_tells}
 use Rattle.sent_replies.proofs.KnownFields.{operation_known}
 
--- without an end selections stay
-no_end : (alias : List ℕ) (xs : SelectionTrees) → xs ≡ ended alias false xs
-no_end alias no_selection = refl
-no_end alias (selection_then x others) = refl
-
 module _ (alias : List ℕ) (x : SentOperation alias) where
-  no_alias : HasNoAlias alias (own_setting alias x) (root_position x.root x.operation)
-  no_alias = record { own = (free_at alias x.document x.free.place x.operation x.free.free x.free.stands, tt); fragments = free_met alias x.document (reached_by x.document x.operation) x.free.free }
-
   -- at the root no name is asked for
   root_asks : IsSentAsking alias (own_setting alias x) false (root_position x.root x.operation) (rewritten_root alias x.schema x.root x.operation)
   root_asks = record {
     marked = (false, (Some x.root, set_tree x.operation.selections.items)) ∷ [];
     own = refl;
-    sent = ap (λ (xs : SelectionTrees). (Some x.root, xs) ∷ []) (no_end alias (rewritten_selections x.schema alias (Some x.root) (set_tree x.operation.selections.items)));
+    sent = ap (λ (xs : SelectionTrees). (Some x.root, xs) ∷ []) (unended alias (rewritten_selections x.schema alias (Some x.root) (set_tree x.operation.selections.items)));
     asks = refl;
     can_be_ended = (λ is. absurd (true≢false (sym is)), tt);
     handed = refl;
@@ -66,7 +57,7 @@ module _ (alias : List ℕ) (x : SentOperation alias) where
   root_sent well =
       let has = operation_has x.schema x.document x.operation x.root well.kept well.root in
       record {
-        has_none = no_alias;
+        has_none = no_alias alias x;
         own_selections = (has.0, tt);
         fragments = has.1;
         is_sent = root_asks;

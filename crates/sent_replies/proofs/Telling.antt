@@ -1,29 +1,28 @@
 -- A plan without faults asks for the names of types wherever several types are possible.
-use Rattle.std.proofs.Common.{◌≡◌, ◌⊎◌, inl, inr, ⊎_elim, ℕ, zero, suc, List, [], ◌∷◌, ◌++◌, map, flat_map, filter, Bool, true, false, not, true≢false, ◌||◌, eqb, eq-eqb, eqb-true, bytes_eq, Option, Some, None, refl, sym, ap, ◌∙◌, subst}
+use Rattle.std.proofs.Common.{◌≡◌, ◌⊎◌, inl, inr, ⊎_elim, ℕ, zero, suc, List, [], ◌∷◌, map, flat_map, Bool, true, false, not, true≢false, ◌||◌, eqb, eq-eqb, bytes_eq, Option, Some, None, refl, sym, ap, ◌∙◌, subst}
 use Rattle.std.specs.Prelude.{if◌then◌else◌}
 use Rattle.std.specs.List.{list_any}
 use Rattle.std.proofs.lemmas.Bool.{cases_Bool, or_right, not-false}
 use Rattle.std.proofs.lemmas.Option.{same_Some}
 use Rattle.std.proofs.lemmas.Slice.Eq.{bytes_eq-Decides}
-use Rattle.response_model.specs.Plan.{Plan, ObjectTypes, Nodes}
+use Rattle.response_model.specs.Plan.{Plan}
 use Rattle.schema_rules.specs.First.{or_else, told, first_of}
 use Rattle.schema_rules.proofs.FirstFaults.{neither, not_told}
-use Rattle.schema_model.specs.SchemaData.{SchemaData, type_at, field_named, applies, possible}
-use Rattle.document_reader.specs.Documents.{SelectionTrees}
-use Rattle.document_rules.specs.Sites.{Meaning, no_position, no_such_field, name_of_type, known_field, typename, is_composite, when_composite, field_or_none, meaning_on, type_of_field, below_field}
+use Rattle.schema_model.specs.SchemaData.{SchemaData, field_named, applies, possible}
+use Rattle.document_rules.specs.Sites.{name_of_type, typename, is_composite, when_composite, field_or_none, meaning_on, type_of_field, below_field}
 use Rattle.document_rules.specs.Rules.{is_no_such_field}
-use Rattle.plan_model.specs.SelectedFields.{Setting, FieldCall, HandedSize, Place, leaf_place, object_place, types_of, lacks_types, leaf_of, place_of_type, place_of, place_at, is_abstract, written_below, is_asked}
-use Rattle.plan_model.specs.Collecting.{CollectedField, WrittenSelections}
-use Rattle.plan_model.specs.Merging.{Position, keys_from, keys_of, has_key, fields_of_key, first_call, selections_below, asks, position_below, fields_at, keys_at, fields_under, call_under, below_key}
+use Rattle.plan_model.specs.SelectedFields.{Setting, HandedSize, Place, leaf_place, object_place, types_of, lacks_types, leaf_of, place_of_type, place_of, place_at, is_abstract, written_below, is_asked}
+use Rattle.plan_model.specs.Collecting.{CollectedField}
+use Rattle.plan_model.specs.Merging.{Position, keys_from, has_key, fields_of_key, first_call, selections_below, asks, position_below, fields_at, keys_at, fields_under, call_under, below_key}
 use Rattle.plan_model.specs.Responses.{is_among}
-use Rattle.plan_model.specs.Visits.{NodeFault, conflict, no_possible_type, names_differ, argument_fault, arguments_differ, size_fault, fault_of, Visit, visits_of_key, visits_of_type, too_deep_at, deepest_visits, visits, planned_nodes, planned_types, planned_at, nothing_planned, planned}
+use Rattle.plan_model.specs.Visits.{conflict, no_possible_type, names_differ, argument_fault, arguments_differ, size_fault, fault_of, Visit, visits_of_key, visits_of_type, too_deep_at, deepest_visits, visits, planned_nodes, planned_types, planned_at, nothing_planned, planned}
 use Rattle.plan_model.proofs.FaultlessPlans.{NoFault, none_in_front, none_behind, own_none, inner_none}
 use Rattle.stripped_responses.proofs.RewrittenFields.{Each}
 use Rattle.sent_replies.specs.Asking.{HasOneType, TellsType, TellsTypes, BelowTypesTell, BelowNodesTell}
 use Rattle.sent_replies.specs.Interfaces.{IsNarrower, HasField, KeepsInterfaces}
 use Rattle.sent_replies.proofs.Ends.{neither_of}
 use Rattle.sent_replies.proofs.PossibleTypes.{HasNoSecond, possible_applies}
-use Rattle.sent_replies.proofs.Placed.{AreKnownIn, FragmentsKnown, StandsOn, StandAt, AllStandAt, FieldStands, stands_wider, composite_wider, object_is_narrowest, own_field, under_stands}
+use Rattle.sent_replies.proofs.Placed.{FragmentsKnown, StandAt, AllStandAt, FieldStands, stands_wider, composite_wider, object_is_narrowest, own_field, under_stands}
 
 -- ---- keys have fields
 

@@ -1,5 +1,5 @@
 -- What the types of a schema keep of their interfaces and unions (GraphQL October 2021, 3.6 to 3.8).
-use Rattle.std.specs.Prelude.{◌≡◌, ◌⊎◌, ℕ, nat_eq, List, true, Option, None, Some}
+use Rattle.std.specs.Prelude.{◌≡◌, ◌⊎◌, ℕ, nat_eq, List, true, None, Some}
 use Rattle.std.specs.List.{list_any}
 use Rattle.schema_rules.specs.declared.kind.Kind.TheVariants.{Interface, Union}
 use Rattle.schema_model.specs.SchemaData.{SchemaData, type_at, field_named}

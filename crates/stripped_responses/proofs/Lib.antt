@@ -3,5 +3,5 @@ pub mod RewrittenKeys
 pub mod SameCalls
 pub mod Stripping
 mod Filling
-pub mod FreeNames
-mod Sent
+mod FreeNames
+pub mod Sent
