@@ -1,7 +1,7 @@
-mod RewrittenFields
-mod RewrittenKeys
-mod SameCalls
-mod Stripping
+pub mod RewrittenFields
+pub mod RewrittenKeys
+pub mod SameCalls
+pub mod Stripping
 mod Filling
 mod FreeNames
-mod Sent
+pub mod Sent

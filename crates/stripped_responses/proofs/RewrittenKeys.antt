@@ -23,7 +23,7 @@ module _ (alias : List ℕ) where
       (λ (other : bytes_eq a k ≡ false). other)
       (cases_Bool (bytes_eq a k))
 
-  symmetric : (a k : List ℕ) → bytes_eq a k ≡ false → bytes_eq k a ≡ false
+  pub symmetric : (a k : List ℕ) → bytes_eq a k ≡ false → bytes_eq k a ≡ false
   symmetric a k isnt = ⊎_elim
       (λ (same : bytes_eq k a ≡ true). absurd (true≢false (sym ((bytes_eq-Decides a k).1 (sym ((bytes_eq-Decides k a).0 same))) ∙ isnt)))
       (λ (other : bytes_eq k a ≡ false). other)
@@ -53,7 +53,7 @@ module _ (alias : List ℕ) where
       (cases_Bool (bytes_eq f.key alias))
 
   -- the fields of a key other than the alias are the client's own
-  own_of_key : (k : List ℕ) (fs : List CollectedField) → bytes_eq k alias ≡ false → fields_of_key k fs ≡ fields_of_key k (filter (is_own alias) fs)
+  pub own_of_key : (k : List ℕ) (fs : List CollectedField) → bytes_eq k alias ≡ false → fields_of_key k fs ≡ fields_of_key k (filter (is_own alias) fs)
   own_of_key k [] isnt = refl
   own_of_key k (f ∷ fs) isnt = ⊎_elim
       (λ (is : bytes_eq f.key alias ≡ true). rw (is) (rw (apart f.key k is isnt) (own_of_key k fs isnt)))
@@ -99,14 +99,14 @@ module _ (alias : List ℕ) (e : Setting) where
       ap (λ (zs : List (List ℕ)). if list_any (bytes_eq f.key) seen then zs else f.key ∷ keys_from (f.key ∷ seen) (map (rewritten_field alias e) fs)) (keys_map seen fs)
       ∙ ap (λ (zs : List (List ℕ)). if list_any (bytes_eq f.key) seen then keys_from seen fs else f.key ∷ zs) (keys_map (f.key ∷ seen) fs)
 
-  map_of_key : (k : List ℕ) (fs : List CollectedField) → fields_of_key k (map (rewritten_field alias e) fs) ≡ map (rewritten_field alias e) (fields_of_key k fs)
+  pub map_of_key : (k : List ℕ) (fs : List CollectedField) → fields_of_key k (map (rewritten_field alias e) fs) ≡ map (rewritten_field alias e) (fields_of_key k fs)
   map_of_key k [] = refl
   map_of_key k (f ∷ fs) = ⊎_elim
       (λ (here : bytes_eq f.key k ≡ true). rw (here) (ap (λ (zs : List CollectedField). rewritten_field alias e f ∷ zs) (map_of_key k fs)))
       (λ (other : bytes_eq f.key k ≡ false). rw (other) (map_of_key k fs))
       (cases_Bool (bytes_eq f.key k))
 
-  map_first : (fs : List CollectedField) → first_call (map (rewritten_field alias e) fs) ≡ first_call fs
+  pub map_first : (fs : List CollectedField) → first_call (map (rewritten_field alias e) fs) ≡ first_call fs
   map_first [] = refl
   map_first (f ∷ fs) = refl
 
@@ -135,11 +135,11 @@ module _ (alias : List ℕ) (e : Setting) where
       pub free : (k : List ℕ) → HasNoAlias alias e (below_key e T k p)
 
     -- the fields of a rewritten position, collected as deep as those of the client's
-    fields_alike : (q : Position) → fields_at (e' alias e) T q ≡ all_theirs alias e T (nesting e) q.selections
+    pub fields_alike : (q : Position) → fields_at (e' alias e) T q ≡ all_theirs alias e T (nesting e) q.selections
     unfolding collected
     fields_alike q = ap (λ (depth : ℕ). all_theirs alias e T depth q.selections) (same_nesting alias e T)
 
-    own_fields_at : (p : Position) → fields_at e T p ≡ all_mine alias e T (nesting e) p.selections
+    pub own_fields_at : (p : Position) → fields_at e T p ≡ all_mine alias e T (nesting e) p.selections
     unfolding collected
     own_fields_at p = refl
 

@@ -13,12 +13,12 @@ use Rattle.stripped_responses.proofs.Stripping.{Stripped, value_stripped}
 use Rattle.stripped_responses.proofs.Filling.{Fills, value_filled}
 
 -- without an end a selection set stays
-unended : (alias : List ℕ) (xs : SelectionTrees) → xs ≡ ended alias false xs
+pub unended : (alias : List ℕ) (xs : SelectionTrees) → xs ≡ ended alias false xs
 unended alias no_selection = refl
 unended alias (selection_then x others) = refl
 
 module _ (alias : List ℕ) (x : SentOperation alias) where
-  no_alias : HasNoAlias alias (own_setting alias x) (root_position x.root x.operation)
+  pub no_alias : HasNoAlias alias (own_setting alias x) (root_position x.root x.operation)
   no_alias = record { own = (free_at alias x.document x.free.place x.operation x.free.free x.free.stands, tt); fragments = free_met alias x.document (reached_by x.document x.operation) x.free.free }
 
   is_rewritten : IsRewritten alias x.schema (root_position x.root x.operation) (rewritten_root alias x.schema x.root x.operation)

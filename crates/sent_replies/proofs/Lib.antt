@@ -1,0 +1,14 @@
+mod Ends
+mod Selected
+mod Below
+mod Possible
+mod Readings
+mod RulesKept
+mod SentOperations
+mod PossibleTypes
+mod Placed
+mod Telling
+mod KnownFields
+mod BuiltSchemas
+mod NamedKinds
+mod KeptInterfaces
