@@ -7,5 +7,7 @@ pub mod FirstFaults
 pub mod GoodLines
 pub mod OneReading
 pub mod LeadingClients
+pub mod DecidedLines
+pub mod SomeReading
 pub mod WrittenFiles
 pub mod ReadTexts

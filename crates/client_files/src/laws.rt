@@ -1,6 +1,6 @@
 //! What holds of client files. These functions do nothing: their contracts are the laws.
 
-ghost use Rattle.std.specs.Prelude.{◌≡◌, ℕ, List};
+ghost use Rattle.std.specs.Prelude.{◌≡◌, ◌⊎◌, ℕ, List};
 ghost use Rattle.client_files.specs.Lines.{lines_of};
 ghost use Rattle.client_files.specs.ClientFiles.{IsClientFile, MayBeServed};
 ghost use Rattle.client_files.specs.Faults.{IsFirstFault};
@@ -12,8 +12,9 @@ use crate::client::{Client, Clients};
 use crate::fault::ClientsFault;
 use crate::heading::Version;
 
-/// A text is a client file in one way, or has one first fault, and not both.
+/// Each text is a client file in one way or has one first fault, and not both.
 pub fn a_text_has_one_reading()
+    ensures some { (text : List ℕ) → ((seconds : ℕ) × (clients : List client_type.Client) × IsClientFile text seconds clients) ⊎ ((fault : fault_type.ClientsFault) × IsFirstFault (lines_of text) fault) }
     ensures one_window { (text : List ℕ) (one other : ℕ) (clients others : List client_type.Client) → IsClientFile text one clients → IsClientFile text other others → one ≡ other }
     ensures same_clients { (text : List ℕ) (one other : ℕ) (clients others : List client_type.Client) → IsClientFile text one clients → IsClientFile text other others → clients ≡ others }
     ensures one_fault { (text : List ℕ) (one other : fault_type.ClientsFault) → IsFirstFault (lines_of text) one → IsFirstFault (lines_of text) other → one ≡ other }

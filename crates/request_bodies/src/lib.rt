@@ -10,6 +10,8 @@ mod request;
 mod tests;
 
 pub use fault::{BodyFault, fault_text};
-pub use laws::{a_body_is_one_request_or_has_one_fault, requests_are_shared};
+pub use laws::{
+    a_body_is_one_request_or_has_one_fault, requests_are_shared, variables_are_an_object,
+};
 pub use reading::read_request;
 pub use request::Request;
