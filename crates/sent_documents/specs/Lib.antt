@@ -1,2 +1,3 @@
--- The texts of documents that are sent.
+-- The texts of documents that are sent, and the responses to them.
 pub mod SentTexts
+pub mod SentResponses
