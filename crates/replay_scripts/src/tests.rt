@@ -5,7 +5,7 @@ use std::alloc::Global;
 use std::test::Fail;
 
 const SCRIPT: &str =
-    "begin a alpha 0 {\"query\":\"{ a }\"}\nbegin Z9 b_-1 18446744073709551615 \nend a x  y\r\ndown Z9\nfail a";
+    "begin a alpha 0 {\"query\":\"{ a }\"}\nbegin Zabcdefghijklmn9 b_-1Kk9Kk9Kk9Kk9Kk9Kk9Kk9Kk9Kk9Kk9Kk9Kk9Kk9Kk9Kk9Kk9Kk9Kk9Kk9Kk9 18446744073709551615 \nend a x  y\r\ndown Zabcdefghijklmn9\nfail a";
 
 // A text, and the text of its fault.
 const FAULTS: &[(&str, &str)] = &[
@@ -17,6 +17,10 @@ const FAULTS: &[(&str, &str)] = &[
     ("begin a  k 1 x", "script 1 BadLine 1"),
     ("begin a k.k 1 x", "script 1 BadLine 1"),
     ("begin aaaaaaaaaaaaaaaaa k 1 x", "script 1 BadLine 1"),
+    (
+        "begin a kkkkkkkkkkkkkkkkkkkkkkkkkkkkkkkkkkkkkkkkkkkkkkkkkkkkkkkkkkkkkkkkk 1 x",
+        "script 1 BadLine 1",
+    ),
     ("begin a k 1 x\nend a", "script 1 BadLine 2"),
     ("begin a k 1 x\ndown a ", "script 1 BadLine 2"),
     ("begin a k 1 x\nstop a", "script 1 BadLine 2"),
