@@ -20,9 +20,13 @@ IsFreeIn r alias = IsAlias (names_of_document (map definition_tree r.document)) 
 abbrev pub sent_document : (r : RequestData) → Prepared r → List ℕ → List DefinitionTree
 sent_document r p alias = rewritten_document r.schema alias p.root p.operation (setting r p).fragments
 
+-- its text
+abbrev pub sent_text : (r : RequestData) → Prepared r → List ℕ → List ℕ
+sent_text r p alias = printed (document_symbols (sent_document r p alias))
+
 -- the body of the request in which it is sent
 abbrev pub sent_body : (r : RequestData) → Prepared r → List ℕ → Data
-sent_body r p alias = body_data p.operation (printed (document_symbols (sent_document r p alias))) r.given
+sent_body r p alias = body_data p.operation (sent_text r p alias) r.given
 
 -- The text is that of the body, where each key stands once in what is given.
 abbrev pub IsSentText : (r : RequestData) → Prepared r → List ℕ → List ℕ → Type 0

@@ -24,7 +24,7 @@ use cost_num::CAP;
 use gql_base::Text;
 use outside::Files;
 use plan_table::Plan;
-use response_meter::{MeterFault, Metered};
+use response_meter::{MeterFault, Metered, print_answer};
 use std::alloc::{AllocError, Global};
 
 // The files of the command.
@@ -83,22 +83,22 @@ fn read_metering<F: Files>(
 }
 
 // The text of a measured cost, and the answer text on a line of its own.
-fn text_of_measure(alloc: Global, metered: &Metered) -> Result<Vec<u8>, AllocError>
-    requires types_within { metered.now.cost.types ≤ CAP }
-    requires fields_within { metered.now.cost.fields ≤ CAP }
-    ensures { IfOk result (λ text. text.items ≡ measure_text metered.now) }
+fn text_of_measure(alloc: Global, metered: Metered) -> Result<Vec<u8>, AllocError>
+    requires types_within { metered.cost.types ≤ CAP }
+    requires fields_within { metered.cost.fields ≤ CAP }
+    ensures { IfOk result (λ text. text.items ≡ measure_text metered) }
 {
     let mut text = text_of_cost(alloc, metered.cost)?;
     text.extend_from_slice(b"\n")?;
-    text.extend_from_slice(metered.text.as_bytes())?;
+    text.extend_from_slice(print_answer(metered).as_bytes())?;
     Ok(text)
 }
 
 // The outcome of a reply that is measured so.
-fn measured(alloc: Global, metered: &Metered) -> Outcome
-    requires types_within { metered.now.cost.types ≤ CAP }
-    requires fields_within { metered.now.cost.fields ≤ CAP }
-    ensures { IsDone (measure_text metered.now) result }
+fn measured(alloc: Global, metered: Metered) -> Outcome
+    requires types_within { metered.cost.types ≤ CAP }
+    requires fields_within { metered.cost.fields ≤ CAP }
+    ensures { IsDone (measure_text metered) result }
 {
     match text_of_measure(alloc, metered) {
         Ok(text) => Outcome::Done(text),
@@ -113,7 +113,7 @@ fn meter_plan(alloc: Global, plan: &Plan, alias: &str, reply: &[u8]) -> Outcome
     ensures { (tree : PlanTree) → HoldsSound plan.now tree → MeterOfPlan plan.now alias.now tree reply.now result }
 {
     match response_meter::meter(alloc, plan, alias, reply) {
-        Ok(metered) => measured(alloc, &metered),
+        Ok(metered) => measured(alloc, metered),
         Err(MeterFault::NotResponse { path, why }) => no_response(alloc, path, why),
         Err(MeterFault::SizeBroken { path, size, length }) => {
             size_broken(alloc, path, size, length)

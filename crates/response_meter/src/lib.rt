@@ -19,4 +19,4 @@ mod walk;
 
 pub use fault::{MeterFault, Why};
 pub use measuring::meter;
-pub use metered::Metered;
+pub use metered::{Metered, print_answer};

@@ -1,6 +1,6 @@
 //! Replies and what is measured of them.
 
-use crate::meter;
+use crate::{meter, print_answer};
 use cost_directives::Weights;
 use gql_base::Text;
 use input_values::TypeId;
@@ -95,7 +95,12 @@ fn measured(alloc: Global, plan: &Plan, reply: &str) -> Result<String, Fail> {
         Ok(_) => match meter(alloc, plan, "t", reply.as_bytes()) {
             Ok(found) => {
                 let cost = found.cost;
-                Ok(format!(in alloc; "{} {} {}", cost.types, cost.fields, found.text.as_str())?)
+                Ok(format!(in alloc;
+                    "{} {} {}",
+                    cost.types,
+                    cost.fields,
+                    print_answer(found).as_str()
+                )?)
             }
             Err(fault) => Ok(format!(in alloc; "{fault}")?),
         },

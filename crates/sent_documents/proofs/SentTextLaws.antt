@@ -22,8 +22,8 @@ use Rattle.document_reader.proofs.BareDocuments.{document_printable}
 use Rattle.document_reader.proofs.DocumentLaws.{document_family}
 use Rattle.document_rules.specs.Checking.{reached_by}
 use Rattle.acceptance.specs.Requests.{RequestData, Prepared}
-use Rattle.acceptance.specs.Forwarding.{IsFreeIn, sent_document}
-use Rattle.sent_documents.specs.SentTexts.{IsClientText, sent_text}
+use Rattle.acceptance.specs.Forwarding.{IsFreeIn, sent_document, sent_text}
+use Rattle.sent_documents.specs.SentTexts.{IsClientText}
 use Rattle.sent_documents.proofs.SendableParts.{Sendable, sendable_symbols, within_limit, all_printable}
 use Rattle.sent_documents.proofs.SendableSelections.{alias_printable}
 use Rattle.sent_documents.proofs.SendableDocuments.{document_sendable, rewritten_sendable}

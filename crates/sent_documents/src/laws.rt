@@ -12,8 +12,8 @@ ghost use Rattle.stripped_responses.specs.Stripping.{stripped};
 ghost use Rattle.sent_replies.specs.Saying.{SaysTree};
 ghost use Rattle.sent_replies.specs.Interfaces.{KeepsInterfaces};
 ghost use Rattle.acceptance.specs.Requests.{RequestData, Prepared, plan_answer};
-ghost use Rattle.acceptance.specs.Forwarding.{IsFreeIn, sent_document};
-ghost use Rattle.sent_documents.specs.SentTexts.{IsClientText, sent_text};
+ghost use Rattle.acceptance.specs.Forwarding.{IsFreeIn, sent_document, sent_text};
+ghost use Rattle.sent_documents.specs.SentTexts.{IsClientText};
 ghost use Rattle.sent_documents.specs.SentResponses.{AnswersSent, ReadsByPlan};
 
 use sent_replies::laws::replies_to_what_is_sent;
