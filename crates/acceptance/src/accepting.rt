@@ -40,10 +40,10 @@ pub fn read(alloc: Global, text: &str) -> Result<Document, AcceptFault>
 
 /// An operation that is accepted.
 #[derive(Drop)]
-pub struct Accepted<'a> {
+pub struct Accepted<'s, 'r> {
     /// The operation as it was checked, with the fragments that it reaches.
-    pub checked: Checked<'a>,
-    pub plan: Plan<'a>,
+    pub checked: Checked<'r>,
+    pub plan: Plan<'s>,
     /// What a response costs at most, within the cap in both components.
     pub bound: Cost,
 }
@@ -91,7 +91,7 @@ fn plan_fault(fault: PlanFault) -> AcceptFault
 }
 
 // The operation that the request asks for, where it breaks no rule.
-fn checked<'a>(alloc: Global, request: &Request<'a>) -> Result<Checked<'a>, AcceptFault>
+fn checked<'r>(alloc: Global, request: &Request<'_, 'r>) -> Result<Checked<'r>, AcceptFault>
     ensures of { IfOk result (IsCheckFor (request_data request.now)) }
     ensures checked { IfOk result (IsChecked (schema_data request.now.schema.now)) }
     ensures refused { IfErr result (λ fault. IfRefused fault (IsRefusedFor (request_data request.now))) }
@@ -119,12 +119,12 @@ fn valued(alloc: Global, request: &Request, checked: &Checked) -> Result<Variabl
 }
 
 // Its plan.
-fn planned<'a>(
+fn planned<'s>(
     alloc: Global,
-    request: &Request<'a>,
-    checked: &Checked<'a>,
+    request: &Request<'s, '_>,
+    checked: &Checked,
     variables: &Variables,
-) -> Result<Plan<'a>, AcceptFault>
+) -> Result<Plan<'s>, AcceptFault>
     requires of { IsCheckFor (request_data request.now) checked.now }
     requires checked { IsChecked (schema_data request.now.schema.now) checked.now }
     requires values { AreValues (request_data request.now) checked.now.operation.now (variables_data variables.now) }
@@ -164,7 +164,10 @@ fn bounded(request: &Request, plan: &Plan) -> Result<Cost, Refusal>
 /// GraphQL Cost Directives Specification). That the document's text is one is tested by `read`.
 ///
 /// It asks that the weights are those of the schema, and that the schema was built from a text.
-pub fn accept<'a>(alloc: Global, request: &Request<'a>) -> Result<Accepted<'a>, AcceptFault>
+pub fn accept<'s, 'r>(
+    alloc: Global,
+    request: &Request<'s, 'r>,
+) -> Result<Accepted<'s, 'r>, AcceptFault>
     requires of_schema { IsOfSchema (request_data request.now) }
     ensures accepted { IfOk result (λ a. IsAccepted (request_data request.now) a.plan a.bound) }
     ensures checked { IfOk result (λ a. IsCheckFor (request_data request.now) a.checked) }

@@ -7,13 +7,13 @@ use serde_json::Value;
 
 /// A request for an operation (GraphQL October 2021, 6.1).
 #[derive(Clone, Copy)]
-pub struct Request<'a> {
-    pub schema: &'a Schema,
+pub struct Request<'s, 'r> {
+    pub schema: &'s Schema,
     /// The weights of this schema.
-    pub weights: &'a Weights,
-    pub document: &'a Document,
+    pub weights: &'s Weights,
+    pub document: &'r Document,
     /// The name of the operation; none where the document has one operation alone.
-    pub name: Option<&'a str>,
+    pub name: Option<&'r str>,
     /// The values that are given for its variables: an object of JSON.
-    pub given: &'a Value,
+    pub given: &'r Value,
 }

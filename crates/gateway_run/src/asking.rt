@@ -151,7 +151,7 @@ pub fn inputs_in(alloc: Global, asked: &Asked, texts: &AskedTexts) -> Result<Inp
 }
 
 /// What is asked.
-pub fn request_of<'a>(asked: &'a Asked, inputs: &'a Inputs) -> Request<'a>
+pub fn request_of<'a>(asked: &'a Asked, inputs: &'a Inputs) -> Request<'a, 'a>
     ensures data { request_data result ≡ request_in asked.now inputs.now }
     ensures schema { result.schema.now ≡ inputs.now.weighed.schema }
 {

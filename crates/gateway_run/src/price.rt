@@ -46,7 +46,10 @@ fn priced(alloc: Global, cost: Cost) -> Outcome
 }
 
 // What is asked, where it is accepted.
-fn accepted_request<'a>(alloc: Global, request: &Request<'a>) -> Result<Accepted<'a>, AskedFault>
+fn accepted_request<'a>(
+    alloc: Global,
+    request: &Request<'a, 'a>,
+) -> Result<Accepted<'a, 'a>, AskedFault>
     requires of_schema { IsOfSchema (request_data request.now) }
     ensures accepted { IfOk result (λ a. IsAccepted (request_data request.now) a.plan a.bound) }
     ensures checked { IfOk result (λ a. IsCheckFor (request_data request.now) a.checked) }
@@ -69,7 +72,7 @@ pub fn accepted<'a>(
     asked: &'a Asked,
     texts: &AskedTexts,
     inputs: &'a Inputs,
-) -> Result<Accepted<'a>, AskedFault>
+) -> Result<Accepted<'a, 'a>, AskedFault>
     requires held { HoldInputs asked.now texts.now inputs.now }
     ensures accepted { IfOk result (λ a. IsAccepted (request_in asked.now inputs.now) a.plan a.bound) }
     ensures checked { IfOk result (λ a. IsCheckFor (request_in asked.now inputs.now) a.checked) }

@@ -28,7 +28,7 @@ pub fn build_plan<'a>(
     alloc: Global,
     schema: &'a Schema,
     weights: &'a Weights,
-    checked: &Checked<'a>,
+    checked: &Checked,
     variables: &Variables,
 ) -> Result<Plan<'a>, PlanFault>
     requires checked { IsChecked (schema_data schema.now) checked.now }
