@@ -1,0 +1,5 @@
+mod OffsetsLiterals
+mod OffsetsFields
+mod OffsetsCalls
+mod OffsetsKeys
+mod OffsetsResponses

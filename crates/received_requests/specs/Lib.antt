@@ -1,0 +1,2 @@
+-- Selections that differ in the offsets of names alone.
+pub mod Offsets
