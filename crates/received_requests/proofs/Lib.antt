@@ -1,0 +1,6 @@
+mod PickedParts
+mod ValuesKept
+mod ReachedNames
+mod ReachedWalks
+mod ReachedFragments
+mod BodiesSent

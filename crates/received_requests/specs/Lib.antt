@@ -1,0 +1,2 @@
+-- What is received where a request is sent on.
+pub mod Received
