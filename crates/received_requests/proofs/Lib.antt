@@ -3,3 +3,10 @@ mod OffsetsFields
 mod OffsetsCalls
 mod OffsetsKeys
 mod OffsetsResponses
+mod PickedParts
+mod ValuesKept
+mod ReachedNames
+mod ReachedWalks
+mod ReachedFragments
+mod BodiesSent
+mod ReceivedResponses

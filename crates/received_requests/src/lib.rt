@@ -1,6 +1,8 @@
-//! What is planned of the request that an upstream receives.
+//! The request that whoever receives what is sent to the upstream has, what is picked by it, and the responses to that.
 //!
-//! There is no code here: the functions have no body, and each carries a law as its contract.
+//! There is no code here: the functions have no bodies of their own, and carry the laws as their contracts.
 #![tactic(auto)]
 
+pub mod laws;
 pub mod offsets;
+pub mod responses;
