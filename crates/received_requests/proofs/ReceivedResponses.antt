@@ -24,7 +24,7 @@ module _ (r : RequestData) (p : Prepared r) (alias : List ℕ) (q : RequestData)
   }
 
 -- the operation of a request, as one that is sent
-pub operation_of : (r : RequestData) → Prepared r → (alias : List ℕ) → IsFreeIn r alias → SentOperation alias
+unfoldable pub operation_of : (r : RequestData) → Prepared r → (alias : List ℕ) → IsFreeIn r alias → SentOperation alias
 operation_of r p alias free = record {
   schema = r.schema;
   weights = r.weights;

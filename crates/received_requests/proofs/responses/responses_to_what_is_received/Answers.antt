@@ -1,5 +1,5 @@
 -- They differ in the offsets of names alone.
-use Rattle.std.proofs.Common.{sym, None}
+use Rattle.std.proofs.Common.{sym, None, true}
 use Rattle.variable_coercion.specs.Variables.{values_by_name}
 use Rattle.response_model.specs.Plan.{single}
 use Rattle.plan_model.specs.Operations.{root_place, root_position}
