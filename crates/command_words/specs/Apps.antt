@@ -43,3 +43,7 @@ forward_app = with_options (with_files (top (codes "forward")))
 -- `meter SCHEMA DOCUMENT REPLY`
 abbrev pub meter_app : App
 meter_app = with_options (with_rule (with_files (top (codes "meter"))) (place (codes "reply")))
+
+-- `migrate CLIENTS`
+abbrev pub migrate_app : App
+migrate_app = with_rule (top (codes "migrate")) (place (codes "clients"))

@@ -6,11 +6,11 @@ use Rattle.clap.specs.Simple.{App, matches_of}
 use Rattle.clap.specs.Faults.{fault_of}
 use Rattle.command_words.specs.declared.command.TheConstants.{UNDECLARED, GREATEST_UNSIZED}
 use Rattle.command_words.specs.declared.command.Command.{Command}
-use Rattle.command_words.specs.declared.command.Command.TheVariants.{Help, Version, Check, Price, Worst, Forward, Meter}
+use Rattle.command_words.specs.declared.command.Command.TheVariants.{Help, Version, Check, Price, Worst, Forward, Meter, Migrate}
 use Rattle.command_words.specs.declared.command.Asked.{Asked}
 use Rattle.static_cost.specs.declared.part.Part.{Part}
 use Rattle.static_cost.specs.declared.part.Part.TheVariants.{Types, Fields}
-use Rattle.command_words.specs.Apps.{check_app, price_app, worst_app, forward_app, meter_app}
+use Rattle.command_words.specs.Apps.{check_app, price_app, worst_app, forward_app, meter_app, migrate_app}
 
 -- The text is this number, in one decimal digit or more, and it is no greater than that.
 abbrev pub IsNumber : ℕ → List ℕ → ℕ → Type 0
@@ -71,6 +71,10 @@ abbrev pub GivesMeter : Rows → Command → Type 0
 GivesMeter rows (Meter asked reply) = GivesAsked rows asked × GivesReply rows reply
 GivesMeter rows other = ⊥
 
+abbrev pub GivesMigrate : Rows → Command → Type 0
+GivesMigrate rows (Migrate clients) = first_of (codes "clients") rows ≡ Some clients
+GivesMigrate rows other = ⊥
+
 abbrev pub AsksCheck : List (List ℕ) → Command → Type 0
 AsksCheck words command = Reads check_app (λ rows. GivesCheck rows command) words
 
@@ -86,6 +90,9 @@ AsksForward words command = Reads forward_app (λ rows. GivesForward rows comman
 abbrev pub AsksMeter : List (List ℕ) → Command → Type 0
 AsksMeter words command = Reads meter_app (λ rows. GivesMeter rows command) words
 
+abbrev pub AsksMigrate : List (List ℕ) → Command → Type 0
+AsksMigrate words command = Reads migrate_app (λ rows. GivesMigrate rows command) words
+
 -- The first word names the command, and those behind it ask for it.
 abbrev pub AsksAfter : List ℕ → List (List ℕ) → Command → Type 0
 AsksAfter name words Help = (name ≡ codes "--help") × (words ≡ [])
@@ -95,6 +102,7 @@ AsksAfter name words (Price asked) = (name ≡ codes "price") × AsksPrice words
 AsksAfter name words (Worst asked part) = (name ≡ codes "worst") × AsksWorst words (Worst asked part)
 AsksAfter name words (Forward asked) = (name ≡ codes "forward") × AsksForward words (Forward asked)
 AsksAfter name words (Meter asked reply) = (name ≡ codes "meter") × AsksMeter words (Meter asked reply)
+AsksAfter name words (Migrate clients) = (name ≡ codes "migrate") × AsksMigrate words (Migrate clients)
 
 -- The words ask for the command.
 abbrev pub Asks : List (List ℕ) → Command → Type 0

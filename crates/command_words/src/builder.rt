@@ -3,7 +3,7 @@
 ghost use Rattle.std.specs.Prelude.{◌≡◌, IfOk, false, codes};
 ghost use Rattle.clap.specs.Simple.{app_of, with_rule};
 ghost use Rattle.clap.specs.Walk.{rule_of};
-ghost use Rattle.command_words.specs.Apps.{with_files, with_options, check_app, price_app, worst_app, forward_app, meter_app};
+ghost use Rattle.command_words.specs.Apps.{with_files, with_options, check_app, price_app, worst_app, forward_app, meter_app, migrate_app};
 
 use clap::{Arg, ArgAction, Command};
 use std::alloc::{AllocError, Global};
@@ -118,4 +118,11 @@ pub fn meter_command<'a>(alloc: Global) -> Result<Command<'a>, AllocError>
     let command = with_files(alloc, top(alloc, "meter"))?;
     let command = with_place(alloc, command, "reply")?;
     with_options(alloc, command)
+}
+
+/// `migrate CLIENTS`
+pub fn migrate_command<'a>(alloc: Global) -> Result<Command<'a>, AllocError>
+    ensures { IfOk result (λ c. app_of c ≡ migrate_app) }
+{
+    with_place(alloc, top(alloc, "migrate"), "clients")
 }

@@ -40,6 +40,8 @@ pub enum Command {
     Forward { asked: Asked },
     /// Says what a reply to an operation cost, and what its client is answered.
     Meter { asked: Asked, reply: Text },
+    /// Writes a client file in the newest version of its format.
+    Migrate { clients: Text },
 }
 
 /// Why words were not read into a command.

@@ -6,3 +6,4 @@ mod AskedRefusals
 mod Measured
 mod OnePrice
 mod OneMeasure
+mod Migrations

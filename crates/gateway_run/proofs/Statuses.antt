@@ -1,13 +1,13 @@
 -- What a run with a status says.
 use Rattle.std.proofs.Common.{◌≡◌, ◌≤◌, ◌⊎◌, inl, inr, refl, sym, ap, subst, ℕ, List, Option, None, Some, Vec, arith}
-use Rattle.gateway_run.specs.declared.limits.TheConstants.{SCHEMA_LIMIT, DOCUMENT_LIMIT, VARIABLES_LIMIT}
+use Rattle.gateway_run.specs.declared.limits.TheConstants.{SCHEMA_LIMIT, DOCUMENT_LIMIT, VARIABLES_LIMIT, CLIENTS_LIMIT}
 use Rattle.std.specs.declared.alloc.Global.{Global}
 use Rattle.outside.specs.Faults.{Rose}
 use Rattle.gateway_run.specs.Texts.{line, too_large_text, meter_text}
 use Rattle.response_meter.specs.declared.fault.MeterFault.{MeterFault}
 use Rattle.response_meter.specs.declared.fault.MeterFault.TheVariants.{NotResponse, SizeBroken, Memory as MeterMemory}
 use Rattle.command_words.specs.declared.command.Command.{Command}
-use Rattle.command_words.specs.declared.command.Command.TheVariants.{Help, Version, Check, Price, Worst, Forward, Meter}
+use Rattle.command_words.specs.declared.command.Command.TheVariants.{Help, Version, Check, Price, Worst, Forward, Meter, Migrate}
 use Rattle.command_words.specs.declared.command.Asked.{Asked}
 use Rattle.static_cost.specs.declared.part.Part.{Part}
 use Rattle.plan_table.specs.declared.table.Plan.{Plan}
@@ -26,6 +26,7 @@ use Rattle.acceptance.specs.Requests.{plan_tree}
 use Rattle.gateway_run.specs.Worst.{WorstOfTree, WorstOf}
 use Rattle.gateway_run.specs.Forward.{ForwardOf}
 use Rattle.gateway_run.specs.Meter.{status_of, IsReplyFault, HasNoReply, HaveNoMetering, MeterOfPlan, MeterOf}
+use Rattle.gateway_run.specs.Migrate.{MigrateOf}
 use Rattle.gateway_run.specs.Program.{CommandCameTo, IsCommandOf, ComeTo, IsAskedFile, IsFileOf, NamesFile, OneFailed, PrintsOutput, PrintsRefusal, PrintsFault, IsSilent}
 
 -- the statuses of faulty replies
@@ -143,6 +144,11 @@ module _ (IsName : List ℕ → Type 0) (files : FilesTold) where
   meter_answer asked texts reply outcome (inr (inl accepted)) = meter_plan_answer accepted.2.0 accepted.2.4.0 (plan_tree (request_in asked accepted.0) accepted.2.2.is_planned.prepared) reply outcome accepted.2.4.2
   meter_answer asked texts reply outcome (inr (inr refused)) = refused_answer _ outcome refused.2
 
+  migrate_answer : (text : List ℕ) (outcome : Outcome) → MigrateOf text outcome → IsAnswer IsName files outcome
+  migrate_answer text outcome (inl memory) = memory_answer outcome memory
+  migrate_answer text outcome (inr (inl done)) = done_answer _ outcome done.2
+  migrate_answer text outcome (inr (inr refused)) = refused_answer _ outcome refused.2
+
 -- ---- commands
 
 asked_answer : (asked : Asked) (files : FilesTold) (outcome : Outcome) → HaveNoTexts asked files outcome → IsAnswer (IsAskedFile asked) files outcome
@@ -167,6 +173,8 @@ came (Forward asked) files outcome (inl none) = asked_answer asked files outcome
 came (Forward asked) files outcome (inr read) = forward_answer (IsAskedFile asked) files asked read.0 outcome read.2
 came (Meter asked reply) files outcome (inl none) = metering_answer asked reply files outcome none
 came (Meter asked reply) files outcome (inr read) = meter_answer (IsFileOf (Meter asked reply)) files asked read.0 read.1 outcome read.4
+came (Migrate clients) files outcome (inl none) = no_text_answer (IsFileOf (Migrate clients)) files CLIENTS_LIMIT clients outcome refl none
+came (Migrate clients) files outcome (inr read) = migrate_answer (IsFileOf (Migrate clients)) files read.0 outcome read.2
 
 came_file : (command : Command) (files : FilesTold) (name : List ℕ) → CommandCameTo command files (FileFailed name) → IsFileOf command name × Rose (files.faults_before name) (files.faults_after name)
 came_file command files name = came command files (FileFailed name)

@@ -8,4 +8,5 @@ pub mod Price
 pub mod Worst
 pub mod Forward
 pub mod Meter
+pub mod Migrate
 pub mod Program

@@ -2,7 +2,7 @@
 use Rattle.std.specs.Prelude.{◌≡◌, ◌⊎◌, ℕ, List, Some, Vec}
 use Rattle.std.specs.declared.alloc.Global.{Global}
 use Rattle.command_words.specs.declared.command.Command.{Command}
-use Rattle.command_words.specs.declared.command.Command.TheVariants.{Help, Version, Check, Price, Worst, Forward, Meter}
+use Rattle.command_words.specs.declared.command.Command.TheVariants.{Help, Version, Check, Price, Worst, Forward, Meter, Migrate}
 use Rattle.command_words.specs.declared.command.Asked.{Asked}
 use Rattle.command_words.specs.declared.command.WordsFault.{WordsFault}
 use Rattle.command_words.specs.declared.command.WordsFault.TheVariants.{Usage as NoCommand, Memory as NoMemory}
@@ -18,6 +18,7 @@ use Rattle.gateway_run.specs.Price.{PriceCameTo}
 use Rattle.gateway_run.specs.Worst.{WorstCameTo}
 use Rattle.gateway_run.specs.Forward.{ForwardCameTo}
 use Rattle.gateway_run.specs.Meter.{MeterCameTo}
+use Rattle.gateway_run.specs.Migrate.{MigrateCameTo}
 
 -- What a command came to.
 abbrev pub CommandCameTo : Command → FilesTold → Outcome → Type 0
@@ -28,6 +29,7 @@ CommandCameTo (Price asked) files outcome = PriceCameTo asked files outcome
 CommandCameTo (Worst asked part) files outcome = WorstCameTo asked part files outcome
 CommandCameTo (Forward asked) files outcome = ForwardCameTo asked files outcome
 CommandCameTo (Meter asked reply) files outcome = MeterCameTo asked reply files outcome
+CommandCameTo (Migrate clients) files outcome = MigrateCameTo clients files outcome
 
 -- The outcome of words that were not read into a command.
 abbrev pub no_command : WordsFault → Outcome
@@ -61,6 +63,7 @@ IsFileOf (Price asked) name = IsAskedFile asked name
 IsFileOf (Worst asked part) name = IsAskedFile asked name
 IsFileOf (Forward asked) name = IsAskedFile asked name
 IsFileOf (Meter asked reply) name = IsAskedFile asked name ⊎ (name ≡ reply)
+IsFileOf (Migrate clients) name = name ≡ clients
 
 -- A file of the command that the words ask for was not read; just the line that names it was written, or the error stream failed.
 pub record NamesFile (words : List (List ℕ)) (files : FilesTold) (out err : StreamTold) : Type 0 where

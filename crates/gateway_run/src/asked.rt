@@ -1,14 +1,13 @@
 //! The files of an operation: reading them, and what they hold.
 
 ghost use Rattle.std.specs.Prelude.{◌≡◌, ◌≤◌, ℕ, List, IfOk, IfErr};
-ghost use Rattle.gateway_run.specs.Reading.{IsText, IsTextOf, IsNoText, HasNoText};
+ghost use Rattle.gateway_run.specs.Reading.{IsTextOf};
 ghost use Rattle.gateway_run.specs.Outcomes.{files_told};
 ghost use Rattle.gateway_run.specs.Asked.{HoldVariables, HasNoVariables, HaveNoOperation, HoldTexts, HaveNoTexts};
 
-use crate::inputs::read_file;
+use crate::inputs::read_text;
 use crate::limits::{DOCUMENT_LIMIT, SCHEMA_LIMIT, VARIABLES_LIMIT};
 use crate::outcome::Outcome;
-use crate::texts::refused_naming;
 use command_words::Asked;
 use gql_base::Text;
 use outside::Files;
@@ -21,41 +20,6 @@ pub struct AskedTexts {
     pub document: Text,
     /// The values that are given for variables, where a file of them is named.
     pub variables: Option<Text>,
-}
-
-// The text that the bytes of a file are.
-fn text_in(alloc: Global, name: &Text, limit: usize, read: Vec<u8>) -> Result<Text, Outcome>
-    ensures text { IfOk result (λ text. (text ≡ read.items) × IsText limit read.items) }
-    ensures refused { IfErr result (IsNoText limit name.now read.items) }
-{
-    if read.len() > limit {
-        return Err(refused_naming(alloc, "input 1 TooLarge", name));
-    }
-    match Text::from_utf8(read) {
-        Ok(text) => Ok(text),
-        Err(_) => Err(refused_naming(alloc, "input 2 NotText", name)),
-    }
-}
-
-// The text that a file holds.
-fn read_text<F: Files>(
-    alloc: Global,
-    name: &Text,
-    limit: usize,
-    files: &mut F,
-) -> Result<Text, Outcome>
-    ensures held { IfOk result (IsTextOf limit (F.content files.old name.now)) }
-    ensures same { F.content files.new ≡ F.content files.old }
-    ensures count { (other : List ℕ) → F.faults files.old other ≤ F.faults files.new other }
-    ensures none { IfErr result (HasNoText limit name.now (files_told (F.content files.old) (F.faults files.old) (F.faults files.new))) }
-{
-    let Ok(own) = Text::copy_of(alloc, name.as_str()) else {
-        return Err(Outcome::Memory);
-    };
-    match read_file(alloc, own, limit, files) {
-        Ok(read) => text_in(alloc, name, limit, read),
-        Err(outcome) => Err(outcome),
-    }
 }
 
 /// The text that the file of the variables holds, where one is named.

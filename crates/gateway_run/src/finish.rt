@@ -22,6 +22,8 @@ usage: tellcrock forward SCHEMA DOCUMENT [--variables FILE] [--operation NAME] [
   prints the request that is sent on for an operation
 usage: tellcrock meter SCHEMA DOCUMENT REPLY [--variables FILE] [--operation NAME] [--unsized N]
   prints what a reply cost, and the answer for its client
+usage: tellcrock migrate CLIENTS
+  prints a client file in the newest version of its format
 usage: tellcrock --help
 usage: tellcrock --version";
 

@@ -14,6 +14,8 @@ mod inputs;
 mod limits;
 mod meter;
 mod meter_laws;
+mod migrate;
+mod migrate_laws;
 mod outcome;
 mod price;
 mod price_laws;
@@ -29,6 +31,7 @@ mod worst;
 pub use check_laws::a_schema_file_has_one_check;
 pub use command_words::WordsFault;
 pub use meter_laws::{a_refused_operation_has_no_reply, a_reply_has_one_measure, one_text_is_sent};
+pub use migrate_laws::a_client_file_has_one_migration;
 pub use outcome::{
     DONE, FILE_FAILED, NO_MEMORY, NOT_RESPONSE, REFUSED, SIZE_BROKEN, STREAM_FAILED, USAGE,
 };

@@ -6,5 +6,7 @@ pub const SCHEMA_LIMIT: usize = 4_194_304;
 pub const DOCUMENT_LIMIT: usize = 262_144;
 /// How many bytes a file of variables may have.
 pub const VARIABLES_LIMIT: usize = 4_194_304;
+/// How many bytes a client file may have.
+pub const CLIENTS_LIMIT: usize = 262_144;
 /// How many bytes a reply file may have.
 pub const REPLY_LIMIT: usize = 4_194_304;

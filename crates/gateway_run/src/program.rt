@@ -8,6 +8,7 @@ use crate::check::check;
 use crate::finish::{USAGE_TEXT, VERSION_TEXT, finish};
 use crate::forward::forward;
 use crate::meter::meter;
+use crate::migrate::migrate;
 use crate::outcome::Outcome;
 use crate::price::price;
 use crate::worst::worst;
@@ -38,6 +39,7 @@ fn outcome_of<F: Files>(alloc: Global, command: Command, files: &mut F) -> Outco
         Command::Worst { asked, part } => worst(alloc, &asked, part, files),
         Command::Forward { asked } => forward(alloc, &asked, files),
         Command::Meter { asked, reply } => meter(alloc, &asked, &reply, files),
+        Command::Migrate { clients } => migrate(alloc, &clients, files),
     }
 }
 

@@ -5,9 +5,11 @@ ghost use Rattle.clap.specs.Walk.{rows_of, first_of};
 ghost use Rattle.clap.specs.Matches.{found_of};
 ghost use Rattle.static_cost.specs.declared.part.Part.{Part as PartType};
 ghost use Rattle.command_words.specs.declared.command.Command.{Command as CommandType};
-ghost use Rattle.command_words.specs.Words.{GivesPart, GivesCheck, GivesPrice, GivesWorst, GivesForward, GivesMeter, AsksCheck, AsksPrice, AsksWorst, AsksForward, AsksMeter};
+ghost use Rattle.command_words.specs.Words.{GivesPart, GivesCheck, GivesPrice, GivesWorst, GivesForward, GivesMeter, GivesMigrate, AsksCheck, AsksPrice, AsksWorst, AsksForward, AsksMeter, AsksMigrate};
 
-use crate::builder::{check_command, forward_command, meter_command, price_command, worst_command};
+use crate::builder::{
+    check_command, forward_command, meter_command, migrate_command, price_command, worst_command,
+};
 use crate::command::{Command, WordsFault};
 use crate::words::asked::{asked_of, place_text, place_word};
 use crate::words::matches::matches_of;
@@ -162,6 +164,31 @@ pub fn meter<'a>(alloc: Global, words: &'a [&'a str]) -> Result<Command, WordsFa
     };
     match matches_of(command, words) {
         Ok(matches) => meter_of(alloc, &matches),
+        Err(fault) => Err(fault),
+    }
+}
+
+// The migration that words ask for.
+fn migrate_of(alloc: Global, matches: &ArgMatches) -> Result<Command, WordsFault>
+    ensures found { IfOk result (GivesMigrate (rows_of (found_of matches.now))) }
+    ensures usage { result ≡ Err WordsFault.Usage → (command : CommandType) → GivesMigrate (rows_of (found_of matches.now)) command → ⊥ }
+{
+    match place_text(alloc, matches, "clients") {
+        Ok(clients) => Ok(Command::Migrate { clients }),
+        Err(fault) => Err(fault),
+    }
+}
+
+/// `migrate CLIENTS`
+pub fn migrate<'a>(alloc: Global, words: &'a [&'a str]) -> Result<Command, WordsFault>
+    ensures found { IfOk result (AsksMigrate (map (λ s. s.now) words.entry.now)) }
+    ensures usage { result ≡ Err WordsFault.Usage → (command : CommandType) → AsksMigrate (map (λ s. s.now) words.entry.now) command → ⊥ }
+{
+    let Ok(command) = migrate_command(alloc) else {
+        return Err(WordsFault::Memory);
+    };
+    match matches_of(command, words) {
+        Ok(matches) => migrate_of(alloc, &matches),
         Err(fault) => Err(fault),
     }
 }

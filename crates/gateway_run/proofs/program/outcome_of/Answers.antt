@@ -22,3 +22,7 @@ returns-in-Forward g c =
 pub returns-in-Meter : goal.returns-in-Meter
 returns-in-Meter g c =
     subst (λ command. CommandCameTo command (files_told (g.F.Files.content c.args.files.now) (g.F.Files.faults c.args.files.now) (g.F.Files.faults c.meter.new.files)) c.meter.result) (sym c.in-Meter.is) c.meter.ensures
+
+pub returns-in-Migrate : goal.returns-in-Migrate
+returns-in-Migrate g c =
+    subst (λ command. CommandCameTo command (files_told (g.F.Files.content c.args.files.now) (g.F.Files.faults c.args.files.now) (g.F.Files.faults c.migrate.new.files)) c.migrate.result) (sym c.in-Migrate.is) c.migrate.ensures

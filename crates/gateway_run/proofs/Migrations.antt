@@ -1,0 +1,43 @@
+-- Client files that are written, and their outputs.
+use Rattle.std.proofs.Common.{◌≡◌, ◌∙◌, sym, ap, ap₂, ℕ, ◌-◌, List, [], ◌∷◌, ◌++◌, length, take, map, append_assoc, arith}
+use Rattle.std.specs.List.{flat_map}
+use Rattle.std.proofs.lemmas.List.{append-nil, append_cancel_right, length-append, take_at}
+use Rattle.client_files.specs.declared.client.Client.{Client}
+use Rattle.client_files.specs.declared.heading.Version.TheVariants.{Two}
+use Rattle.client_files.specs.Lines.{ended}
+use Rattle.client_files.specs.Headings.{version_line, window_line}
+use Rattle.client_files.specs.ClientFiles.{IsClientFile}
+use Rattle.client_files.specs.Written.{client_line, client_file, Migrates}
+use Rattle.gateway_run.specs.Texts.{line}
+use Rattle.gateway_run.specs.Migrate.{IsLine}
+
+-- lines that are ended are a text that ends with a line end
+ends : (first : List ℕ) (lines : List (List ℕ)) → IsLine (flat_map ended (first ∷ lines))
+ends first [] = (first, append-nil (ended first))
+ends first (next ∷ lines) =
+    let later = ends next lines in
+    (ended first ++ later.0, ap (λ text. ended first ++ text) later.1 ∙ sym (append_assoc (ended first) later.0 (10 ∷ [])))
+
+pub written_line : (text file : List ℕ) → Migrates text file → IsLine file
+unfolding client_file
+written_line text file m =
+    let lines = ends (version_line Two) (window_line m.seconds ∷ map client_line m.clients) in
+    (lines.0, m.written ∙ lines.1)
+
+-- without its last byte it is the output
+all_but_last : (output : List ℕ) (n : ℕ) → n ≡ length (line output) → take (n - 1) (line output) ≡ output
+all_but_last output n is = take_at output (10 ∷ []) (n - 1) (omega (arith, is, length-append output (10 ∷ [])))
+
+pub ended_again : (text : List ℕ) (n : ℕ) → IsLine text → n ≡ length text → line (take (n - 1) text) ≡ text
+ended_again text n is counted =
+    let cut = all_but_last is.0 n (counted ∙ ap length is.1) in
+    ap line (ap (take (n - 1)) is.1 ∙ cut) ∙ sym is.1
+
+-- the text is the file of one window and of one list of clients
+pub one_output : (text output other : List ℕ) → ((one two : ℕ) (clients others : List Client) → IsClientFile text one clients → IsClientFile text two others → one ≡ two)
+    → ((one two : ℕ) (clients others : List Client) → IsClientFile text one clients → IsClientFile text two others → clients ≡ others)
+    → Migrates text (line output) → Migrates text (line other) → output ≡ other
+one_output text output other windows lists a b =
+    let window = windows a.seconds b.seconds a.clients b.clients a.read b.read in
+    let clients = lists a.seconds b.seconds a.clients b.clients a.read b.read in
+    append_cancel_right output other (10 ∷ []) (a.written ∙ (ap₂ client_file window clients ∙ sym b.written))
