@@ -7,6 +7,7 @@ use Rattle.serde_json.specs.Written.{outline}
 use Rattle.gql_base.specs.printing.Printing.{printed}
 use Rattle.document_reader.specs.declared.trees.Operation.{Operation}
 use Rattle.document_reader.specs.Documents.{SelectionTrees}
+use Rattle.document_reader.specs.DocumentAnswers.{HasDocument}
 use Rattle.document_reader.specs.Trees.{definition_tree, maybe_identifier, variable_tree, set_tree}
 use Rattle.document_reader.specs.PrintedDocuments.{document_symbols}
 use Rattle.document_reader.specs.PlacelessDocuments.{selections_placeless, document_placeless}
@@ -17,7 +18,7 @@ use Rattle.plan_model.specs.Operations.{setting_of}
 use Rattle.typename_rewrite.specs.Rewriting.{rewritten_selections, rewritten_fragment}
 use Rattle.typename_rewrite.specs.ForwardedBodies.{sent_variables}
 use Rattle.acceptance.specs.Requests.{RequestData, Prepared, setting}
-use Rattle.acceptance.specs.Forwarding.{sent_document}
+use Rattle.acceptance.specs.Forwarding.{sent_document, sent_text}
 use Rattle.received_requests.specs.Offsets.{fragment_placeless}
 
 -- ---- what is sent
@@ -67,6 +68,14 @@ pub record IsReceived (r : RequestData) (p : Prepared r) (alias : List ℕ) (q :
   pub schema : q.schema ≡ r.schema
   pub weights : q.weights ≡ r.weights
   pub document : document_placeless (map definition_tree q.document) ≡ document_placeless (sent_document r p alias)
+  pub name : q.name ≡ name_sent r p
+  pub given : q.given ≡ variables_sent r p
+
+-- The same as whoever reads it has it: the document is one of the text that is sent.
+pub record IsReadOf (r : RequestData) (p : Prepared r) (alias : List ℕ) (q : RequestData) : Type 0 where
+  pub schema : q.schema ≡ r.schema
+  pub weights : q.weights ≡ r.weights
+  pub document : HasDocument (sent_text r p alias) (map definition_tree q.document)
   pub name : q.name ≡ name_sent r p
   pub given : q.given ≡ variables_sent r p
 

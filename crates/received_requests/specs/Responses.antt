@@ -1,28 +1,37 @@
--- Responses to the operation that whoever receives what is sent picks.
-use Rattle.std.specs.Prelude.{ℕ, List}
+-- What whoever receives a request executes of it, and the responses to that.
+use Rattle.std.specs.Prelude.{◌≡◌, ℕ, List, Some}
+use Rattle.serde_json.specs.Data.{Data}
 use Rattle.response_model.specs.Cost.{Part}
 use Rattle.response_model.specs.Response.{Tree}
 use Rattle.document_reader.specs.declared.trees.Operation.{Operation}
-use Rattle.variable_coercion.specs.Variables.{values_by_name}
+use Rattle.document_rules.specs.Sites.{type_of_kind}
+use Rattle.variable_coercion.specs.Variables.{VariableData, values_by_name}
 use Rattle.plan_model.specs.Responses.{IsResponseTo, response_cost}
 use Rattle.plan_model.specs.Operations.{root_place, root_position}
-use Rattle.stripped_responses.specs.Stripping.{cost_sent, rewritten_root}
-use Rattle.acceptance.specs.Requests.{RequestData, Prepared, AsksFor, setting}
-use Rattle.received_requests.specs.Received.{IsReceived, received_setting}
+use Rattle.stripped_responses.specs.Stripping.{stripped, cost_sent, rewritten_root}
+use Rattle.sent_replies.specs.Saying.{SaysTree}
+use Rattle.acceptance.specs.Requests.{RequestData, Prepared, AsksFor, AreValues, setting}
+use Rattle.sent_documents.specs.SentResponses.{ReadsByPlan}
+use Rattle.received_requests.specs.Received.{received_setting}
 
--- The request is what is received where the other is sent on, and the operation is picked by it.
-pub record IsReceivedOperation (r : RequestData) (p : Prepared r) (alias : List ℕ) (q : RequestData) (o : Operation) : Type 0 where
-  pub received : IsReceived r p alias q
-  pub picked : AsksFor q o
+-- What is executed of a request (GraphQL October 2021, 6.1): the operation that it asks for, on the type of its kind, with the
+-- values of its variables.
+pub record Executed (q : RequestData) : Type 0 where
+  pub operation : Operation
+  pub root : ℕ
+  pub values : List VariableData
+  pub picked : AsksFor q operation
+  pub on_root : type_of_kind q.schema operation.kind ≡ Some root
+  pub are_values : AreValues q operation values
+
+-- It is a response to what is executed, and costs this.
+abbrev pub AnswersExecuted : (q : RequestData) → Executed q → Tree → Type 0
+AnswersExecuted q x t = IsResponseTo (received_setting q (values_by_name x.values) x.operation) (root_place x.root) (root_position x.root x.operation) t
+
+abbrev pub executed_cost : (q : RequestData) → Executed q → Part → Tree → ℕ
+executed_cost q x part t = response_cost (received_setting q (values_by_name x.values) x.operation) part (root_place x.root) (root_position x.root x.operation) t
 
 module _ (r : RequestData) (p : Prepared r) where
-  -- It is a response to the received operation, with the values of the request's variables, and costs this.
-  abbrev pub AnswersReceived : RequestData → Operation → Tree → Type 0
-  AnswersReceived q o t = IsResponseTo (received_setting q (values_by_name p.values) o) (root_place p.root) (root_position p.root o) t
-
-  abbrev pub received_cost : RequestData → Operation → Part → Tree → ℕ
-  received_cost q o part t = response_cost (received_setting q (values_by_name p.values) o) part (root_place p.root) (root_position p.root o) t
-
   -- It is a response to the request's own operation, and costs this.
   abbrev pub AnswersOwn : Tree → Type 0
   AnswersOwn t = IsResponseTo (setting r p) (root_place p.root) (root_position p.root p.operation) t
@@ -33,3 +42,7 @@ module _ (r : RequestData) (p : Prepared r) where
   -- what a response to the rewritten operation costs
   abbrev pub sent_cost : List ℕ → Part → Tree → ℕ
   sent_cost alias part t = cost_sent alias (setting r p) part (root_place p.root) (rewritten_root alias r.schema p.root p.operation) t
+
+  -- Each JSON that says the tree reads, by the plan of the request's own operation, as the tree without the names under the alias.
+  abbrev pub ReadsAsStripped : List ℕ → Tree → Type 0
+  ReadsAsStripped alias t = (json : Data) → SaysTree json t → ReadsByPlan r p alias json (stripped alias t)

@@ -8,8 +8,19 @@ ghost use Rattle.document_rules.specs.Parts.{operation_at};
 ghost use Rattle.document_rules.specs.Sites.{type_of_kind};
 ghost use Rattle.input_values.specs.coercion.Literals.{Environment};
 ghost use Rattle.acceptance.specs.Requests.{RequestData, Prepared, AsksFor, AreValues};
-ghost use Rattle.acceptance.specs.Forwarding.{sent_body};
-ghost use Rattle.received_requests.specs.Received.{IsReceived, HasSelections, HasFragments, received_setting, selections_sent, fragments_sent, query_sent, variables_sent, name_sent, name_data, HasTexts, IsShallow, IsTextOf};
+ghost use Rattle.acceptance.specs.Forwarding.{IsFreeIn, sent_body};
+ghost use Rattle.sent_documents.specs.SentTexts.{IsClientText};
+ghost use Rattle.received_requests.specs.Received.{IsReceived, IsReadOf, HasSelections, HasFragments, received_setting, selections_sent, fragments_sent, query_sent, variables_sent, name_sent, name_data, HasTexts, IsShallow, IsTextOf};
+
+use sent_documents::laws::what_is_sent_reads_back;
+
+/// Where no string of the client's text holds a control character but those that have an escape by a letter, whoever reads the text that
+/// is sent has the document that is sent, but for the offsets of names.
+pub fn what_is_read_is_received()
+    ensures { (r : RequestData) (p : Prepared r) (alias text : List ℕ) (q : RequestData) → IsFreeIn r alias → IsClientText r text → IsReadOf r p alias q → IsReceived r p alias q }
+{
+    what_is_sent_reads_back();
+}
 
 /// Whoever receives what is sent picks an operation by the name that is sent (GraphQL October 2021, 6.1), and it is the first
 /// definition of its document. Its selections are written on the type on which the client's own are, and are the rewritten
