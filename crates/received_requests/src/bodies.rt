@@ -1,0 +1,50 @@
+//! What holds of the bodies that are sent.
+
+ghost use Rattle.std.specs.Prelude.{◌≡◌, ◌≤◌, ℕ, List, Some, option_map, true, codes};
+ghost use Rattle.std.specs.Str.{is_utf8};
+ghost use Rattle.serde_json.specs.Data.{Data, string, depth};
+ghost use Rattle.serde_json.specs.Find.{get};
+ghost use Rattle.serde_json.specs.Read.{read as read_text};
+ghost use Rattle.serde_json.specs.Written.{compact_text};
+ghost use Rattle.request_bodies.specs.Bodies.{RequestData as BodyData, IsRequest};
+ghost use Rattle.typename_rewrite.specs.ForwardedBodies.{members_of};
+ghost use Rattle.acceptance.specs.Requests.{RequestData, Prepared};
+ghost use Rattle.acceptance.specs.Keys.{HasEachKeyOnce};
+ghost use Rattle.acceptance.specs.Forwarding.{sent_text, sent_body};
+ghost use Rattle.received_requests.specs.Received.{variables_sent, name_sent};
+ghost use Rattle.received_requests.specs.Bodies.{keys_of, body_keys, request_sent, IsAsRead, IsGivenAsRead};
+
+use acceptance::sent_bodies_hold_no_float;
+
+/// The body that is sent has just the document, the variables and, where the operation has one, its name (GraphQL over HTTP). Where
+/// what is given has each key once, so has the body.
+pub fn what_the_body_holds()
+    ensures query { (r : RequestData) (p : Prepared r) (alias : List ℕ) → get (codes "query") (sent_body r p alias) ≡ Some (string (sent_text r p alias)) }
+    ensures variables { (r : RequestData) (p : Prepared r) (alias : List ℕ) → get (codes "variables") (sent_body r p alias) ≡ Some (variables_sent r p) }
+    ensures name { (r : RequestData) (p : Prepared r) (alias : List ℕ) → get (codes "operationName") (sent_body r p alias) ≡ option_map (λ name. string name) (name_sent r p) }
+    ensures keys { (r : RequestData) (p : Prepared r) (alias : List ℕ) → keys_of (members_of (sent_body r p alias)) ≡ body_keys (name_sent r p) }
+    ensures once { (r : RequestData) (p : Prepared r) (alias : List ℕ) → HasEachKeyOnce r.given → HasEachKeyOnce (sent_body r p alias) }
+{}
+
+/// JSON that is read, and each member of it, has integers of 64 bits, and keys that ascend in each of its objects. A member is
+/// nested less deep than the whole. So what a client's body gives for the variables is as the next law asks for.
+pub fn what_is_read()
+    ensures whole { (text : List ℕ) (json : Data) → read_text text ≡ Some json → IsAsRead json }
+    ensures member { (json value : Data) (key : List ℕ) → IsAsRead json → get key json ≡ Some value → IsAsRead value }
+    ensures within { (text : List ℕ) (json value : Data) (key : List ℕ) → read_text text ≡ Some json → get key json ≡ Some value → depth value ≤ 126 }
+    ensures once { (json : Data) → IsAsRead json → HasEachKeyOnce json }
+    ensures of_file { (r : RequestData) (text : List ℕ) → read_text text ≡ Some r.given → depth r.given ≤ 126 → IsGivenAsRead r }
+    ensures of_body { (r : RequestData) (body : List ℕ) (asked : BodyData) → IsRequest body asked → r.given ≡ asked.variables → IsGivenAsRead r }
+{}
+
+/// Whoever reads the text of the body that is sent gets this body, and asks for just the document, the name and the variables that
+/// are sent.
+pub fn what_a_reader_of_the_body_gets()
+    ensures read { (r : RequestData) (p : Prepared r) (alias : List ℕ) → IsGivenAsRead r → read_text (compact_text (sent_body r p alias)) ≡ Some (sent_body r p alias) }
+    ensures request { (r : RequestData) (p : Prepared r) (alias : List ℕ) → IsGivenAsRead r → is_utf8 (compact_text (sent_body r p alias)) ≡ true
+        → IsRequest (compact_text (sent_body r p alias)) (request_sent r p alias) }
+    ensures only { (r : RequestData) (p : Prepared r) (alias : List ℕ) (asked : BodyData) → IsGivenAsRead r → IsRequest (compact_text (sent_body r p alias)) asked
+        → asked ≡ request_sent r p alias }
+{
+    sent_bodies_hold_no_float();
+}
