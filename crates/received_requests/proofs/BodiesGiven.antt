@@ -1,5 +1,5 @@
 -- What is read has keys in order and integers of 64 bits, and so have its members, which nest less deep.
-use Rattle.std.proofs.Common.{◌≡◌, ◌⊎◌, inl, inr, ◌∙◌, ℕ, zero, suc, ◌<◌, ◌≤◌, ◌^◌, ◌==◌, ◌&&◌, nat_lt, nat_le, slice_index, drop, pos, neg_ℤ, List, Bool, true, false, if◌then◌else◌, Option, Some, None, option_map, option_and_then, Ordering, Less, Equal, Greater, nat_cmp, refl, sym, ap, subst, arith, codes}
+use Rattle.std.proofs.Common.{◌≡◌, inl, inr, ◌∙◌, ℕ, zero, suc, ◌<◌, ◌≤◌, ◌^◌, ◌==◌, ◌&&◌, nat_lt, nat_le, slice_index, drop, pos, neg_ℤ, List, Bool, true, false, if◌then◌else◌, Option, Some, None, option_map, option_and_then, Ordering, Less, Equal, Greater, nat_cmp, refl, sym, subst, arith, codes}
 use Rattle.std.proofs.lemmas.Bool.{and_parts, ltb-true, leb-true}
 use Rattle.std.proofs.lemmas.Option.{none-some, same_Some}
 use Rattle.std.specs.Cmp.Lexicographic.{slice_cmp}
@@ -8,7 +8,7 @@ use Rattle.std.specs.Float.{binary64, float_is_finite}
 use Rattle.std.specs.Float.Numeral.{minus, Parts, scan_numeral as scan, numeral_digits as digits_of, nearest_float as nearest}
 use Rattle.json.specs.Lex.{tokens}
 use Rattle.json.specs.Json as json
-use Rattle.serde_json.specs.Data.{Num, unsigned, negative, float, Data, null, boolean, number, string, array, object, Items, item, Members, no_members, member, put, depth, members_depth}
+use Rattle.serde_json.specs.Data.{Num, unsigned, negative, float, Data, null, boolean, number, string, array, object, item, Members, no_members, member, put, depth, members_depth}
 use Rattle.serde_json.specs.Find.{get, get_member}
 use Rattle.serde_json.specs.Read.{is_integer, float_of, number_from, number_of, of_json, of_items, of_members, max_depth, read}
 use Rattle.serde_json.proofs.Nesting.{depth-read}
@@ -121,7 +121,7 @@ less_deep (string s) d key is found = absurd (none-some d found)
 less_deep (array items) d key is found = absurd (none-some d found)
 less_deep (object ms) d key is found = let part = part_of key (members_depth ms) d ms is (omega arith) found in omega (arith, part.1)
 
-pub member_within : (text : List ℕ) (json d : Data) (key : List ℕ) → read text ≡ Some json → get key json ≡ Some d → depth d ≤ 126
+pub member_within : (text : List ℕ) (json d : Data) (key : List ℕ) → read text ≡ Some json → get key json ≡ Some d → depth d < max_depth
 member_within text json d key is found = omega (arith, less_deep json d key (read_so text json is) found, depth-read text json is)
 
 -- ---- what a body gives for the variables
@@ -129,11 +129,11 @@ member_within text json d key is found = omega (arith, less_deep json d key (rea
 pub variables_so : (r : RequestData) (body : List ℕ) (asked : BodyData) → IsRequest body asked → r.given ≡ asked.variables → IsGivenAsRead r
 variables_so r body asked is same = elim (variables_source body asked is) [
   | inl none ↦ let empty : r.given ≡ object no_members = same ∙ none in record {
-      as_read = subst IsAsRead (sym empty) tt;
-      within = subst (λ (d : Data). depth d ≤ 126) (sym empty) (omega arith);
-    }
+    as_read = subst IsAsRead (sym empty) tt;
+    within = subst (λ (d : Data). depth d < max_depth) (sym empty) (omega arith);
+  }
   | inr there ↦ record {
-      as_read = subst IsAsRead (sym same) (member_so there.0 asked.variables (codes "variables") (read_so body there.0 there.1) there.2);
-      within = subst (λ (d : Data). depth d ≤ 126) (sym same) (member_within body there.0 asked.variables (codes "variables") there.1 there.2);
-    }
+    as_read = subst IsAsRead (sym same) (member_so there.0 asked.variables (codes "variables") (read_so body there.0 there.1) there.2);
+    within = subst (λ (d : Data). depth d < max_depth) (sym same) (member_within body there.0 asked.variables (codes "variables") there.1 there.2);
+  }
 ]

@@ -1,5 +1,5 @@
 -- The text of JSON with keys in order and integers of 64 bits is read as this JSON.
-use Rattle.std.proofs.Common.{◌≡◌, ◌∙◌, ℕ, pos, negsuc, zero, suc, ◌<◌, ◌≤◌, ◌^◌, max, List, [], ◌++◌, Bool, false, Option, Some, None, option_map, option_and_then, refl, sym, ap, ap₂, arith, append-nil}
+use Rattle.std.proofs.Common.{◌≡◌, ◌∙◌, pos, negsuc, suc, ◌≤◌, max, List, [], false, Option, Some, option_map, option_and_then, refl, sym, ap, ap₂, arith, append-nil}
 use Rattle.std.proofs.lemmas.Bool.{or_parts}
 use Rattle.json.specs.Json as json
 use Rattle.json.specs.Lex.{tokens}
@@ -98,7 +98,7 @@ mutual
 abbrev whole : Option (json.Json × List Token) → Option Data
 whole found = option_and_then of_json (option_and_then (λ p. json.if_last p.0 p.1) found)
 
-pub text_read : (d : Data) → IsAsRead d → has_float d ≡ false → depth d ≤ 127 → read (compact_text d) ≡ Some d
+pub text_read : (d : Data) → IsAsRead d → has_float d ≡ false → depth d ≤ max_depth → read (compact_text d) ≡ Some d
 text_read d is none shallow =
     let there : tokens (compact_text d) ≡ tree.json_tokens (outline d) = ap tokens (sym (print-outline d)) ∙ tokens-print (tree.json_tokens (outline d)) (ArePrintable-json_tokens (outline d) (numbers_written d is none)) in
     ap whole (ap (json.value max_depth) (there ∙ sym (append-nil (tree.json_tokens (outline d)))) ∙ value-json_tokens (outline d) max_depth [] (omega (arith, same_depth d, shallow))) ∙ back d is none

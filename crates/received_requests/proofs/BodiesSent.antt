@@ -1,5 +1,5 @@
 -- The body that is sent: its members, and what a reader of its text gets.
-use Rattle.std.proofs.Common.{ℕ, suc, ◌≤◌, max, ◌≡◌, Bool, true, false, if◌then◌else◌, List, Option, None, Some, is_some, Ordering, Less, Equal, Greater, nat_cmp, refl, sym, ap, ap₂, ◌∙◌, subst, arith, cond}
+use Rattle.std.proofs.Common.{ℕ, ◌+◌, ◌<◌, ◌≤◌, max, ◌≡◌, Bool, true, false, if◌then◌else◌, List, Option, None, Some, is_some, Ordering, Less, Equal, Greater, nat_cmp, refl, sym, ap, ap₂, ◌∙◌, subst, arith}
 use Rattle.std.specs.Prelude.{codes, map, option_map}
 use Rattle.std.specs.Str.{is_utf8}
 use Rattle.std.specs.Ordering.{match_ordering}
@@ -7,13 +7,13 @@ use Rattle.std.specs.Cmp.Lexicographic.{slice_cmp}
 use Rattle.std.proofs.lemmas.Option.{same_Some}
 use Rattle.serde_json.specs.Data.{Data, null, boolean, number, string, array, object, Members, no_members, member, depth, members_depth}
 use Rattle.serde_json.specs.Find.{get, get_member, as_object}
-use Rattle.serde_json.specs.Read.{read}
+use Rattle.serde_json.specs.Read.{max_depth, read}
 use Rattle.serde_json.specs.Written.{has_float, compact_text}
 use Rattle.gql_base.specs.ways.Reading.{Identifier}
 use Rattle.document_reader.specs.Documents.{VariableTree}
 use Rattle.document_reader.specs.Trees.{maybe_identifier, variable_tree}
 use Rattle.document_rules.specs.Parts.{name_text}
-use Rattle.request_bodies.specs.Bodies.{RequestData as BodyData, json_of, query_in, name_in, variables_in, IsRequest}
+use Rattle.request_bodies.specs.Bodies.{RequestData as BodyData, query_in, name_in, variables_in, IsRequest}
 use Rattle.request_bodies.proofs.Bodies.{read_json}
 use Rattle.typename_rewrite.specs.ForwardedBodies.{members_of, members_where, sent_variables, declares, body_with, body_data}
 use Rattle.acceptance.specs.Requests.{RequestData, Prepared}
@@ -49,7 +49,7 @@ so_there : (name : Option Identifier) (document : List ℕ) (variables : Members
 so_there None document variables are = ((refl, tt), tt, (tt, are, tt))
 so_there (Some name) document variables are = ((refl, (refl, tt)), tt, ((refl, tt), tt, (tt, are, tt)))
 
-deep_there : (name : Option Identifier) (document : List ℕ) (variables : Members) → members_depth variables ≤ 125 → depth (body_with name document variables) ≤ 127
+deep_there : (name : Option Identifier) (document : List ℕ) (variables : Members) → members_depth variables + 2 ≤ max_depth → depth (body_with name document variables) ≤ max_depth
 deep_there None document variables within = omega (arith, within)
 deep_there (Some name) document variables within = omega (arith, within)
 
@@ -120,7 +120,7 @@ module _ (vs : List VariableTree) where
   so_sent (array ds) is = tt
   so_sent (object ms) is = so_where (declares vs) ms is
 
-  deep_sent : (given : Data) → depth given ≤ 126 → members_depth (sent_variables vs given) ≤ 125
+  deep_sent : (given : Data) → depth given < max_depth → members_depth (sent_variables vs given) + 2 ≤ max_depth
   deep_sent null within = omega arith
   deep_sent (boolean b) within = omega arith
   deep_sent (number n) within = omega arith
@@ -155,7 +155,7 @@ module _ (r : RequestData) (p : Prepared r) (alias : List ℕ) where
   unfolding body_data
   body_so is = so_there (maybe_identifier p.operation.name) (sent_text r p alias) _ (so_sent (map variable_tree p.operation.variables.items) r.given is)
 
-  body_deep : depth r.given ≤ 126 → depth (sent_body r p alias) ≤ 127
+  body_deep : depth r.given < max_depth → depth (sent_body r p alias) ≤ max_depth
   unfolding body_data
   body_deep within = deep_there (maybe_identifier p.operation.name) (sent_text r p alias) _ (deep_sent (map variable_tree p.operation.variables.items) r.given within)
 

@@ -1,9 +1,10 @@
 -- The body in which a request is sent, and JSON as it comes from a reader.
-use Rattle.std.specs.Prelude.{◌≡◌, ◌<◌, ◌≤◌, ℕ, ◌^◌, pos, negsuc, List, [], ◌∷◌, codes, Option, Some, None}
+use Rattle.std.specs.Prelude.{◌≡◌, ◌<◌, ℕ, ◌^◌, pos, negsuc, List, [], ◌∷◌, codes, Option, Some, None}
 use Rattle.std.specs.Ordering.{nat_cmp}
 use Rattle.std.specs.declared.cmp.Ordering.TheVariants.{Less}
 use Rattle.std.specs.Cmp.Lexicographic.{slice_cmp}
 use Rattle.serde_json.specs.Data.{Num, unsigned, negative, float, Data, null, boolean, number, string, array, object, Items, no_items, item, Members, no_members, member, depth}
+use Rattle.serde_json.specs.Read.{max_depth}
 use Rattle.request_bodies.specs.Bodies.{RequestData as BodyData}
 use Rattle.acceptance.specs.Requests.{RequestData, Prepared}
 use Rattle.acceptance.specs.Forwarding.{sent_text}
@@ -59,4 +60,4 @@ abbrev mutual
 -- What is given for the variables comes from a reader, and leaves a level of nesting to the body.
 pub record IsGivenAsRead (r : RequestData) : Type 0 where
   pub as_read : IsAsRead r.given
-  pub within : depth r.given ≤ 126
+  pub within : depth r.given < max_depth

@@ -1,10 +1,10 @@
 //! What holds of the bodies that are sent.
 
-ghost use Rattle.std.specs.Prelude.{◌≡◌, ◌≤◌, ℕ, List, Some, option_map, true, codes};
+ghost use Rattle.std.specs.Prelude.{◌≡◌, ◌<◌, ℕ, List, Some, option_map, true, codes};
 ghost use Rattle.std.specs.Str.{is_utf8};
 ghost use Rattle.serde_json.specs.Data.{Data, string, depth};
 ghost use Rattle.serde_json.specs.Find.{get};
-ghost use Rattle.serde_json.specs.Read.{read as read_text};
+ghost use Rattle.serde_json.specs.Read.{max_depth, read as read_text};
 ghost use Rattle.serde_json.specs.Written.{compact_text};
 ghost use Rattle.request_bodies.specs.Bodies.{RequestData as BodyData, IsRequest};
 ghost use Rattle.typename_rewrite.specs.ForwardedBodies.{members_of};
@@ -31,9 +31,9 @@ pub fn what_the_body_holds()
 pub fn what_is_read()
     ensures whole { (text : List ℕ) (json : Data) → read_text text ≡ Some json → IsAsRead json }
     ensures member { (json value : Data) (key : List ℕ) → IsAsRead json → get key json ≡ Some value → IsAsRead value }
-    ensures within { (text : List ℕ) (json value : Data) (key : List ℕ) → read_text text ≡ Some json → get key json ≡ Some value → depth value ≤ 126 }
+    ensures within { (text : List ℕ) (json value : Data) (key : List ℕ) → read_text text ≡ Some json → get key json ≡ Some value → depth value < max_depth }
     ensures once { (json : Data) → IsAsRead json → HasEachKeyOnce json }
-    ensures of_file { (r : RequestData) (text : List ℕ) → read_text text ≡ Some r.given → depth r.given ≤ 126 → IsGivenAsRead r }
+    ensures of_file { (r : RequestData) (text : List ℕ) → read_text text ≡ Some r.given → depth r.given < max_depth → IsGivenAsRead r }
     ensures of_body { (r : RequestData) (body : List ℕ) (asked : BodyData) → IsRequest body asked → r.given ≡ asked.variables → IsGivenAsRead r }
 {}
 
