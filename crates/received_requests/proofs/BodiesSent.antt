@@ -8,7 +8,7 @@ use Rattle.std.proofs.lemmas.Option.{same_Some}
 use Rattle.serde_json.specs.Data.{Data, null, boolean, number, string, array, object, Members, no_members, member, depth, members_depth}
 use Rattle.serde_json.specs.Find.{get, get_member, as_object}
 use Rattle.serde_json.specs.Read.{max_depth, read}
-use Rattle.serde_json.specs.Written.{has_float, compact_text}
+use Rattle.serde_json.specs.Written.{has_float}
 use Rattle.gql_base.specs.ways.Reading.{Identifier}
 use Rattle.document_reader.specs.Documents.{VariableTree}
 use Rattle.document_reader.specs.Trees.{maybe_identifier, variable_tree}
@@ -18,9 +18,10 @@ use Rattle.request_bodies.proofs.Bodies.{read_json}
 use Rattle.typename_rewrite.specs.ForwardedBodies.{members_of, members_where, sent_variables, declares, body_with, body_data}
 use Rattle.acceptance.specs.Requests.{RequestData, Prepared}
 use Rattle.acceptance.specs.Keys.{HasEachKeyOnce, MembersHaveEachKeyOnce}
-use Rattle.acceptance.specs.Forwarding.{sent_text, sent_body}
+use Rattle.acceptance.specs.Forwarding.{sent_text, sent_body, IsSentText}
 use Rattle.received_requests.specs.Received.{name_sent, variables_sent}
 use Rattle.received_requests.specs.Bodies.{keys_of, body_keys, request_sent, ComesBefore, IsAsRead, MembersAreAsRead, IsGivenAsRead}
+use Rattle.received_requests.proofs.BodiesOrder.{once as each_once}
 use Rattle.received_requests.proofs.BodiesRead.{text_read}
 
 -- ---- a body's members
@@ -159,8 +160,8 @@ module _ (r : RequestData) (p : Prepared r) (alias : List ℕ) where
   unfolding body_data
   body_deep within = deep_there (maybe_identifier p.operation.name) (sent_text r p alias) _ (deep_sent (map variable_tree p.operation.variables.items) r.given within)
 
-  pub body_read : IsGivenAsRead r → has_float (sent_body r p alias) ≡ false → read (compact_text (sent_body r p alias)) ≡ Some (sent_body r p alias)
-  body_read is none = text_read (sent_body r p alias) (body_so is.as_read) none (body_deep is.within)
+  pub body_read : (text : List ℕ) → IsGivenAsRead r → IsSentText r p alias text → has_float (sent_body r p alias) ≡ false → read text ≡ Some (sent_body r p alias)
+  body_read text is sent none = ap read (sent (each_once r.given is.as_read)) ∙ text_read (sent_body r p alias) (body_so is.as_read) none (body_deep is.within)
 
 -- ---- the request that its reader sees
 
@@ -190,18 +191,17 @@ module _ (r : RequestData) (p : Prepared r) (alias : List ℕ) where
   unfolding body_data
   asks_sent = asks_by (maybe_identifier p.operation.name) (sent_text r p alias) _
 
-  pub body_request : read (compact_text (sent_body r p alias)) ≡ Some (sent_body r p alias) → is_utf8 (compact_text (sent_body r p alias)) ≡ true
-      → IsRequest (compact_text (sent_body r p alias)) (request_sent r p alias)
-  body_request reads valid = record {
+  pub body_request : (text : List ℕ) → read text ≡ Some (sent_body r p alias) → is_utf8 text ≡ true → IsRequest text (request_sent r p alias)
+  body_request text reads valid = record {
     json = sent_body r p alias;
-    is_object = (ap (λ (test : Bool). if test then read (compact_text (sent_body r p alias)) else None) valid ∙ reads, asks_sent.an_object);
+    is_object = (ap (λ (test : Bool). if test then read text else None) valid ∙ reads, asks_sent.an_object);
     query_is = asks_sent.query_is;
     name_is = asks_sent.name_is;
     variables_are = asks_sent.variables_are;
   }
 
-  pub body_only : read (compact_text (sent_body r p alias)) ≡ Some (sent_body r p alias) → (asked : BodyData) → IsRequest (compact_text (sent_body r p alias)) asked → asked ≡ request_sent r p alias
-  body_only reads asked is =
-      let same : is.json ≡ sent_body r p alias = same_Some is.json (sent_body r p alias) (sym (read_json (compact_text (sent_body r p alias)) is.json is.is_object.0) ∙ reads) in
+  pub body_only : (text : List ℕ) → read text ≡ Some (sent_body r p alias) → (asked : BodyData) → IsRequest text asked → asked ≡ request_sent r p alias
+  body_only text reads asked is =
+      let same : is.json ≡ sent_body r p alias = same_Some is.json (sent_body r p alias) (sym (read_json text is.json is.is_object.0) ∙ reads) in
       let found : Asks is.json asked = record { an_object = is.is_object.1; query_is = is.query_is; name_is = is.name_is; variables_are = is.variables_are } in
       asks_one (sent_body r p alias) asked (request_sent r p alias) (subst (λ (json : Data). Asks json asked) same found) asks_sent

@@ -5,12 +5,11 @@ ghost use Rattle.std.specs.Str.{is_utf8};
 ghost use Rattle.serde_json.specs.Data.{Data, string, depth};
 ghost use Rattle.serde_json.specs.Find.{get};
 ghost use Rattle.serde_json.specs.Read.{max_depth, read as read_text};
-ghost use Rattle.serde_json.specs.Written.{compact_text};
 ghost use Rattle.request_bodies.specs.Bodies.{RequestData as BodyData, IsRequest};
 ghost use Rattle.typename_rewrite.specs.ForwardedBodies.{members_of};
 ghost use Rattle.acceptance.specs.Requests.{RequestData, Prepared};
 ghost use Rattle.acceptance.specs.Keys.{HasEachKeyOnce};
-ghost use Rattle.acceptance.specs.Forwarding.{sent_text, sent_body};
+ghost use Rattle.acceptance.specs.Forwarding.{sent_text, sent_body, IsSentText};
 ghost use Rattle.received_requests.specs.Received.{variables_sent, name_sent};
 ghost use Rattle.received_requests.specs.Bodies.{keys_of, body_keys, request_sent, IsAsRead, IsGivenAsRead};
 
@@ -37,14 +36,12 @@ pub fn what_is_read()
     ensures of_body { (r : RequestData) (body : List ℕ) (asked : BodyData) → IsRequest body asked → r.given ≡ asked.variables → IsGivenAsRead r }
 {}
 
-/// Whoever reads the text of the body that is sent gets this body, and asks for just the document, the name and the variables that
-/// are sent.
+/// Whoever reads the text that is sent gets the body of it, and asks for just the document, the name and the variables that are
+/// sent, where what is given for the variables was read.
 pub fn what_a_reader_of_the_body_gets()
-    ensures read { (r : RequestData) (p : Prepared r) (alias : List ℕ) → IsGivenAsRead r → read_text (compact_text (sent_body r p alias)) ≡ Some (sent_body r p alias) }
-    ensures request { (r : RequestData) (p : Prepared r) (alias : List ℕ) → IsGivenAsRead r → is_utf8 (compact_text (sent_body r p alias)) ≡ true
-        → IsRequest (compact_text (sent_body r p alias)) (request_sent r p alias) }
-    ensures only { (r : RequestData) (p : Prepared r) (alias : List ℕ) (asked : BodyData) → IsGivenAsRead r → IsRequest (compact_text (sent_body r p alias)) asked
-        → asked ≡ request_sent r p alias }
+    ensures read { (r : RequestData) (p : Prepared r) (alias text : List ℕ) → IsGivenAsRead r → IsSentText r p alias text → read_text text ≡ Some (sent_body r p alias) }
+    ensures request { (r : RequestData) (p : Prepared r) (alias text : List ℕ) → IsGivenAsRead r → IsSentText r p alias text → is_utf8 text ≡ true → IsRequest text (request_sent r p alias) }
+    ensures only { (r : RequestData) (p : Prepared r) (alias text : List ℕ) (asked : BodyData) → IsGivenAsRead r → IsSentText r p alias text → IsRequest text asked → asked ≡ request_sent r p alias }
 {
     sent_bodies_hold_no_float();
 }
