@@ -8,5 +8,8 @@ mod ValuesKept
 mod ReachedNames
 mod ReachedWalks
 mod ReachedFragments
+mod BodiesOrder
+mod BodiesRead
+mod BodiesGiven
 mod BodiesSent
 mod ReceivedResponses

@@ -2,4 +2,5 @@
 pub mod Offsets
 -- What is received where a request is sent on, and the responses to it.
 pub mod Received
+pub mod Bodies
 pub mod Responses

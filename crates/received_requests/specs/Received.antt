@@ -1,15 +1,10 @@
 -- The request that whoever receives what is sent for a request has, and what is picked by it.
-use Rattle.std.specs.Prelude.{◌≡◌, ◌≤◌, ℕ, List, map, Option, Some, option_map}
-use Rattle.json.specs.Json.{document, max_depth}
-use Rattle.json.specs.Tree.{depth, HasNumbers}
-use Rattle.serde_json.specs.Data.{Data, string, object}
-use Rattle.serde_json.specs.Written.{outline}
-use Rattle.gql_base.specs.printing.Printing.{printed}
+use Rattle.std.specs.Prelude.{◌≡◌, ℕ, List, map, Option, Some, option_map}
+use Rattle.serde_json.specs.Data.{Data, object}
 use Rattle.document_reader.specs.declared.trees.Operation.{Operation}
 use Rattle.document_reader.specs.Documents.{SelectionTrees}
 use Rattle.document_reader.specs.DocumentAnswers.{HasDocument}
 use Rattle.document_reader.specs.Trees.{definition_tree, maybe_identifier, variable_tree, set_tree}
-use Rattle.document_reader.specs.PrintedDocuments.{document_symbols}
 use Rattle.document_reader.specs.PlacelessDocuments.{selections_placeless, document_placeless}
 use Rattle.input_values.specs.coercion.Literals.{Environment}
 use Rattle.document_rules.specs.Parts.{FragmentData, name_text}
@@ -23,10 +18,6 @@ use Rattle.received_requests.specs.Offsets.{fragment_placeless}
 
 -- ---- what is sent
 
--- the document that is sent, as a string of JSON
-abbrev pub query_sent : (r : RequestData) → Prepared r → List ℕ → Data
-query_sent r p alias = string (printed (document_symbols (sent_document r p alias)))
-
 -- the variables that are sent: those of the given values whose variables the operation defines
 abbrev pub variables_sent : (r : RequestData) → Prepared r → Data
 variables_sent r p = object (sent_variables (map variable_tree p.operation.variables.items) r.given)
@@ -34,22 +25,6 @@ variables_sent r p = object (sent_variables (map variable_tree p.operation.varia
 -- the operation's name, where it has one
 abbrev pub name_sent : (r : RequestData) → Prepared r → Option (List ℕ)
 name_sent r p = option_map name_text (maybe_identifier p.operation.name)
-
--- a name as a string of JSON
-abbrev pub name_data : List ℕ → Data
-name_data name = string name
-
--- The text is JSON (RFC 8259), and is this value.
-abbrev pub IsTextOf : List ℕ → Data → Type 0
-IsTextOf text json = document text ≡ Some (outline json)
-
--- It is nested no deeper than what is read may be.
-abbrev pub IsShallow : Data → Type 0
-IsShallow json = depth (outline json) ≤ max_depth
-
--- Each number in it has a text: it is an integer, and no float.
-abbrev pub HasTexts : Data → Type 0
-HasTexts json = HasNumbers (outline json)
 
 module _ (r : RequestData) (p : Prepared r) (alias : List ℕ) where
   -- the rewritten selections of the request's operation
@@ -76,8 +51,8 @@ pub record IsReadOf (r : RequestData) (p : Prepared r) (alias : List ℕ) (q : R
   pub schema : q.schema ≡ r.schema
   pub weights : q.weights ≡ r.weights
   pub document : HasDocument (sent_text r p alias) (map definition_tree q.document)
-  pub name : q.name ≡ name_sent r p
-  pub given : q.given ≡ variables_sent r p
+  pub operation_name : q.name ≡ name_sent r p
+  pub variables : q.given ≡ variables_sent r p
 
 -- An operation has these selections, but for the offsets of names.
 abbrev pub HasSelections : Operation → SelectionTrees → Type 0

@@ -1,16 +1,14 @@
 //! What holds of all requests that are received.
 
-ghost use Rattle.std.specs.Prelude.{◌≡◌, ℕ, List, Some, codes, option_map};
-ghost use Rattle.serde_json.specs.Find.{get};
-ghost use Rattle.serde_json.specs.Written.{compact_text};
+ghost use Rattle.std.specs.Prelude.{◌≡◌, ℕ, List, Some};
 ghost use Rattle.document_reader.specs.declared.trees.Operation.{Operation};
 ghost use Rattle.document_rules.specs.Parts.{operation_at};
 ghost use Rattle.document_rules.specs.Sites.{type_of_kind};
 ghost use Rattle.input_values.specs.coercion.Literals.{Environment};
 ghost use Rattle.acceptance.specs.Requests.{RequestData, Prepared, AsksFor, AreValues};
-ghost use Rattle.acceptance.specs.Forwarding.{IsFreeIn, sent_body};
+ghost use Rattle.acceptance.specs.Forwarding.{IsFreeIn};
 ghost use Rattle.sent_documents.specs.SentTexts.{IsClientText};
-ghost use Rattle.received_requests.specs.Received.{IsReceived, IsReadOf, HasSelections, HasFragments, received_setting, selections_sent, fragments_sent, query_sent, variables_sent, name_sent, name_data, HasTexts, IsShallow, IsTextOf};
+ghost use Rattle.received_requests.specs.Received.{IsReceived, IsReadOf, HasSelections, HasFragments, received_setting, selections_sent, fragments_sent};
 
 use sent_documents::laws::what_is_sent_reads_back;
 
@@ -42,13 +40,4 @@ pub fn the_values_of_variables_are_kept()
 pub fn the_fragments_that_are_sent_are_reached()
     ensures { (r : RequestData) (p : Prepared r) (alias : List ℕ) (q : RequestData) (o : Operation) (values : Environment) → IsReceived r p alias q → AsksFor q o
         → HasFragments (received_setting q values o) (fragments_sent r p alias) }
-{}
-
-/// The body that is sent holds the document, the variables and the operation's name (GraphQL over HTTP). Its text is JSON, and is
-/// this body, where the variables that are sent hold no float.
-pub fn what_the_body_holds()
-    ensures query { (r : RequestData) (p : Prepared r) (alias : List ℕ) → get (codes "query") (sent_body r p alias) ≡ Some (query_sent r p alias) }
-    ensures variables { (r : RequestData) (p : Prepared r) (alias : List ℕ) → get (codes "variables") (sent_body r p alias) ≡ Some (variables_sent r p) }
-    ensures name { (r : RequestData) (p : Prepared r) (alias : List ℕ) → get (codes "operationName") (sent_body r p alias) ≡ option_map name_data (name_sent r p) }
-    ensures text { (r : RequestData) (p : Prepared r) (alias : List ℕ) → HasTexts (variables_sent r p) → IsShallow (sent_body r p alias) → IsTextOf (compact_text (sent_body r p alias)) (sent_body r p alias) }
 {}

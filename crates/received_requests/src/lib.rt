@@ -3,6 +3,7 @@
 //! There is no code here: the functions have no bodies of their own, and carry the laws as their contracts.
 #![tactic(auto)]
 
+pub mod bodies;
 pub mod laws;
 pub mod offsets;
 pub mod responses;

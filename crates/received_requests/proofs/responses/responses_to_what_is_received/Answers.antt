@@ -34,7 +34,7 @@ returns-clause-received c r p alias q x t is answers =
     let sent = rewritten_root alias r.schema p.root p.operation in
     let own = root_position p.root o in
     answers_moved q o p.root x.root p.values x.values t (sym root) (sym values)
-      (c.offsets_change_no_response.ensures.fits e f (single true) (root_place p.root) sent own t d answers.0, c.offsets_change_no_response.ensures.keeps e f None (root_place p.root) sent own t d answers.1)
+    (c.offsets_change_no_response.ensures.fits e f (single true) (root_place p.root) sent own t d answers.0, c.offsets_change_no_response.ensures.keeps e f None (root_place p.root) sent own t d answers.1)
 
 pub returns-clause-costs : goal.returns-clause-costs
 returns-clause-costs c r p alias q x part t is =
