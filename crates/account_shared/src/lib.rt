@@ -401,6 +401,3 @@ pub fn crosses_threads() {
     shared::<Accounts>();
     sent::<Passes>();
 }
-
-#[cfg(test)]
-mod tests;

@@ -14,8 +14,6 @@ mod source;
 mod state;
 mod steps;
 mod tables;
-#[cfg(test)]
-mod tests;
 mod walk;
 
 pub use collected::{Collected, Group};

@@ -15,8 +15,6 @@ mod readings;
 mod rules;
 mod sharing;
 mod sizes;
-#[cfg(test)]
-mod tests;
 mod weights;
 
 pub use fault::DirectiveFault;

@@ -8,8 +8,6 @@ ghost use Rattle.cost_vectors.specs.Script.{script_text};
 
 mod lines;
 mod script;
-#[cfg(test)]
-mod tests;
 mod texts;
 
 use script::script;

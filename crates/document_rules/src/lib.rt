@@ -11,8 +11,6 @@ mod rules;
 mod sharing;
 mod site_rule;
 mod sites;
-#[cfg(test)]
-mod tests;
 
 pub use checking::{Checked, check};
 pub use laws::what_is_reached_has_ranks;

@@ -9,8 +9,6 @@ pub mod laws;
 mod reading;
 mod reply;
 pub mod sharing;
-#[cfg(test)]
-mod tests;
 mod values;
 
 pub use fault::FrontFault;

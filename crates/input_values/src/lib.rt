@@ -6,8 +6,6 @@ mod coercion;
 mod defaults;
 mod inputs;
 mod sharing;
-#[cfg(test)]
-mod tests;
 mod values;
 
 pub use coercion::faults::{CoercionFault, bad_value};

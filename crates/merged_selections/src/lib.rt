@@ -15,8 +15,6 @@ mod node;
 mod same_values;
 mod sharing;
 mod stop;
-#[cfg(test)]
-mod tests;
 mod why;
 mod written;
 

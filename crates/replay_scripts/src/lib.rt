@@ -8,8 +8,6 @@ mod moment;
 mod reading;
 mod step;
 mod step_line;
-#[cfg(test)]
-mod tests;
 
 pub use fault::{ScriptFault, fault_text};
 pub use laws::{a_script_is_of_one_list_of_steps, scripts_are_shared};

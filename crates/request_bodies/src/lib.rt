@@ -6,8 +6,6 @@ mod fault;
 mod laws;
 mod reading;
 mod request;
-#[cfg(test)]
-mod tests;
 
 pub use fault::{BodyFault, fault_text};
 pub use laws::{

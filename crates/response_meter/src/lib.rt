@@ -12,8 +12,6 @@ mod measuring;
 mod metered;
 mod nested;
 mod readings;
-#[cfg(test)]
-mod tests;
 mod types;
 mod walk;
 

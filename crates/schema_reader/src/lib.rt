@@ -8,8 +8,6 @@ mod other_definitions;
 mod parts;
 mod schema_text;
 mod sharing;
-#[cfg(test)]
-mod tests;
 mod trees;
 mod type_definitions;
 

@@ -10,8 +10,6 @@ mod filling;
 pub mod laws;
 mod leaves;
 mod part;
-#[cfg(test)]
-mod tests;
 mod too_costly;
 mod totals;
 

@@ -8,8 +8,6 @@ mod body;
 mod lookups;
 mod names;
 mod rewriting;
-#[cfg(test)]
-mod tests;
 mod words;
 
 pub use body::forwarded_body;

@@ -14,8 +14,6 @@ mod reply;
 mod request;
 mod sending;
 pub mod sharing;
-#[cfg(test)]
-mod tests;
 
 pub use asking::ask;
 pub use fault::LinkFault;

@@ -7,8 +7,6 @@ mod json;
 mod laws;
 mod shapes;
 mod sharing;
-#[cfg(test)]
-mod tests;
 mod values;
 mod variables;
 
