@@ -1,0 +1,29 @@
+-- How a request begins, by what was promised and reserved.
+use Rattle.std.proofs.Common.{◌≡◌, ℕ, List, Some, sym, subst}
+use Rattle.gateway_core.specs.declared.beginning.Begun.{Begun}
+use Rattle.gateway_core.specs.declared.beginning.Begun.TheVariants.{Granted, Denied}
+use Rattle.gateway_core.specs.declared.beginning.Denial.TheVariants.{UnknownKey, BadBody, Refused, Short, Memory}
+use Rattle.gateway_core.specs.declared.promise.Promise.{Promise}
+use Rattle.gateway_core.specs.Rules.{Rules, client_of}
+use Rattle.gateway_core.specs.Requests.{IsPricedAt, IsPromisedFor}
+use Rattle.gateway_core.specs.Begins.{IsBegun, IsReserved}
+
+-- what is promised is affordable
+pub priced : (rules : Rules) (body : List ℕ) (promise : Promise) → IsPromisedFor rules body promise → IsPricedAt rules body promise.bound
+priced rules body promise (asked, is_request, (document, is_document, promised)) =
+    let accepted = promised.is_accepted in
+    (asked, is_request, (document, is_document, (accepted.is_planned.prepared, accepted.is_planned.well, accepted.has_bound)))
+
+pub begun_by : (rules : Rules) (key body : List ℕ) (client made : ℕ) (promise : Promise) (begun : Begun) → client_of rules key ≡ Some client → IsPromisedFor rules body promise
+    → IsReserved promise client made begun → IsBegun rules key body client made begun
+begun_by rules key body client made promise (Granted g) known promised reserved = record {
+  known = known;
+  promised = subst (IsPromisedFor rules body) (sym reserved.0) promised;
+  to_client = reserved.1;
+  numbered = reserved.2;
+}
+begun_by rules key body client made promise (Denied UnknownKey) known promised reserved = absurd reserved
+begun_by rules key body client made promise (Denied (BadBody fault)) known promised reserved = absurd reserved
+begun_by rules key body client made promise (Denied (Refused refusal)) known promised reserved = absurd reserved
+begun_by rules key body client made promise (Denied (Short left bound)) known promised reserved = (known, subst (IsPricedAt rules body) (sym reserved) (priced rules body promise promised))
+begun_by rules key body client made promise (Denied Memory) known promised reserved = absurd reserved

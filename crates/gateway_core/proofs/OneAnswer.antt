@@ -1,0 +1,139 @@
+-- A reply to what is granted has one answer: it is measured in one way, or has one first fault.
+use Rattle.std.proofs.Common.{◌≡◌, ◌≢◌, inl, inr, ◌∙◌, ℕ, List, Bool, Option, Some, refl, sym, ap, subst}
+use Rattle.std.specs.Prelude.{option_map}
+use Rattle.std.proofs.lemmas.Option.{none-some, same_Some}
+use Rattle.cost_num.specs.declared.Cost.{Cost}
+use Rattle.cost_num.proofs.Costs.{cost_eq}
+use Rattle.serde_json.specs.Data.{Data}
+use Rattle.upstream_link.specs.declared.fault.LinkFault.{LinkFault}
+use Rattle.upstream_link.specs.declared.fault.LinkFault.TheVariants.{Down, Failed, BadReplyHead, Coded, TooLarge, Truncated, BadChunk, Memory}
+use Rattle.response_model.specs.Plan.{Plan as PlanTree}
+use Rattle.response_model.specs.Cost.{types, fields}
+use Rattle.response_model.specs.ResponseText.{response_text}
+use Rattle.response_model.specs.Bound.{IsSound}
+use Rattle.plan_model.specs.SelectedFields.{holds}
+use Rattle.plan_table.specs.declared.table.Plan.{Plan}
+use Rattle.plan_table.specs.Tables.{HasRows, setting_in}
+use Rattle.static_cost.specs.TableBound.{holds_in, HoldsSound}
+use Rattle.acceptance.specs.Requests.{plan_tree}
+use Rattle.response_meter.specs.declared.metered.Metered.{Metered}
+use Rattle.response_meter.specs.declared.fault.MeterFault.{MeterFault}
+use Rattle.response_meter.specs.declared.fault.MeterFault.TheVariants.{NotResponse, SizeBroken, Memory as MeterMemory}
+use Rattle.response_meter.specs.Faults.{Fault, not_response, size_broken, Tells}
+use Rattle.response_meter.specs.FirstFault.{AreNamed}
+use Rattle.response_meter.specs.Reply.{ReadsOnce, PassesWhereReadable, reply_cost}
+use Rattle.response_meter.specs.Metered.{TypesDiffer, name_in, first_fault_in}
+use Rattle.gateway_core.specs.declared.grant.Grant.{Grant}
+use Rattle.gateway_core.specs.declared.finishing.Finished.{Finished}
+use Rattle.gateway_core.specs.declared.finishing.Outcome.{Outcome}
+use Rattle.gateway_core.specs.declared.finishing.Outcome.TheVariants.{Reply, Fault as NoReply, NoMemory}
+use Rattle.gateway_core.specs.Rules.{Rules}
+use Rattle.gateway_core.specs.Requests.{request_of, IsPromisedFor}
+use Rattle.gateway_core.specs.Grants.{promise_of}
+use Rattle.gateway_core.specs.Messages.{message_body, reply_text}
+use Rattle.gateway_core.specs.PlanBounds.{IsMeasuredBy}
+use Rattle.gateway_core.specs.Finishes.{finished_as, HasReplyFault, IsReplied, IsUnanswered, IsConcluded, IsGrantedBy}
+
+-- A reply passes every test exactly where it is a response, and it is read in one way.
+pub record OneReading : Type 0 where
+  pub passes : (holds : ℕ → Data → Bool) (name : ℕ → List ℕ) (alias : List ℕ) (plan : PlanTree) (bytes : List ℕ) → AreNamed name plan → PassesWhereReadable holds name alias plan bytes
+  pub once : (name : ℕ → List ℕ) (alias : List ℕ) (plan : PlanTree) (bytes : List ℕ) → AreNamed name plan → ReadsOnce name alias plan bytes
+  pub named : (table : Plan) (tree : PlanTree) → TypesDiffer (setting_in table).schema → HasRows table tree → AreNamed (name_in table) tree
+
+-- ---- a first fault is told in one way
+
+told : Fault → MeterFault
+told (not_response path why) = NotResponse path why
+told (size_broken path size length) = SizeBroken path size length
+
+first_told : (fault : MeterFault) (first : Option Fault) → fault ≢ MeterMemory → Tells fault first → option_map told first ≡ Some fault
+unfolding told
+first_told (NotResponse path why) first other tells = ap (option_map told) tells
+first_told (SizeBroken path size length) first other tells = ap (option_map told) tells
+first_told MeterMemory first other tells = absurd (other refl)
+
+-- ---- by what a plan holds
+
+-- the plan holds a sound tree, whose possible types have different names
+record HoldsNamed (plan : Plan) : Type 0 where
+  tree : PlanTree
+  sound : HoldsSound plan tree
+  named : AreNamed (name_in plan) tree
+
+metered_eq : (a b : Metered) → a.cost ≡ b.cost → a.text ≡ b.text → a ≡ b
+metered_eq a b costs texts = λ i. record {
+  cost = costs i;
+  text = texts i;
+}
+
+module _ (laws : OneReading) (g : Grant) (reply : List ℕ) (h : HoldsNamed g.plan) where
+  one_measure : (a b : Metered) → IsMeasuredBy g.plan g.alias reply a → IsMeasuredBy g.plan g.alias reply b → a ≡ b
+  one_measure a b of_a of_b =
+      let m = of_a h.tree h.sound in
+      let n = of_b h.tree h.sound in
+      let same = laws.once (name_in g.plan) g.alias h.tree reply h.named m.content n.content m.errors n.errors m.reads n.reads in
+      metered_eq a b
+      (cost_eq a.cost b.cost
+      (m.types_cost ∙ (ap (reply_cost types h.tree) same.0 ∙ sym n.types_cost))
+      (m.fields_cost ∙ (ap (reply_cost fields h.tree) same.0 ∙ sym n.fields_cost)))
+      (m.text ∙ (ap (λ content. response_text content m.errors) same.0 ∙ (ap (response_text n.content) same.1 ∙ sym n.text)))
+
+  first_is : (fault : MeterFault) → HasReplyFault g reply fault → option_map told (first_fault_in g.plan g.alias h.tree reply) ≡ Some fault
+  first_is fault has = first_told fault (first_fault_in g.plan g.alias h.tree reply) has.0 (has.1 h.tree h.sound)
+
+  one_fault : (a b : MeterFault) → HasReplyFault g reply a → HasReplyFault g reply b → a ≡ b
+  one_fault a b of_a of_b = same_Some a b (sym (first_is a of_a) ∙ first_is b of_b)
+
+  not_both : (a : Metered) (b : MeterFault) → IsMeasuredBy g.plan g.alias reply a → HasReplyFault g reply b → ⊥
+  not_both a b of_a of_b =
+      let m = of_a h.tree h.sound in
+      let passes = (laws.passes (holds_in g.plan) (name_in g.plan) g.alias h.tree reply h.named).1 (m.content, m.errors, m.reads, m.is_response) in
+      none-some b (sym (ap (option_map told) passes) ∙ first_is b of_b)
+
+  one_reply : (a b : Finished) → IsReplied g reply a → IsReplied g reply b → a ≡ b
+  one_reply a b (inl (m, measured, is)) (inl (n, measured_too, is_too)) =
+      is ∙ (ap (λ (metered : Metered). finished_as 200 metered.text g.ticket.bound metered.cost) (one_measure m n measured measured_too) ∙ sym is_too)
+  one_reply a b (inl (m, measured, is)) (inr (f, faulty, is_too)) = absurd (not_both m f measured faulty)
+  one_reply a b (inr (f, faulty, is)) (inl (m, measured, is_too)) = absurd (not_both m f measured faulty)
+  one_reply a b (inr (f, faulty, is)) (inr (e, faulty_too, is_too)) =
+      is ∙ (ap (λ fault. finished_as 502 (message_body (reply_text fault)) g.ticket.bound g.ticket.bound) (one_fault f e faulty faulty_too) ∙ sym is_too)
+
+one_unanswered : (bound : Cost) (fault : LinkFault) (a b : Finished) → IsUnanswered bound fault a → IsUnanswered bound fault b → a ≡ b
+one_unanswered bound Down a b is is_too = is ∙ sym is_too
+one_unanswered bound Failed a b is is_too = is ∙ sym is_too
+one_unanswered bound BadReplyHead a b is is_too = is ∙ sym is_too
+one_unanswered bound Coded a b is is_too = is ∙ sym is_too
+one_unanswered bound TooLarge a b is is_too = is ∙ sym is_too
+one_unanswered bound Truncated a b is is_too = is ∙ sym is_too
+one_unanswered bound BadChunk a b is is_too = is ∙ sym is_too
+one_unanswered bound Memory a b is is_too = absurd is
+
+-- ---- by what was granted
+
+named_by : OneReading → (rules : Rules) (body : List ℕ) (g : Grant) → TypesDiffer rules.schema → IsPromisedFor rules body (promise_of g) → HoldsNamed g.plan
+named_by laws rules body g differ (asked, is_request, (document, is_document, promised)) =
+    let planned = promised.is_accepted.is_planned in
+    let tree = plan_tree (request_of rules asked document) planned.prepared in
+    record {
+      tree = tree;
+      sound = (planned.rows, subst (λ s. IsSound (holds s) tree) (sym promised.of_schema) promised.is_accepted.is_sound);
+      named = laws.named g.plan tree (subst TypesDiffer (sym promised.of_schema) differ) planned.rows;
+    }
+
+held_by : OneReading → (rules : Rules) (g : Grant) → IsGrantedBy rules g → HoldsNamed g.plan
+held_by laws rules g granted = named_by laws rules granted.body g granted.differ granted.promised
+
+module _ (laws : OneReading) (rules : Rules) (g : Grant) where
+  pub measured_once : (reply : List ℕ) (a b : Metered) → IsGrantedBy rules g → IsMeasuredBy g.plan g.alias reply a → IsMeasuredBy g.plan g.alias reply b → a ≡ b
+  measured_once reply a b granted = one_measure laws g reply (held_by laws rules g granted) a b
+
+  pub faulty_once : (reply : List ℕ) (a b : MeterFault) → IsGrantedBy rules g → HasReplyFault g reply a → HasReplyFault g reply b → a ≡ b
+  faulty_once reply a b granted = one_fault laws g reply (held_by laws rules g granted) a b
+
+  pub measured_or_faulty : (reply : List ℕ) (a : Metered) (b : MeterFault) → IsGrantedBy rules g → IsMeasuredBy g.plan g.alias reply a → HasReplyFault g reply b → ⊥
+  measured_or_faulty reply a b granted = not_both laws g reply (held_by laws rules g granted) a b
+
+  pub answered_once : (outcome : Outcome) (a b : Finished) → IsGrantedBy rules g → IsConcluded g outcome a → IsConcluded g outcome b → a ≡ b
+  answered_once (Reply reply) a b granted is is_too = one_reply laws g reply.body.items (held_by laws rules g granted) a b is is_too
+  answered_once (NoReply fault) a b granted is is_too = one_unanswered g.ticket.bound fault a b is is_too
+  answered_once NoMemory a b granted is is_too = absurd is

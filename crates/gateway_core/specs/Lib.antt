@@ -1,0 +1,12 @@
+-- The meaning: the rules of a gate, what bodies come to, grants and their bounds, how a request begins and finishes, and
+-- messages.
+pub mod Rules
+pub mod Gates
+pub mod Requests
+pub mod PlanBounds
+pub mod Grants
+pub mod Begins
+pub mod Messages
+pub mod Finishes
+-- What serves proofs: that facts are propositions.
+pub mod Propositions

@@ -1,0 +1,51 @@
+-- By what a gate decides.
+use Rattle.std.specs.Prelude.{◌≡◌, ℕ, ◌/◌, List, Option}
+use Rattle.cost_num.specs.declared.TheConstants.{CAP}
+use Rattle.cost_num.specs.declared.Cost.{Cost}
+use Rattle.cost_num.specs.Within.{Within}
+use Rattle.gql_base.specs.names.Names.{place_of_name}
+use Rattle.schema_model.specs.SchemaData.{SchemaData}
+use Rattle.cost_directives.specs.Weights.{WeightsData, weights_of}
+use Rattle.plan_model.specs.Sound.{CanBeFilled}
+use Rattle.client_files.specs.declared.client.Client.{Client}
+use Rattle.account_core.specs.Costs.{cost}
+use Rattle.account_core.specs.declared.Account.{Account}
+use Rattle.account_core.specs.declared.Limit.{Limit}
+
+-- A schema with its weights, the clients, and how many seconds a window has.
+pub record Rules : Type 0 where
+  pub schema : SchemaData
+  pub weights : WeightsData
+  pub clients : List Client
+  pub seconds : ℕ
+
+abbrev pub rules_with : SchemaData → WeightsData → List Client → ℕ → Rules
+rules_with schema weights clients seconds = record { schema = schema; weights = weights; clients = clients; seconds = seconds }
+
+-- the weights are those of the schema, and leaves of the schema can be filled
+abbrev pub HasWeights : SchemaData → WeightsData → Type 0
+HasWeights schema weights = ((undeclared : ℕ) × (weights ≡ weights_of schema undeclared)) × CanBeFilled schema
+
+-- the place among the clients of the one with this key
+abbrev pub client_of : Rules → List ℕ → Option ℕ
+client_of rules key = place_of_name (λ client. client.key) rules.clients key
+
+-- the window of a moment: its seconds divided by the length of a window, rounded down
+abbrev pub window_of : Rules → ℕ → ℕ
+window_of rules moment = moment / rules.seconds
+
+-- what a client may spend
+abbrev pub client_limit : Client → Limit
+client_limit client = record { allowance = client.allowance; carry = client.carry }
+
+-- the greatest cost that is counted
+abbrev pub greatest : Cost
+greatest = cost CAP CAP
+
+-- what is settled in an account is within the cap
+abbrev pub IsSettledWithin : Account → Type 0
+IsSettledWithin account = Within greatest account.settled
+
+-- what is carried into the window of an account is within the cap
+abbrev pub IsCarriedWithin : Account → Type 0
+IsCarriedWithin account = Within greatest account.carried

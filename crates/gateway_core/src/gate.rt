@@ -1,0 +1,117 @@
+//! The gate: by what it decides, and the accounts of its clients.
+
+ghost use Rattle.std.specs.Prelude.{◌≡◌, ◌<◌, ℕ, map, length, IfOk, IfSome, OnOk, OnErr};
+ghost use Rattle.schema_model.specs.SchemaViews.{schema_data};
+ghost use Rattle.plan_model.specs.Sound.{CanBeFilled};
+ghost use Rattle.cost_directives.specs.Weights.{weights_of};
+ghost use Rattle.cost_directives.specs.WeightViews.{weights_data};
+ghost use Rattle.account_cells.specs.Views.{after_split, split_off};
+ghost use Rattle.account_shared.specs.Views.{Belongs, IsIdle, JoinsTo, client_at, label_after_split, label_split_off, label_after_join};
+ghost use Rattle.client_files.specs.ClientFiles.{MayBeServed};
+ghost use Rattle.gateway_core.specs.Rules.{client_limit, client_of};
+ghost use Rattle.gateway_core.specs.Propositions.{weights-prop, filled-prop};
+
+use account_shared::{Accounts, Passes};
+use client_files::Client;
+use cost_directives::Weights;
+use gql_base::{Indexed, Text};
+use schema_model::Schema;
+use std::alloc::{AllocError, Global};
+use std::sync::Wait;
+
+/// How long windows are, and where requests are forwarded to.
+#[derive(Debug, Drop)]
+pub struct Settings {
+    /// The length of a window, in seconds.
+    pub window_seconds: u32,
+    /// The upstream's host, as requests to it name it.
+    pub host: Text,
+    /// The target of requests to the upstream.
+    pub target: Text,
+}
+
+/// The schema with its weights, the clients, and an account for each.
+#[derive(Drop)]
+pub struct Gate {
+    pub(crate) schema: Schema,
+    pub(crate) weights: Weights,
+    pub(crate) clients: Indexed<Client>,
+    pub(crate) settings: Settings,
+    pub(crate) accounts: Accounts,
+    ghost weighed: { weights_data weights ≡ weights_of (schema_data schema) (weights_data weights).undeclared } by { weights-prop (weights_data weights) (weights_of (schema_data schema) (weights_data weights).undeclared) },
+    ghost fillable: { CanBeFilled (schema_data schema) } by { filled-prop (schema_data schema) },
+    ghost served: { MayBeServed settings.window_seconds clients.items.items },
+    ghost limited: { accounts.limits ≡ map client_limit clients.items.items },
+}
+
+impl Gate {
+    ghost use Rattle.gateway_core.specs.Gates.{rules_of};
+
+    /// The place among the clients of the one with this key.
+    pub fn client(&self, key: &str) -> Option<u32>
+        ensures place { result ≡ client_of (rules_of self.now) key.now }
+        ensures within { IfSome result (λ client. client < length (rules_of self.now).clients) }
+    {
+        match self.clients.position(key) {
+            Some(at) => Some(at as u32),
+            None => None,
+        }
+    }
+
+    /// The clients, in their order.
+    pub fn clients(&self) -> &[Client]
+        ensures { result.now ≡ (rules_of self.now).clients }
+    {
+        self.clients.items()
+    }
+
+    /// The upstream's host.
+    pub fn host(&self) -> &str
+        ensures { result.now ≡ self.now.settings.host }
+    {
+        self.settings.host.as_str()
+    }
+
+    /// The target of requests to the upstream.
+    pub fn target(&self) -> &str
+        ensures { result.now ≡ self.now.settings.target }
+    {
+        self.settings.target.as_str()
+    }
+
+    /// Splits passes off the first ones, for another worker. They have seen as much, and no call was made through them.
+    ///
+    /// # Errors
+    ///
+    /// `AllocError` where there was not enough memory; the first passes are as they were then.
+    pub fn split(&self, alloc: Global, passes: &mut Passes) -> Result<Passes, AllocError>
+        requires belong { Belongs passes.old self.now.accounts }
+        requires first { passes.old.label.name ≡ 0 }
+        ensures refused { OnErr result (passes.new ≡ passes.old) }
+        ensures made { passes.new.made ≡ passes.old.made }
+        ensures clients { OnOk result (passes.new.clients ≡ map after_split passes.old.clients) }
+        ensures label { OnOk result (passes.new.label ≡ label_after_split passes.old.label) }
+        ensures belong { Belongs passes.new self.now.accounts }
+        ensures new_clients { IfOk result (λ p. p.clients ≡ map split_off passes.old.clients) }
+        ensures new_label { IfOk result (λ p. (p.made ≡ 0) × (p.label ≡ label_split_off passes.old.label)) }
+        ensures new_belong { IfOk result (λ p. Belongs p self.now.accounts) }
+    {
+        passes.split(alloc, &self.accounts)
+    }
+
+    /// Joins passes that were split off, and have no grant open, to the first ones. For each client the longer of the two
+    /// histories is seen then, and the shorter is a beginning of it. It takes no memory, and may wait for the steps of other
+    /// workers.
+    pub fn join<R: Wait>(&self, rt: &R, passes: &mut Passes, other: Passes)
+        requires belong { Belongs passes.old self.now.accounts }
+        requires theirs { Belongs other self.now.accounts }
+        requires first { passes.old.label.name ≡ 0 }
+        requires idle { IsIdle other }
+        ensures made { passes.new.made ≡ passes.old.made }
+        ensures label { passes.new.label ≡ label_after_join passes.old.label other.label }
+        ensures belong { Belongs passes.new self.now.accounts }
+        ensures joined { (k : ℕ) → k < length passes.old.clients → JoinsTo (client_at other k) (client_at passes.old k) (client_at passes.new k) }
+    {
+        passes.join(rt, &self.accounts, other);
+    }
+}

@@ -1,0 +1,57 @@
+//! What holds of all bodies, and of all replies to what is granted. These functions do nothing: their contracts are the laws.
+
+ghost use Rattle.std.specs.Prelude.{◌≡◌, ◌≢◌, ℕ, List};
+ghost use Rattle.response_meter.specs.declared.metered.Metered.{Metered};
+ghost use Rattle.response_meter.specs.declared.fault.MeterFault.{MeterFault};
+ghost use Rattle.cost_num.specs.declared.Cost.{Cost as CostType};
+ghost use Rattle.gateway_core.specs.declared.beginning.Denial.{Denial as DenialType};
+ghost use Rattle.gateway_core.specs.declared.beginning.Denial.TheVariants.{Memory as NoMemory};
+ghost use Rattle.gateway_core.specs.declared.finishing.Finished.{Finished as FinishedType};
+ghost use Rattle.gateway_core.specs.declared.finishing.Outcome.{Outcome as OutcomeType};
+ghost use Rattle.gateway_core.specs.declared.grant.Grant.{Grant as GrantType};
+ghost use Rattle.gateway_core.specs.declared.promise.Promise.{Promise as PromiseType};
+ghost use Rattle.gateway_core.specs.Rules.{Rules, HasWeights};
+ghost use Rattle.gateway_core.specs.Requests.{IsPricedAt, IsPromisedFor};
+ghost use Rattle.gateway_core.specs.Begins.{IsUnfit};
+ghost use Rattle.gateway_core.specs.PlanBounds.{IsMeasuredBy};
+ghost use Rattle.gateway_core.specs.Finishes.{HasReplyFault, IsConcluded, IsGrantedBy};
+
+use acceptance::{
+    a_request_has_one_verdict, alike_requests_are_answered_alike, alike_requests_have_one_verdict,
+};
+use document_reader::{a_text_is_a_document_or_has_one_fault, a_text_is_one_document};
+use plan_model::laws::operations_planned_well;
+use request_bodies::a_body_is_one_request_or_has_one_fault;
+use response_meter::laws::{fault_or_reading, named_tables, one_reply};
+use response_model::laws::greatest_is_bound;
+
+/// By the rules of a gate a body has one price, or is unfit for one reason, and not both; a promise for it is at its price. For
+/// want of memory nothing is said of a body. The weights are those of the schema, as those of a gate are.
+pub fn a_body_comes_to_one_thing()
+    ensures promised { (rules : Rules) (body : List ℕ) (promise : PromiseType) → IsPromisedFor rules body promise → IsPricedAt rules body promise.bound }
+    ensures one_price { (rules : Rules) (body : List ℕ) (bound cost : CostType) → HasWeights rules.schema rules.weights → IsPricedAt rules body bound → IsPricedAt rules body cost → bound ≡ cost }
+    ensures not_both { (rules : Rules) (body : List ℕ) (bound : CostType) (denial : DenialType) → denial ≢ NoMemory → IsPricedAt rules body bound → IsUnfit rules body denial → ⊥ }
+    ensures one_reason { (rules : Rules) (body : List ℕ) (denial other : DenialType) → denial ≢ NoMemory → other ≢ NoMemory → IsUnfit rules body denial → IsUnfit rules body other → denial ≡ other }
+{
+    a_body_is_one_request_or_has_one_fault();
+    a_text_is_one_document();
+    a_text_is_a_document_or_has_one_fault();
+    a_request_has_one_verdict();
+    alike_requests_are_answered_alike();
+    alike_requests_have_one_verdict();
+    operations_planned_well();
+    greatest_is_bound();
+}
+
+/// A reply to what is granted is measured in one way, or has one first fault, and not both. So there is one answer to it, and to
+/// each outcome, but for want of memory. The types of the schema have different names, as those of a schema that is built have.
+pub fn a_reply_has_one_answer()
+    ensures one_measure { (rules : Rules) (g : GrantType) (reply : List ℕ) (a b : Metered) → IsGrantedBy rules g → IsMeasuredBy g.plan g.alias reply a → IsMeasuredBy g.plan g.alias reply b → a ≡ b }
+    ensures one_fault { (rules : Rules) (g : GrantType) (reply : List ℕ) (a b : MeterFault) → IsGrantedBy rules g → HasReplyFault g reply a → HasReplyFault g reply b → a ≡ b }
+    ensures not_both { (rules : Rules) (g : GrantType) (reply : List ℕ) (a : Metered) (b : MeterFault) → IsGrantedBy rules g → IsMeasuredBy g.plan g.alias reply a → HasReplyFault g reply b → ⊥ }
+    ensures one_answer { (rules : Rules) (g : GrantType) (outcome : OutcomeType) (a b : FinishedType) → IsGrantedBy rules g → IsConcluded g outcome a → IsConcluded g outcome b → a ≡ b }
+{
+    fault_or_reading();
+    one_reply();
+    named_tables();
+}

@@ -1,0 +1,24 @@
+//! The decision of the gateway on each request, without HTTP: whether it is forwarded, what it is answered, and what its client
+//! is charged.
+#![tactic(auto)]
+
+mod beginning;
+mod finishing;
+mod gate;
+mod grant;
+mod laws;
+mod making;
+mod messages;
+mod promise;
+mod sharing;
+mod totals;
+
+pub use beginning::{Begun, Denial, begin};
+pub use finishing::{Finished, Outcome, finish};
+pub use gate::{Gate, Settings};
+pub use grant::Grant;
+pub use laws::{a_body_comes_to_one_thing, a_reply_has_one_answer};
+pub use making::close;
+pub use messages::{denial_message, denial_status, message_body, printed_cost};
+pub use sharing::{answers_are_shared, gates_are_shared};
+pub use totals::Totals;
