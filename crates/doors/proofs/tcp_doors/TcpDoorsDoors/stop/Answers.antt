@@ -1,0 +1,6 @@
+use Rattle.std.proofs.Common.{false}
+use Rattle.doors.proofs.Stopping.{stopping}
+use Rattle.doors.proofs.tcp_doors.TcpDoorsDoors.stop.Goals as goal
+
+pub returns-clause-stopped : goal.returns-clause-stopped
+returns-clause-stopped g c = stopping (record { out = λ _. false; to_come = _; faults = _; visits = _ }) _ _ _ _ c.keep_stopped.ensures.kept

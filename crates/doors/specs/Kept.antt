@@ -1,0 +1,22 @@
+-- What the forms and adapters keep of the doors that they start and stop.
+use Rattle.std.specs.Prelude.{ℕ, string_bytes}
+use Rattle.doors.specs.Starts.{Asked, DoorMembers, Stopped, stopped_by}
+use Rattle.doors.specs.declared.starting.StartWords.{StartWords}
+use Rattle.doors.specs.declared.starting.StoppedDoor.{StoppedDoor}
+
+-- what is asked by these words
+abbrev pub asked_by : StartWords → Asked
+asked_by words = record {
+  listen = string_bytes words.listen;
+  upstream = string_bytes words.upstream;
+  workers = words.workers;
+  connections = words.connections;
+}
+
+-- a door that was to give so many connections, as it is kept
+abbrev pub stopped_door : {D : Type 0} → ℕ → D → StoppedDoor D
+stopped_door connections door = record { door = door; connections = connections }
+
+-- what is told of a door that is kept
+abbrev pub told_stopped : {D : Type 0} → DoorMembers D → StoppedDoor D → Stopped
+told_stopped members kept = stopped_by members kept.connections kept.door

@@ -1,0 +1,4 @@
+pub mod Visits
+pub mod Starts
+pub mod MemVisits
+pub mod Kept
