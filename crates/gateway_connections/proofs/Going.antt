@@ -1,0 +1,151 @@
+-- A connection that goes on, and its end.
+use Rattle.std.proofs.Common.{◌≡◌, ℕ, ◌+◌, ◌<◌, inl, List, [], ◌∷◌, ◌++◌, length, refl, sym, ap, ◌∙◌, subst, arith, append-nil, Bool, true, false, Option, Some, None}
+use Rattle.std.specs.Prelude.{◌≢◌, ◌==◌, ◌||◌}
+use Rattle.std.proofs.lemmas.List.{length-append}
+use Rattle.std.proofs.lemmas.Bool.Decides.{nat_tests}
+use Rattle.std.specs.Io.KnownBytes.{Appends}
+use Rattle.account_shared.specs.Views.{PassesView}
+use Rattle.account_shared.specs.Gains.{Gains}
+use Rattle.outside.specs.Taken.{Took}
+use Rattle.outside.proofs.Taking.{took_none, took_more}
+use Rattle.doors.specs.Visits.{Told}
+use Rattle.http_front.specs.Asks.{IsAsk}
+use Rattle.gateway_connections.specs.declared.ending.ConnectionEnd.{ConnectionEnd}
+use Rattle.gateway_connections.specs.declared.ending.ConnectionEnd.TheVariants as ending
+use Rattle.gateway_connections.specs.declared.ending.Served.{Served}
+use Rattle.gateway_connections.specs.declared.reply.Reply.{Reply}
+use Rattle.gateway_connections.specs.Replies.{written}
+use Rattle.gateway_connections.specs.Exchanges.{Service, Exchange, IsExchange, AreExchanges}
+use Rattle.gateway_connections.specs.Connections.{Connection, Stop, not_begun, StopsAt, EndsWith, AsksTo, GoesOn, carries, closes, last_of, all_of, calls_of, replies_from}
+use Rattle.gateway_connections.specs.Serving.{Makes, Serves, Turns, TurnsTo, GoesOnAfter}
+use Rattle.gateway_connections.proofs.Growing.{leaves_none, makes_none, makes_then, asks_none, asks_grow, asks_more, none_made, one_more_made, each_more, no_replies, one_more_reply, appended_then}
+
+pub appended_none : (written : Option (List ℕ)) → Appends written written []
+appended_none None = tt
+appended_none (Some bytes) = sym (append-nil bytes)
+
+or_false : (a b : Bool) → (a || b) ≡ false → (a ≡ false) × (b ≡ false)
+or_false true b e = absurd (cc e)
+or_false false b e = (refl, e)
+
+-- a reply that doesn't carry `close`
+pub stays_open : (close : Bool) (number : ℕ) (r : Reply) → number < 1000 → carries close number r ≡ false
+    → (close ≡ false) × (number + 1 < 1000) × (r.status ≢ 500)
+stays_open close number r few e =
+    let one = or_false close _ e in
+    let two = or_false (number + 1 == 1000) (r.status == 500) one.1 in
+    let not_last : number + 1 ≢ 1000 = grind (arith, nat_tests) in
+    (one.0, omega (arith, not_last, few), grind (arith, nat_tests))
+
+-- before the first request
+pub goes_on_first : (s : Service) (p : PassesView) (t : Told) → GoesOnAfter s p p 0 [] t t
+goes_on_first s p t = record {
+  exchanges = [];
+  each = none_made s p.made;
+  goes_on = tt;
+  few = omega arith;
+  counted = refl;
+  bytes = [];
+  took = took_none t.left;
+  asks = asks_none [];
+  makes = makes_none p t;
+  out = subst (Appends t.written t.written) (sym (no_replies 0)) (appended_none t.written);
+}
+
+numbers_of : (p q : PassesView) (a b : Told) (xs : List Exchange) → Makes p q a b xs → q.made ≡ p.made + length (calls_of xs)
+numbers_of p q a b xs m = m.gains.made
+
+-- a turn more, after which the connection goes on
+pub goes_on_more : (s : Service) (p q r : PassesView) (number : ℕ) (kept : List ℕ) (front : Option (List ℕ)) (a b c : Told)
+    → GoesOnAfter s p q number kept a b → (t : Turns s q r number kept front b c None)
+    → GoesOnAfter s p r (number + 1) (t.turned.1) a c
+goes_on_more s p q r number kept front a b c g t =
+    let u = t.turned in
+    let x = u.0 in
+    let xs = g.exchanges in
+    let open_ = stays_open x.ask.close number x.reply g.few u.6 in
+    let here : number ≡ 0 + length xs = omega (arith, g.counted) in
+    record {
+      exchanges = xs ++ x ∷ [];
+      each = one_more_made s p.made xs x g.each (subst (λ n. IsExchange s n (Unit {0}) x) (numbers_of p q a b xs g.makes) u.5);
+      goes_on = each_more (λ y. (y.ask.close ≡ false) × (y.reply.status ≢ 500)) xs x g.goes_on (open_.0, open_.2);
+      few = open_.1;
+      counted = omega (arith, g.counted, length-append xs (x ∷ []));
+      bytes = g.bytes ++ t.bytes;
+      took = took_more a.left b.left c.left g.bytes t.bytes g.took t.took;
+      asks = asks_more (g.bytes ++ t.bytes) xs x (kept ++ t.bytes) u.1 (asks_grow g.bytes xs kept t.bytes g.asks) u.3;
+      makes = makes_then p q r a b c xs (x ∷ []) g.makes (subst (Makes q r b c) u.2 t.makes);
+      out = subst (Appends a.written c.written)
+          ((λ i. replies_from 0 xs ++ written (closed i) x.reply) ∙ ap (λ k. replies_from 0 xs ++ written (closes k x) x.reply) here ∙ sym (one_more_reply 0 xs x))
+          (appended_then a.written b.written c.written (replies_from 0 xs) (written false x.reply) g.out u.7);
+    }
+  where
+    closed : false ≡ closes number (t.turned.0)
+    closed = sym t.turned.6
+
+ends_as : (m n : ℕ) (stop : Stop) (b c : Option (List ℕ)) (count : ℕ) (end : ConnectionEnd) → m ≡ n → EndsWith m stop b c count end → EndsWith n stop b c count end
+ends_as m n stop b c count end same e = subst (λ k. EndsWith k stop b c count end) same e
+
+stops_as : (s : Service) (stop : Stop) (ended : Bool) (here : List ℕ) (m n k l : ℕ) → m ≡ n → k ≡ l → StopsAt s m k here ended stop → StopsAt s n l here ended stop
+stops_as s stop ended here m n k l e f x = subst (λ i. StopsAt s i l here ended stop) e (subst (λ j. StopsAt s m j here ended stop) f x)
+
+-- the last turn
+pub goes_to_end : (s : Service) (p q r : PassesView) (number : ℕ) (kept : List ℕ) (front : Option (List ℕ)) (a b c : Told) (served : Served)
+    → GoesOnAfter s p q number kept a b → Turns s q r number kept front b c (Some served) → Serves s p r a c served
+goes_to_end s p q r number kept front a b c served g t =
+    let u = t.turned in
+    let xs = g.exchanges in
+    let all = makes_then p q r a b c xs (last_of u.0) g.makes (subst (Makes q r b c) u.1 t.makes) in
+    record {
+      calls = calls_of (xs ++ last_of u.0);
+      runs = record {
+        bytes = g.bytes ++ t.bytes;
+        ended = t.ended;
+        took = took_more a.left b.left c.left g.bytes t.bytes g.took t.took;
+        at_end = t.at_end;
+        connection = record {
+          exchanges = xs;
+          each = g.each;
+          goes_on = g.goes_on;
+          few = subst (λ n. n < 1000) g.counted g.few;
+          here = kept ++ t.bytes;
+          asks = asks_grow g.bytes xs kept t.bytes g.asks;
+          stop = u.0;
+          stops = stops_as s u.0 t.ended (kept ++ t.bytes) number (length xs) q.made (p.made + length (calls_of xs)) g.counted (numbers_of p q a b xs g.makes) u.2;
+          between = b.written;
+          replied = g.out;
+          out = ends_as number (length xs) u.0 b.written c.written served.replies served.end g.counted u.3;
+        };
+        leaves = all.leaves;
+        calls_are = refl;
+      };
+      gains = all.gains;
+    }
+
+-- nothing was read, and nothing written
+pub never_begun : (s : Service) (p : PassesView) (t : Told) (served : Served) → served.end ≡ ending.Memory → served.replies ≡ 0 → Serves s p p t t served
+never_begun s p t served is none = record {
+  calls = calls_of [];
+  runs = record {
+    bytes = [];
+    ended = false;
+    took = took_none t.left;
+    at_end = λ e. absurd (cc e);
+    connection = record {
+      exchanges = [];
+      each = none_made s p.made;
+      goes_on = tt;
+      few = omega arith;
+      here = [];
+      asks = asks_none [];
+      stop = not_begun;
+      stops = (refl, refl, refl);
+      between = t.written;
+      replied = subst (Appends t.written t.written) (sym (no_replies 0)) (appended_none t.written);
+      out = inl (appended_none t.written, none, is);
+    };
+    leaves = leaves_none t;
+    calls_are = refl;
+  };
+  gains = (makes_none p t).gains;
+}

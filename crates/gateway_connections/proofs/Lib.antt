@@ -1,0 +1,4 @@
+pub mod Growing
+pub mod Going
+pub mod WrittenReplies
+pub mod OneExchange

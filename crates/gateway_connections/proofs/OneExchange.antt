@@ -1,0 +1,105 @@
+-- One exchange, and its turn.
+use Rattle.std.proofs.Common.{◌≡◌, ℕ, ◌+◌, ◌⊎◌, inl, inr, List, [], ◌∷◌, ◌++◌, refl, sym, ap, ◌∙◌, subst, Bool, true, false, Option, Some, None, Result}
+use Rattle.std.specs.Prelude.{IfSome}
+use Rattle.std.specs.Io.KnownBytes.{Appends}
+use Rattle.account_shared.specs.Views.{PassesView, IsIdle}
+use Rattle.account_shared.specs.Gains.{Gains}
+use Rattle.account_shared.proofs.Idle.{idle_past, idle_past_refusal}
+use Rattle.outside.specs.Dials.{Dial, Logged}
+use Rattle.outside.specs.Faults.{RoseBy}
+use Rattle.outside.specs.Ticks.{Tick, Ticks}
+use Rattle.outside.proofs.Readings.{ticks_one}
+use Rattle.doors.specs.Visits.{Told}
+use Rattle.http_front.specs.declared.front.Ask.{Ask}
+use Rattle.http_front.specs.Asks.{IsAsk}
+use Rattle.upstream_link.specs.declared.fault.LinkFault.{LinkFault}
+use Rattle.upstream_link.specs.declared.reply.UpstreamReply.{UpstreamReply}
+use Rattle.upstream_link.specs.Exchanges.{CameTo}
+use Rattle.gateway_core.specs.declared.beginning.Denial.{Denial}
+use Rattle.gateway_core.specs.declared.beginning.Denial.TheVariants.{UnknownKey, BadBody, Refused, Short, Memory}
+use Rattle.gateway_core.specs.declared.beginning.Begun.TheVariants.{Denied}
+use Rattle.gateway_core.specs.Begins.{calls_begun}
+use Rattle.gateway_connections.specs.declared.reply.Reply.{Reply}
+use Rattle.gateway_connections.specs.declared.ending.Served.{Served}
+use Rattle.gateway_connections.specs.Replies.{written}
+use Rattle.gateway_connections.specs.Exchanges.{Service, Exchange, IsExchange, downs, failures}
+use Rattle.gateway_connections.specs.Connections.{Answers, after_last, carries, calls_of, dials_of, downs_of, failures_of}
+use Rattle.gateway_connections.specs.Serving.{Makes, Leaves, TurnsTo}
+use Rattle.gateway_connections.proofs.Growing.{calls_one, dials_one, downs_one, failures_one}
+
+pub some_then : (o : Option (List ℕ)) (P Q : List ℕ → Type 0) → ((kept : List ℕ) → P kept → Q kept) → IfSome o P → IfSome o Q
+some_then None P Q f h = tt
+some_then (Some kept) P Q f h = f kept h
+
+pub at_some : (o : Option (List ℕ)) (kept : List ℕ) (P : List ℕ → Type 0) → o ≡ Some kept → IfSome o P → P kept
+at_some o kept P e h = subst (λ v. IfSome v P) e h
+
+-- a denial leaves no grant open
+pub denied_idle : (p q : PassesView) (client window : ℕ) (denial : Denial) → Gains p q (calls_begun client window (Denied denial)) → IsIdle p → IsIdle q
+denied_idle p q client window UnknownKey g idle = idle_past p q [] g idle (λ k. refl)
+denied_idle p q client window (BadBody f) g idle = idle_past p q [] g idle (λ k. refl)
+denied_idle p q client window (Refused r) g idle = idle_past p q [] g idle (λ k. refl)
+denied_idle p q client window (Short left bound) g idle = idle_past_refusal p q client window bound left g idle
+denied_idle p q client window Memory g idle = idle_past p q [] g idle (λ k. refl)
+
+came_anyhow : (Untouched : Type 0) (request : List ℕ) (r : Result UpstreamReply LinkFault) (dials : List Dial) → CameTo Untouched request r dials → CameTo (Unit {0}) request r dials
+came_anyhow Untouched request r [] (inl down) = inl down
+came_anyhow Untouched request r [] (inr none) = inr (none.0, tt)
+came_anyhow Untouched request r (d ∷ []) came = came
+came_anyhow Untouched request r (d ∷ e ∷ dials) came = absurd came
+
+-- an exchange, whether the wire is as it was or not
+pub exchange_anyhow : (s : Service) (made : ℕ) (Untouched : Type 0) (x : Exchange) → IsExchange s made Untouched x → IsExchange s made (Unit {0}) x
+exchange_anyhow s made Untouched x (inl d) = inl record {
+  client = d.client;
+  denial = d.denial;
+  denied = d.denied;
+  calls = d.calls;
+  outcome = d.outcome;
+  dials = d.dials;
+  untouched = tt;
+  reply = d.reply;
+}
+exchange_anyhow s made Untouched x (inr f) = inr record {
+  client = f.client;
+  grant = f.grant;
+  is_granted = f.is_granted;
+  asked = f.asked;
+  came_to = came_anyhow Untouched _ f.asked x.dials f.came_to;
+  outcome = f.outcome;
+  finished = f.finished;
+  is_finished = f.is_finished;
+  bound = f.bound;
+  calls = f.calls;
+  reply = f.reply;
+}
+
+-- just one exchange was made
+pub made_one : (p q : PassesView) (given back : Told) (x : Exchange) (moment : ℕ) → Gains p q x.calls → x.moment ≡ moment → Tick given.readings moment back.readings
+    → Logged given.log x.dials back.log → RoseBy (downs x.outcome) given.dial_faults back.dial_faults → RoseBy (failures x.outcome) given.transfer_faults back.transfer_faults
+    → Makes p q given back (x ∷ [])
+made_one p q given back x moment gains at tick logged down failed = record {
+  gains = subst (Gains p q) (sym (calls_one x)) gains;
+  leaves = record {
+    ticks = ticks_one given.readings back.readings x.moment (subst (λ m. Tick given.readings m back.readings) (sym at) tick);
+    logged = subst (λ d. Logged given.log d back.log) (sym (dials_one x)) logged;
+    downs = subst (λ n. RoseBy n given.dial_faults back.dial_faults) (sym (downs_one x)) down;
+    failures = subst (λ n. RoseBy n given.transfer_faults back.transfer_faults) (sym (failures_one x)) failed;
+  };
+}
+
+-- its turn
+pub turned_by : (s : Service) (number made : ℕ) (here rest : List ℕ) (ended : Bool) (front : Option (List ℕ)) (x : Exchange) (before after : Option (List ℕ)) (r : Option Served)
+    → IsAsk here x.ask rest → front ≡ Some rest → IsExchange s made (Unit {0}) x → Answers x.reply x.ask.close number before after r
+    → TurnsTo s number made here ended front (x ∷ []) before after r
+turned_by s number made here rest ended front x before after None ask kept is a = (x, rest, refl, ask, kept, is, a.0, a.1)
+turned_by s number made here rest ended front x before after (Some served) ask kept is (inl a) =
+    (after_last x, refl, ((rest, ask), is), inl (subst (λ b. Appends before after (written b x.reply)) (sym a.0) a.1, a.2, (a.0, a.3)))
+turned_by s number made here rest ended front x before after (Some served) ask kept is (inr a) =
+    (after_last x, refl, ((rest, ask), is), inr a)
+
+-- an answer to what was asked is one to the exchange
+pub answers_exchange : (x : Exchange) (ask : Ask) (reply : Reply) (number : ℕ) (before after : Option (List ℕ)) (r : Option Served) → x.ask ≡ ask → x.reply ≡ reply
+    → Answers reply ask.close number before after r → Answers x.reply x.ask.close number before after r
+answers_exchange x ask reply number before after r e f a =
+    subst (λ t. Answers t x.ask.close number before after r) (sym f) (subst (λ (k : Ask). Answers reply k.close number before after r) (sym e) a)

@@ -1,0 +1,139 @@
+-- One exchange: a request of a client, and its reply.
+use Rattle.std.specs.Prelude.{◌≡◌, ◌⊎◌, ℕ, ◌+◌, List, [], ◌∷◌, length, Option, Some, None, Result, Ok, Err, ⊤}
+use Rattle.account_core.specs.Machine.{reservation, granted}
+use Rattle.account_shared.specs.Views.{PassesView}
+use Rattle.account_shared.specs.Gains.{ClientCall, client_call, Gains}
+use Rattle.outside.specs.Dials.{Dial, Logged}
+use Rattle.outside.specs.Faults.{RoseBy}
+use Rattle.http_front.specs.declared.front.Ask.{Ask}
+use Rattle.upstream_link.specs.declared.fault.LinkFault.{LinkFault}
+use Rattle.upstream_link.specs.declared.fault.LinkFault.TheVariants.{Down, Failed}
+use Rattle.upstream_link.specs.declared.reply.UpstreamReply.{UpstreamReply}
+use Rattle.upstream_link.specs.Exchanges.{CameTo}
+use Rattle.upstream_link.specs.RequestBytes.{request_bytes}
+use Rattle.gateway_core.specs.declared.beginning.Denial.{Denial}
+use Rattle.gateway_core.specs.declared.beginning.Begun.TheVariants.{Denied}
+use Rattle.gateway_core.specs.declared.grant.Grant.{Grant}
+use Rattle.gateway_core.specs.declared.gate.Gate.{Gate}
+use Rattle.gateway_core.specs.declared.finishing.Outcome.{Outcome}
+use Rattle.gateway_core.specs.declared.finishing.Outcome.TheVariants.{Reply as Replied, Fault}
+use Rattle.gateway_core.specs.declared.finishing.Finished.{Finished}
+use Rattle.gateway_core.specs.Rules.{Rules, window_of}
+use Rattle.gateway_core.specs.Gates.{rules_of}
+use Rattle.gateway_core.specs.Begins.{IsDenied, IsGranted, calls_begun}
+use Rattle.gateway_core.specs.Finishes.{IsFinished, settling}
+use Rattle.gateway_connections.specs.declared.reply.Reply.{Reply}
+use Rattle.gateway_connections.specs.Replies.{IsDenialReply, finished_reply}
+
+-- By what requests are decided, and where they are forwarded to.
+pub record Service : Type 0 where
+  pub rules : Rules
+  pub host : List ℕ
+  pub target : List ℕ
+
+abbrev pub service_of : Gate → Service
+service_of g = record { rules = rules_of g; host = g.settings.host; target = g.settings.target }
+
+-- An exchange as it went: the request, the moment, the calls at the accounts, what the upstream made of it where it was
+-- forwarded, the dials that were answered, and the reply.
+pub record Exchange : Type 0 where
+  pub ask : Ask
+  pub moment : ℕ
+  pub calls : List ClientCall
+  pub outcome : Option Outcome
+  pub dials : List Dial
+  pub reply : Reply
+
+-- It was denied: at most the one call of an account that was short was made, and nobody was dialled.
+pub record WasDenied (s : Service) (Untouched : Type 0) (x : Exchange) : Type 0 where
+  pub client : ℕ
+  pub denial : Denial
+  pub denied : IsDenied s.rules x.ask.key x.ask.body.items client denial
+  pub calls : x.calls ≡ calls_begun client (window_of s.rules x.moment) (Denied denial)
+  pub outcome : x.outcome ≡ None
+  pub dials : x.dials ≡ []
+  pub untouched : Untouched
+  pub reply : IsDenialReply denial x.reply
+
+-- what a request to the upstream came to, as an outcome
+abbrev pub outcome_of : Result UpstreamReply LinkFault → Outcome
+outcome_of (Ok reply) = Replied reply
+outcome_of (Err f) = Fault f
+
+-- It was granted: its bound was reserved; then it was forwarded; and what became of it there decides the reply, and the charge
+-- at which it was settled.
+pub record WasForwarded (s : Service) (made : ℕ) (untouched : Type 0) (x : Exchange) : Type 0 where
+  pub client : ℕ
+  pub grant : Grant
+  pub is_granted : IsGranted s.rules x.ask.key x.ask.body.items client made grant
+  pub asked : Result UpstreamReply LinkFault
+  pub came_to : CameTo untouched (request_bytes s.host s.target grant.forward) asked x.dials
+  pub outcome : x.outcome ≡ Some (outcome_of asked)
+  pub finished : Finished
+  pub is_finished : IsFinished grant (outcome_of asked) finished
+  pub bound : finished.bound ≡ grant.ticket.bound
+  pub calls : x.calls ≡ client_call client (reservation (window_of s.rules x.moment) grant.ticket.bound) (granted grant.ticket.window)
+      ∷ settling grant.ticket finished.charged ∷ []
+  pub reply : x.reply ≡ finished_reply finished
+
+-- How an exchange goes after so many calls. `untouched` says that the wire is as it was.
+abbrev pub IsExchange : Service → ℕ → Type 0 → Exchange → Type 0
+IsExchange s made untouched x = WasDenied s untouched x ⊎ WasForwarded s made untouched x
+
+-- ---- faults of the upstream
+
+-- 1 where nobody answered the dial
+abbrev pub downs : Option Outcome → ℕ
+downs (Some (Fault Down)) = 1
+downs other = 0
+
+-- 1 where a transfer failed
+abbrev pub failures : Option Outcome → ℕ
+failures (Some (Fault Failed)) = 1
+failures other = 0
+
+-- ---- what an exchange did
+
+-- what a wire tells: the dials that were answered, and the counts of its faults
+pub record WireTelling (W : Type 0) : Type 0 where
+  pub log : W → Option (List Dial)
+  pub dial_faults : W → ℕ
+  pub faults : W → ℕ
+
+abbrev pub telling : {W : Type 0} → (W → Option (List Dial)) → (W → ℕ) → (W → ℕ) → WireTelling W
+telling log dial_faults faults = record { log = log; dial_faults = dial_faults; faults = faults }
+
+-- An exchange was made: its calls at the accounts and its dials, and no others.
+pub record Exchanges {W : Type 0} (s : Service) (t : WireTelling W) (before now : PassesView) (wire after : W) (x : Exchange) : Type 0 where
+  pub is_exchange : IsExchange s before.made (after ≡ wire) x
+  pub gains : Gains before now x.calls
+  pub logged : Logged (t.log wire) x.dials (t.log after)
+  pub downs : RoseBy (downs x.outcome) (t.dial_faults wire) (t.dial_faults after)
+  pub failures : RoseBy (failures x.outcome) (t.faults wire) (t.faults after)
+
+-- It was an exchange for what was asked, with this reply.
+pub record Replies {W : Type 0} (s : Service) (t : WireTelling W) (ask : Ask) (moment : ℕ) (before now : PassesView) (wire after : W) (reply : Reply) : Type 0 where
+  pub exchange : Exchange
+  pub asked : exchange.ask ≡ ask
+  pub at : exchange.moment ≡ moment
+  pub replied : exchange.reply ≡ reply
+  pub exchanges : Exchanges s t before now wire after exchange
+
+-- A granted request was forwarded and finished, with this reply.
+pub record Forwards {W : Type 0} (s : Service) (t : WireTelling W) (grant : Grant) (before now : PassesView) (wire after : W) (reply : Reply) : Type 0 where
+  pub asked : Result UpstreamReply LinkFault
+  pub dials : List Dial
+  pub came_to : CameTo (after ≡ wire) (request_bytes s.host s.target grant.forward) asked dials
+  pub logged : Logged (t.log wire) dials (t.log after)
+  pub downs : RoseBy (downs (Some (outcome_of asked))) (t.dial_faults wire) (t.dial_faults after)
+  pub failures : RoseBy (failures (Some (outcome_of asked))) (t.faults wire) (t.faults after)
+  pub finished : Finished
+  pub is_finished : IsFinished grant (outcome_of asked) finished
+  pub bound : finished.bound ≡ grant.ticket.bound
+  pub gains : Gains before now (settling grant.ticket finished.charged ∷ [])
+  pub replied : reply ≡ finished_reply finished
+
+-- exchanges one after the other
+unfoldable pub AreExchanges : Service → ℕ → List Exchange → Type 0
+AreExchanges s made [] = ⊤
+AreExchanges s made (x ∷ xs) = IsExchange s made ⊤ x × AreExchanges s (made + length x.calls) xs

@@ -1,0 +1,5 @@
+-- The meaning: replies and their bytes, exchanges, connections, and what a stretch of serving did.
+pub mod Replies
+pub mod Exchanges
+pub mod Connections
+pub mod Serving

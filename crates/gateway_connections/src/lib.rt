@@ -1,0 +1,16 @@
+//! The connections of the gateway: requests of clients one after the other, each decided, forwarded and replied to (HTTP/1.1, RFC
+//! 9112).
+#![tactic(auto)]
+
+mod ending;
+mod exchanging;
+mod reply;
+mod serving;
+mod sharing;
+mod turn;
+
+pub use ending::{ConnectionEnd, EXCHANGE_LIMIT, Served};
+pub use exchanging::exchange;
+pub use reply::Reply;
+pub use serving::serve_connection;
+pub use sharing::replies_are_shared;
