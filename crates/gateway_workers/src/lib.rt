@@ -1,0 +1,14 @@
+//! The workers of the gateway, side by side: each serves the connections of its door.
+#![tactic(auto)]
+
+mod joining;
+mod laws;
+mod pairing;
+mod serving;
+mod work_done;
+mod worker;
+mod working;
+
+pub use laws::doors_that_do_not_fail_are_served_whole;
+pub use serving::serve_workers;
+pub use work_done::WorkDone;
