@@ -1,36 +1,105 @@
 -- Words whose first names a command.
-use Rattle.std.proofs.Common.{◌≡◌, sym, subst, ℕ, List, Bool, true, false, codes}
-use Rattle.std.specs.Str.{bytes_eq}
+use Rattle.std.proofs.Common.{◌≡◌, ◌∙◌, sym, ap, refl, ℕ, List, codes, slice_index, arith}
 use Rattle.command_words.specs.declared.command.Command.{Command}
-use Rattle.command_words.specs.declared.command.Command.TheVariants.{Help, Version, Check, Price, Worst, Forward, Meter, Migrate}
-use Rattle.command_words.specs.Words.{AsksCheck, AsksPrice, AsksWorst, AsksForward, AsksMeter, AsksMigrate, AsksAfter}
+use Rattle.command_words.specs.declared.command.Command.TheVariants.{Help, Version, Check, Price, Worst, Forward, Meter, Replay, Exercise, Migrate}
+use Rattle.command_words.specs.Words.{AsksCheck, AsksPrice, AsksWorst, AsksForward, AsksMeter, AsksReplay, AsksExercise, AsksMigrate, AsksAfter}
 
--- the first where the test is passed, else the second
-abbrev Otherwise : Bool → Type 0 → Type 0 → Type 0
-Otherwise true A B = A
-Otherwise false A B = B
+-- two names with different letters at a place
+apart : (a b name : List ℕ) (at x y : ℕ) → slice_index a at ≡ x → slice_index b at ≡ y → (x ≡ y → ⊥) → name ≡ a → name ≡ b → ⊥
+apart a b name at x y of_a of_b differ is other = differ (sym of_a ∙ (ap (λ l. slice_index l at) (sym is ∙ other) ∙ of_b))
 
--- what the words behind this name ask for
-abbrev pub AskedBy : List ℕ → List (List ℕ) → Command → Type 0
-AskedBy name words command =
-    Otherwise (bytes_eq name (codes "check")) (AsksCheck words command)
-    (Otherwise (bytes_eq name (codes "price")) (AsksPrice words command)
-    (Otherwise (bytes_eq name (codes "worst")) (AsksWorst words command)
-    (Otherwise (bytes_eq name (codes "forward")) (AsksForward words command)
-    (Otherwise (bytes_eq name (codes "meter")) (AsksMeter words command)
-    (Otherwise (bytes_eq name (codes "migrate")) (AsksMigrate words command)
-    (Unit {0}))))))
+pub only_check : (name : List ℕ) (words : List (List ℕ)) (command : Command) → name ≡ codes "check" → (AsksCheck words command → ⊥) → AsksAfter name words command → ⊥
+only_check name words Help is none asks = apart (codes "check") (codes "--help") name 0 99 45 refl refl (λ e. omega (arith, e)) is asks.0
+only_check name words Version is none asks = apart (codes "check") (codes "--version") name 0 99 45 refl refl (λ e. omega (arith, e)) is asks.0
+only_check name words (Check schema) is none asks = none asks.1
+only_check name words (Price asked) is none asks = apart (codes "check") (codes "price") name 0 99 112 refl refl (λ e. omega (arith, e)) is asks.0
+only_check name words (Worst asked part) is none asks = apart (codes "check") (codes "worst") name 0 99 119 refl refl (λ e. omega (arith, e)) is asks.0
+only_check name words (Forward asked) is none asks = apart (codes "check") (codes "forward") name 0 99 102 refl refl (λ e. omega (arith, e)) is asks.0
+only_check name words (Meter asked reply) is none asks = apart (codes "check") (codes "meter") name 0 99 109 refl refl (λ e. omega (arith, e)) is asks.0
+only_check name words (Replay asked) is none asks = apart (codes "check") (codes "replay") name 0 99 114 refl refl (λ e. omega (arith, e)) is asks.0
+only_check name words (Exercise requests) is none asks = apart (codes "check") (codes "exercise") name 0 99 101 refl refl (λ e. omega (arith, e)) is asks.0
+only_check name words (Migrate clients) is none asks = apart (codes "check") (codes "migrate") name 0 99 109 refl refl (λ e. omega (arith, e)) is asks.0
 
-by_name : (name : List ℕ) (words : List (List ℕ)) (command : Command) → AsksAfter name words command → AskedBy name words command
-by_name name words Help asks = subst (λ own. AskedBy own words Help) (sym asks.0) tt
-by_name name words Version asks = subst (λ own. AskedBy own words Version) (sym asks.0) tt
-by_name name words (Check schema) asks = subst (λ own. AskedBy own words (Check schema)) (sym asks.0) asks.1
-by_name name words (Price asked) asks = subst (λ own. AskedBy own words (Price asked)) (sym asks.0) asks.1
-by_name name words (Worst asked part) asks = subst (λ own. AskedBy own words (Worst asked part)) (sym asks.0) asks.1
-by_name name words (Forward asked) asks = subst (λ own. AskedBy own words (Forward asked)) (sym asks.0) asks.1
-by_name name words (Meter asked reply) asks = subst (λ own. AskedBy own words (Meter asked reply)) (sym asks.0) asks.1
-by_name name words (Migrate clients) asks = subst (λ own. AskedBy own words (Migrate clients)) (sym asks.0) asks.1
+pub only_price : (name : List ℕ) (words : List (List ℕ)) (command : Command) → name ≡ codes "price" → (AsksPrice words command → ⊥) → AsksAfter name words command → ⊥
+only_price name words Help is none asks = apart (codes "price") (codes "--help") name 0 112 45 refl refl (λ e. omega (arith, e)) is asks.0
+only_price name words Version is none asks = apart (codes "price") (codes "--version") name 0 112 45 refl refl (λ e. omega (arith, e)) is asks.0
+only_price name words (Check schema) is none asks = apart (codes "price") (codes "check") name 0 112 99 refl refl (λ e. omega (arith, e)) is asks.0
+only_price name words (Price asked) is none asks = none asks.1
+only_price name words (Worst asked part) is none asks = apart (codes "price") (codes "worst") name 0 112 119 refl refl (λ e. omega (arith, e)) is asks.0
+only_price name words (Forward asked) is none asks = apart (codes "price") (codes "forward") name 0 112 102 refl refl (λ e. omega (arith, e)) is asks.0
+only_price name words (Meter asked reply) is none asks = apart (codes "price") (codes "meter") name 0 112 109 refl refl (λ e. omega (arith, e)) is asks.0
+only_price name words (Replay asked) is none asks = apart (codes "price") (codes "replay") name 0 112 114 refl refl (λ e. omega (arith, e)) is asks.0
+only_price name words (Exercise requests) is none asks = apart (codes "price") (codes "exercise") name 0 112 101 refl refl (λ e. omega (arith, e)) is asks.0
+only_price name words (Migrate clients) is none asks = apart (codes "price") (codes "migrate") name 0 112 109 refl refl (λ e. omega (arith, e)) is asks.0
 
--- words behind this name ask for nothing else
-pub only_by : (name own : List ℕ) (words : List (List ℕ)) (command : Command) → name ≡ own → AsksAfter name words command → AskedBy own words command
-only_by name own words command is asks = subst (λ n. AskedBy n words command) is (by_name name words command asks)
+pub only_worst : (name : List ℕ) (words : List (List ℕ)) (command : Command) → name ≡ codes "worst" → (AsksWorst words command → ⊥) → AsksAfter name words command → ⊥
+only_worst name words Help is none asks = apart (codes "worst") (codes "--help") name 0 119 45 refl refl (λ e. omega (arith, e)) is asks.0
+only_worst name words Version is none asks = apart (codes "worst") (codes "--version") name 0 119 45 refl refl (λ e. omega (arith, e)) is asks.0
+only_worst name words (Check schema) is none asks = apart (codes "worst") (codes "check") name 0 119 99 refl refl (λ e. omega (arith, e)) is asks.0
+only_worst name words (Price asked) is none asks = apart (codes "worst") (codes "price") name 0 119 112 refl refl (λ e. omega (arith, e)) is asks.0
+only_worst name words (Worst asked part) is none asks = none asks.1
+only_worst name words (Forward asked) is none asks = apart (codes "worst") (codes "forward") name 0 119 102 refl refl (λ e. omega (arith, e)) is asks.0
+only_worst name words (Meter asked reply) is none asks = apart (codes "worst") (codes "meter") name 0 119 109 refl refl (λ e. omega (arith, e)) is asks.0
+only_worst name words (Replay asked) is none asks = apart (codes "worst") (codes "replay") name 0 119 114 refl refl (λ e. omega (arith, e)) is asks.0
+only_worst name words (Exercise requests) is none asks = apart (codes "worst") (codes "exercise") name 0 119 101 refl refl (λ e. omega (arith, e)) is asks.0
+only_worst name words (Migrate clients) is none asks = apart (codes "worst") (codes "migrate") name 0 119 109 refl refl (λ e. omega (arith, e)) is asks.0
+
+pub only_forward : (name : List ℕ) (words : List (List ℕ)) (command : Command) → name ≡ codes "forward" → (AsksForward words command → ⊥) → AsksAfter name words command → ⊥
+only_forward name words Help is none asks = apart (codes "forward") (codes "--help") name 0 102 45 refl refl (λ e. omega (arith, e)) is asks.0
+only_forward name words Version is none asks = apart (codes "forward") (codes "--version") name 0 102 45 refl refl (λ e. omega (arith, e)) is asks.0
+only_forward name words (Check schema) is none asks = apart (codes "forward") (codes "check") name 0 102 99 refl refl (λ e. omega (arith, e)) is asks.0
+only_forward name words (Price asked) is none asks = apart (codes "forward") (codes "price") name 0 102 112 refl refl (λ e. omega (arith, e)) is asks.0
+only_forward name words (Worst asked part) is none asks = apart (codes "forward") (codes "worst") name 0 102 119 refl refl (λ e. omega (arith, e)) is asks.0
+only_forward name words (Forward asked) is none asks = none asks.1
+only_forward name words (Meter asked reply) is none asks = apart (codes "forward") (codes "meter") name 0 102 109 refl refl (λ e. omega (arith, e)) is asks.0
+only_forward name words (Replay asked) is none asks = apart (codes "forward") (codes "replay") name 0 102 114 refl refl (λ e. omega (arith, e)) is asks.0
+only_forward name words (Exercise requests) is none asks = apart (codes "forward") (codes "exercise") name 0 102 101 refl refl (λ e. omega (arith, e)) is asks.0
+only_forward name words (Migrate clients) is none asks = apart (codes "forward") (codes "migrate") name 0 102 109 refl refl (λ e. omega (arith, e)) is asks.0
+
+pub only_meter : (name : List ℕ) (words : List (List ℕ)) (command : Command) → name ≡ codes "meter" → (AsksMeter words command → ⊥) → AsksAfter name words command → ⊥
+only_meter name words Help is none asks = apart (codes "meter") (codes "--help") name 0 109 45 refl refl (λ e. omega (arith, e)) is asks.0
+only_meter name words Version is none asks = apart (codes "meter") (codes "--version") name 0 109 45 refl refl (λ e. omega (arith, e)) is asks.0
+only_meter name words (Check schema) is none asks = apart (codes "meter") (codes "check") name 0 109 99 refl refl (λ e. omega (arith, e)) is asks.0
+only_meter name words (Price asked) is none asks = apart (codes "meter") (codes "price") name 0 109 112 refl refl (λ e. omega (arith, e)) is asks.0
+only_meter name words (Worst asked part) is none asks = apart (codes "meter") (codes "worst") name 0 109 119 refl refl (λ e. omega (arith, e)) is asks.0
+only_meter name words (Forward asked) is none asks = apart (codes "meter") (codes "forward") name 0 109 102 refl refl (λ e. omega (arith, e)) is asks.0
+only_meter name words (Meter asked reply) is none asks = none asks.1
+only_meter name words (Replay asked) is none asks = apart (codes "meter") (codes "replay") name 0 109 114 refl refl (λ e. omega (arith, e)) is asks.0
+only_meter name words (Exercise requests) is none asks = apart (codes "meter") (codes "exercise") name 0 109 101 refl refl (λ e. omega (arith, e)) is asks.0
+only_meter name words (Migrate clients) is none asks = apart (codes "meter") (codes "migrate") name 1 101 105 refl refl (λ e. omega (arith, e)) is asks.0
+
+pub only_replay : (name : List ℕ) (words : List (List ℕ)) (command : Command) → name ≡ codes "replay" → (AsksReplay words command → ⊥) → AsksAfter name words command → ⊥
+only_replay name words Help is none asks = apart (codes "replay") (codes "--help") name 0 114 45 refl refl (λ e. omega (arith, e)) is asks.0
+only_replay name words Version is none asks = apart (codes "replay") (codes "--version") name 0 114 45 refl refl (λ e. omega (arith, e)) is asks.0
+only_replay name words (Check schema) is none asks = apart (codes "replay") (codes "check") name 0 114 99 refl refl (λ e. omega (arith, e)) is asks.0
+only_replay name words (Price asked) is none asks = apart (codes "replay") (codes "price") name 0 114 112 refl refl (λ e. omega (arith, e)) is asks.0
+only_replay name words (Worst asked part) is none asks = apart (codes "replay") (codes "worst") name 0 114 119 refl refl (λ e. omega (arith, e)) is asks.0
+only_replay name words (Forward asked) is none asks = apart (codes "replay") (codes "forward") name 0 114 102 refl refl (λ e. omega (arith, e)) is asks.0
+only_replay name words (Meter asked reply) is none asks = apart (codes "replay") (codes "meter") name 0 114 109 refl refl (λ e. omega (arith, e)) is asks.0
+only_replay name words (Replay asked) is none asks = none asks.1
+only_replay name words (Exercise requests) is none asks = apart (codes "replay") (codes "exercise") name 0 114 101 refl refl (λ e. omega (arith, e)) is asks.0
+only_replay name words (Migrate clients) is none asks = apart (codes "replay") (codes "migrate") name 0 114 109 refl refl (λ e. omega (arith, e)) is asks.0
+
+pub only_exercise : (name : List ℕ) (words : List (List ℕ)) (command : Command) → name ≡ codes "exercise" → (AsksExercise words command → ⊥) → AsksAfter name words command → ⊥
+only_exercise name words Help is none asks = apart (codes "exercise") (codes "--help") name 0 101 45 refl refl (λ e. omega (arith, e)) is asks.0
+only_exercise name words Version is none asks = apart (codes "exercise") (codes "--version") name 0 101 45 refl refl (λ e. omega (arith, e)) is asks.0
+only_exercise name words (Check schema) is none asks = apart (codes "exercise") (codes "check") name 0 101 99 refl refl (λ e. omega (arith, e)) is asks.0
+only_exercise name words (Price asked) is none asks = apart (codes "exercise") (codes "price") name 0 101 112 refl refl (λ e. omega (arith, e)) is asks.0
+only_exercise name words (Worst asked part) is none asks = apart (codes "exercise") (codes "worst") name 0 101 119 refl refl (λ e. omega (arith, e)) is asks.0
+only_exercise name words (Forward asked) is none asks = apart (codes "exercise") (codes "forward") name 0 101 102 refl refl (λ e. omega (arith, e)) is asks.0
+only_exercise name words (Meter asked reply) is none asks = apart (codes "exercise") (codes "meter") name 0 101 109 refl refl (λ e. omega (arith, e)) is asks.0
+only_exercise name words (Replay asked) is none asks = apart (codes "exercise") (codes "replay") name 0 101 114 refl refl (λ e. omega (arith, e)) is asks.0
+only_exercise name words (Exercise requests) is none asks = none asks.1
+only_exercise name words (Migrate clients) is none asks = apart (codes "exercise") (codes "migrate") name 0 101 109 refl refl (λ e. omega (arith, e)) is asks.0
+
+pub only_migrate : (name : List ℕ) (words : List (List ℕ)) (command : Command) → name ≡ codes "migrate" → (AsksMigrate words command → ⊥) → AsksAfter name words command → ⊥
+only_migrate name words Help is none asks = apart (codes "migrate") (codes "--help") name 0 109 45 refl refl (λ e. omega (arith, e)) is asks.0
+only_migrate name words Version is none asks = apart (codes "migrate") (codes "--version") name 0 109 45 refl refl (λ e. omega (arith, e)) is asks.0
+only_migrate name words (Check schema) is none asks = apart (codes "migrate") (codes "check") name 0 109 99 refl refl (λ e. omega (arith, e)) is asks.0
+only_migrate name words (Price asked) is none asks = apart (codes "migrate") (codes "price") name 0 109 112 refl refl (λ e. omega (arith, e)) is asks.0
+only_migrate name words (Worst asked part) is none asks = apart (codes "migrate") (codes "worst") name 0 109 119 refl refl (λ e. omega (arith, e)) is asks.0
+only_migrate name words (Forward asked) is none asks = apart (codes "migrate") (codes "forward") name 0 109 102 refl refl (λ e. omega (arith, e)) is asks.0
+only_migrate name words (Meter asked reply) is none asks = apart (codes "migrate") (codes "meter") name 1 105 101 refl refl (λ e. omega (arith, e)) is asks.0
+only_migrate name words (Replay asked) is none asks = apart (codes "migrate") (codes "replay") name 0 109 114 refl refl (λ e. omega (arith, e)) is asks.0
+only_migrate name words (Exercise requests) is none asks = apart (codes "migrate") (codes "exercise") name 0 109 101 refl refl (λ e. omega (arith, e)) is asks.0
+only_migrate name words (Migrate clients) is none asks = none asks.1

@@ -44,6 +44,14 @@ forward_app = with_options (with_files (top (codes "forward")))
 abbrev pub meter_app : App
 meter_app = with_options (with_rule (with_files (top (codes "meter"))) (place (codes "reply")))
 
+-- `replay SCHEMA CLIENTS SCRIPT`
+abbrev pub replay_app : App
+replay_app = with_rule (with_rule (with_rule (with_rule (top (codes "replay")) (place (codes "schema"))) (place (codes "clients"))) (place (codes "script"))) (option (codes "unsized"))
+
+-- `exercise N`
+abbrev pub exercise_app : App
+exercise_app = with_rule (top (codes "exercise")) (place (codes "requests"))
+
 -- `migrate CLIENTS`
 abbrev pub migrate_app : App
 migrate_app = with_rule (top (codes "migrate")) (place (codes "clients"))

@@ -1,16 +1,17 @@
 -- The commands, and the words that ask for them.
-use Rattle.std.specs.Prelude.{◌≡◌, ◌≤◌, ℕ, List, [], ◌∷◌, Option, None, Some, codes}
+use Rattle.std.specs.Prelude.{◌≡◌, ◌≤◌, ◌<◌, ℕ, List, [], ◌∷◌, Option, None, Some, codes}
 use Rattle.std.specs.Str.Parse.{IsNumeral, digits_value}
 use Rattle.clap.specs.Walk.{Row, first_of}
 use Rattle.clap.specs.Simple.{App, matches_of}
 use Rattle.clap.specs.Faults.{fault_of}
-use Rattle.command_words.specs.declared.command.TheConstants.{UNDECLARED, GREATEST_UNSIZED}
+use Rattle.command_words.specs.declared.command.TheConstants.{UNDECLARED, GREATEST_UNSIZED, GREATEST_EXERCISE}
 use Rattle.command_words.specs.declared.command.Command.{Command}
-use Rattle.command_words.specs.declared.command.Command.TheVariants.{Help, Version, Check, Price, Worst, Forward, Meter, Migrate}
+use Rattle.command_words.specs.declared.command.Command.TheVariants.{Help, Version, Check, Price, Worst, Forward, Meter, Replay, Exercise, Migrate}
 use Rattle.command_words.specs.declared.command.Asked.{Asked}
+use Rattle.command_words.specs.declared.command.AskedReplay.{AskedReplay}
 use Rattle.static_cost.specs.declared.part.Part.{Part}
 use Rattle.static_cost.specs.declared.part.Part.TheVariants.{Types, Fields}
-use Rattle.command_words.specs.Apps.{check_app, price_app, worst_app, forward_app, meter_app, migrate_app}
+use Rattle.command_words.specs.Apps.{check_app, price_app, worst_app, forward_app, meter_app, replay_app, exercise_app, migrate_app}
 
 -- The text is this number, in one decimal digit or more, and it is no greater than that.
 abbrev pub IsNumber : ℕ → List ℕ → ℕ → Type 0
@@ -20,6 +21,11 @@ IsNumber most text n = IsNumeral 10 text × (n ≡ digits_value 10 text) × (n �
 abbrev pub IsUndeclared : Option (List ℕ) → ℕ → Type 0
 IsUndeclared None n = n ≡ UNDECLARED
 IsUndeclared (Some text) n = IsNumber GREATEST_UNSIZED text n
+
+-- the number of requests of an exercise
+abbrev pub IsRequests : Option (List ℕ) → ℕ → Type 0
+IsRequests None n = ⊥
+IsRequests (Some text) n = IsNumber GREATEST_EXERCISE text n × (0 < n)
 
 -- the words at places and of options, by their names
 abbrev pub Rows : Type 0
@@ -31,6 +37,13 @@ pub record GivesAsked (rows : Rows) (asked : Asked) : Type 0 where
   pub document : first_of (codes "document") rows ≡ Some asked.document
   pub variables : first_of (codes "variables") rows ≡ asked.variables
   pub operation : first_of (codes "operation") rows ≡ asked.operation
+  pub undeclared : IsUndeclared (first_of (codes "unsized") rows) asked.undeclared
+
+-- They give this replay.
+pub record GivesAskedReplay (rows : Rows) (asked : AskedReplay) : Type 0 where
+  pub schema : first_of (codes "schema") rows ≡ Some asked.schema
+  pub clients : first_of (codes "clients") rows ≡ Some asked.clients
+  pub script : first_of (codes "script") rows ≡ Some asked.script
   pub undeclared : IsUndeclared (first_of (codes "unsized") rows) asked.undeclared
 
 abbrev pub part_word : Part → List ℕ
@@ -71,6 +84,14 @@ abbrev pub GivesMeter : Rows → Command → Type 0
 GivesMeter rows (Meter asked reply) = GivesAsked rows asked × GivesReply rows reply
 GivesMeter rows other = ⊥
 
+abbrev pub GivesReplay : Rows → Command → Type 0
+GivesReplay rows (Replay asked) = GivesAskedReplay rows asked
+GivesReplay rows other = ⊥
+
+abbrev pub GivesExercise : Rows → Command → Type 0
+GivesExercise rows (Exercise requests) = IsRequests (first_of (codes "requests") rows) requests
+GivesExercise rows other = ⊥
+
 abbrev pub GivesMigrate : Rows → Command → Type 0
 GivesMigrate rows (Migrate clients) = first_of (codes "clients") rows ≡ Some clients
 GivesMigrate rows other = ⊥
@@ -90,6 +111,12 @@ AsksForward words command = Reads forward_app (λ rows. GivesForward rows comman
 abbrev pub AsksMeter : List (List ℕ) → Command → Type 0
 AsksMeter words command = Reads meter_app (λ rows. GivesMeter rows command) words
 
+abbrev pub AsksReplay : List (List ℕ) → Command → Type 0
+AsksReplay words command = Reads replay_app (λ rows. GivesReplay rows command) words
+
+abbrev pub AsksExercise : List (List ℕ) → Command → Type 0
+AsksExercise words command = Reads exercise_app (λ rows. GivesExercise rows command) words
+
 abbrev pub AsksMigrate : List (List ℕ) → Command → Type 0
 AsksMigrate words command = Reads migrate_app (λ rows. GivesMigrate rows command) words
 
@@ -102,6 +129,8 @@ AsksAfter name words (Price asked) = (name ≡ codes "price") × AsksPrice words
 AsksAfter name words (Worst asked part) = (name ≡ codes "worst") × AsksWorst words (Worst asked part)
 AsksAfter name words (Forward asked) = (name ≡ codes "forward") × AsksForward words (Forward asked)
 AsksAfter name words (Meter asked reply) = (name ≡ codes "meter") × AsksMeter words (Meter asked reply)
+AsksAfter name words (Replay asked) = (name ≡ codes "replay") × AsksReplay words (Replay asked)
+AsksAfter name words (Exercise requests) = (name ≡ codes "exercise") × AsksExercise words (Exercise requests)
 AsksAfter name words (Migrate clients) = (name ≡ codes "migrate") × AsksMigrate words (Migrate clients)
 
 -- The words ask for the command.

@@ -3,7 +3,7 @@
 ghost use Rattle.std.specs.Prelude.{◌≡◌, IfOk, false, codes};
 ghost use Rattle.clap.specs.Simple.{app_of, with_rule};
 ghost use Rattle.clap.specs.Walk.{rule_of};
-ghost use Rattle.command_words.specs.Apps.{with_files, with_options, check_app, price_app, worst_app, forward_app, meter_app, migrate_app};
+ghost use Rattle.command_words.specs.Apps.{with_files, with_options, check_app, price_app, worst_app, forward_app, meter_app, replay_app, exercise_app, migrate_app};
 
 use clap::{Arg, ArgAction, Command};
 use std::alloc::{AllocError, Global};
@@ -118,6 +118,23 @@ pub fn meter_command<'a>(alloc: Global) -> Result<Command<'a>, AllocError>
     let command = with_files(alloc, top(alloc, "meter"))?;
     let command = with_place(alloc, command, "reply")?;
     with_options(alloc, command)
+}
+
+/// `replay SCHEMA CLIENTS SCRIPT`
+pub fn replay_command<'a>(alloc: Global) -> Result<Command<'a>, AllocError>
+    ensures { IfOk result (λ c. app_of c ≡ replay_app) }
+{
+    let command = with_place(alloc, top(alloc, "replay"), "schema")?;
+    let command = with_place(alloc, command, "clients")?;
+    let command = with_place(alloc, command, "script")?;
+    with_option(alloc, command, "unsized")
+}
+
+/// `exercise N`
+pub fn exercise_command<'a>(alloc: Global) -> Result<Command<'a>, AllocError>
+    ensures { IfOk result (λ c. app_of c ≡ exercise_app) }
+{
+    with_place(alloc, top(alloc, "exercise"), "requests")
 }
 
 /// `migrate CLIENTS`

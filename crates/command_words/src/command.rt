@@ -9,6 +9,8 @@ use thiserror::Error;
 pub const UNDECLARED: u32 = 10;
 /// The greatest size that may be given for such lists.
 pub const GREATEST_UNSIZED: u32 = 1_000_000;
+/// How many requests an exercise may have.
+pub const GREATEST_EXERCISE: u32 = 5_000;
 
 /// An operation, by the names of its files and by how it is asked for.
 #[derive(Drop)]
@@ -19,6 +21,17 @@ pub struct Asked {
     pub variables: Option<Text>,
     /// The name of the operation in its document.
     pub operation: Option<Text>,
+    /// The size of lists that declare none.
+    pub undeclared: u32,
+}
+
+/// A replay, by the names of its files.
+#[derive(Drop)]
+pub struct AskedReplay {
+    pub schema: Text,
+    pub clients: Text,
+    /// The file of the requests, and of what becomes of them.
+    pub script: Text,
     /// The size of lists that declare none.
     pub undeclared: u32,
 }
@@ -40,6 +53,10 @@ pub enum Command {
     Forward { asked: Asked },
     /// Says what a reply to an operation cost, and what its client is answered.
     Meter { asked: Asked, reply: Text },
+    /// Replays a script of requests, and says what becomes of each and of the clients' accounts.
+    Replay { asked: AskedReplay },
+    /// Replays a script of its own with so many requests, and sums up what becomes of them.
+    Exercise { requests: u32 },
     /// Writes a client file in the newest version of its format.
     Migrate { clients: Text },
 }

@@ -7,5 +7,7 @@ mod number;
 mod reading;
 mod words;
 
-pub use command::{Asked, Command, GREATEST_UNSIZED, UNDECLARED, WordsFault};
+pub use command::{
+    Asked, AskedReplay, Command, GREATEST_EXERCISE, GREATEST_UNSIZED, UNDECLARED, WordsFault,
+};
 pub use reading::command_of;

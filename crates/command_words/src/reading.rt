@@ -5,7 +5,7 @@ ghost use Rattle.command_words.specs.declared.command.Command.{Command as Comman
 ghost use Rattle.command_words.specs.Words.{AsksAfter, Asks, IsNoCommand};
 
 use crate::command::{Command, WordsFault};
-use crate::words::commands::{check, forward, meter, migrate, price, worst};
+use crate::words::commands::{check, exercise, forward, meter, migrate, price, replay, worst};
 use gql_base::Text;
 use std::alloc::{AllocError, Global};
 
@@ -31,6 +31,8 @@ fn named_command<'a>(alloc: Global, name: &str, words: &'a [&'a str]) -> Result<
         "worst" => worst(alloc, words),
         "forward" => forward(alloc, words),
         "meter" => meter(alloc, words),
+        "replay" => replay(alloc, words),
+        "exercise" => exercise(alloc, words),
         "migrate" => migrate(alloc, words),
         "--help" if words.is_empty() => Ok(Command::Help),
         "--version" if words.is_empty() => Ok(Command::Version),

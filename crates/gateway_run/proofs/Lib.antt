@@ -7,3 +7,6 @@ mod Measured
 mod OnePrice
 mod OneMeasure
 mod Migrations
+mod Replays
+mod ReplayRefusals
+mod OneReplay

@@ -1,15 +1,20 @@
 -- Client files that are written, and their outputs.
-use Rattle.std.proofs.Common.{◌≡◌, ◌∙◌, sym, ap, ap₂, ℕ, ◌-◌, List, [], ◌∷◌, ◌++◌, length, take, map, append_assoc, arith}
+use Rattle.std.proofs.Common.{◌≡◌, ◌⊎◌, inl, inr, ◌∙◌, sym, ap, ap₂, subst, ℕ, ◌-◌, List, [], ◌∷◌, ◌++◌, length, take, map, append_assoc, arith}
 use Rattle.std.specs.List.{flat_map}
 use Rattle.std.proofs.lemmas.List.{append-nil, append_cancel_right, length-append, take_at}
 use Rattle.client_files.specs.declared.client.Client.{Client}
 use Rattle.client_files.specs.declared.heading.Version.TheVariants.{Two}
-use Rattle.client_files.specs.Lines.{ended}
+use Rattle.client_files.specs.declared.fault.ClientsFault.{ClientsFault}
+use Rattle.client_files.specs.Lines.{ended, lines_of}
+use Rattle.client_files.specs.Faults.{IsFirstFault}
 use Rattle.client_files.specs.Headings.{version_line, window_line}
-use Rattle.client_files.specs.ClientFiles.{IsClientFile}
+use Rattle.client_files.specs.ClientFiles.{IsClientFile, MayBeServed}
 use Rattle.client_files.specs.Written.{client_line, client_file, Migrates}
 use Rattle.gateway_run.specs.Texts.{line}
-use Rattle.gateway_run.specs.Migrate.{IsLine}
+use Rattle.gateway_run.specs.declared.outcome.Outcome.{Outcome}
+use Rattle.gateway_run.specs.declared.outcome.Outcome.TheVariants.{Memory}
+use Rattle.gateway_run.specs.Outcomes.{IsDone}
+use Rattle.gateway_run.specs.Migrate.{IsLine, MigrateOf}
 
 -- lines that are ended are a text that ends with a line end
 ends : (first : List ℕ) (lines : List (List ℕ)) → IsLine (flat_map ended (first ∷ lines))
@@ -41,3 +46,29 @@ one_output text output other windows lists a b =
     let window = windows a.seconds b.seconds a.clients b.clients a.read b.read in
     let clients = lists a.seconds b.seconds a.clients b.clients a.read b.read in
     append_cancel_right output other (10 ∷ []) (a.written ∙ (ap₂ client_file window clients ∙ sym b.written))
+
+-- ---- a file that is migrated again
+
+-- how texts are read, and what is read of the files that are written
+pub record ReadsWhatIsWritten : Type 0 where
+  pub one_window : (text : List ℕ) (one other : ℕ) (clients others : List Client) → IsClientFile text one clients → IsClientFile text other others → one ≡ other
+  pub same_clients : (text : List ℕ) (one other : ℕ) (clients others : List Client) → IsClientFile text one clients → IsClientFile text other others → clients ≡ others
+  pub not_both : (text : List ℕ) (seconds : ℕ) (clients : List Client) (fault : ClientsFault) → IsClientFile text seconds clients → IsFirstFault (lines_of text) fault → ⊥
+  pub served : (text : List ℕ) (seconds : ℕ) (clients : List Client) → IsClientFile text seconds clients → MayBeServed seconds clients
+  pub file_read : (seconds : ℕ) (clients : List Client) → MayBeServed seconds clients → IsClientFile (client_file seconds clients) seconds clients
+
+pub same_file : ReadsWhatIsWritten → (text file : List ℕ) → Migrates text file → Migrates file file
+same_file reads text file m = record {
+  seconds = m.seconds;
+  clients = m.clients;
+  read = subst (λ t. IsClientFile t m.seconds m.clients) (sym m.written) (reads.file_read m.seconds m.clients (reads.served text m.seconds m.clients m.read));
+  written = m.written;
+}
+
+pub same_output : ReadsWhatIsWritten → (text output : List ℕ) (outcome : Outcome) → Migrates text (line output) → MigrateOf (line output) outcome → (outcome ≡ Memory) ⊎ IsDone output outcome
+same_output reads text output outcome m (inl memory) = inl memory
+same_output reads text output outcome m (inr (inl again)) =
+    inr (subst (λ told. IsDone told outcome) (one_output (line output) again.0 output (reads.one_window (line output)) (reads.same_clients (line output)) again.1 (same_file reads text (line output) m)) again.2)
+same_output reads text output outcome m (inr (inr refused)) =
+    let file = same_file reads text (line output) m in
+    absurd (reads.not_both (line output) file.seconds file.clients refused.0 file.read refused.1)

@@ -84,7 +84,7 @@ one_plan reading one_tree asked texts plan other (a, held, (table, bound, accept
 -- ---- what is refused
 
 -- a schema with its weights passes every test, whatever the size of lists that declare none
-weighed : (bytes : List ℕ) (undeclared : ℕ) (schema : Schema) (weights : Weights) → HoldsWith bytes undeclared schema weights → HoldsWeighed bytes schema
+pub weighed : (bytes : List ℕ) (undeclared : ℕ) (schema : Schema) (weights : Weights) → HoldsWith bytes undeclared schema weights → HoldsWeighed bytes schema
 weighed bytes undeclared schema weights held =
     (held.0, (record weights { undeclared = UNDECLARED }, (held.1.0, ap (λ (w : WeightsData). record w { undeclared = UNDECLARED }) held.1.1)))
 

@@ -1,14 +1,15 @@
 -- What a run with a status says.
 use Rattle.std.proofs.Common.{◌≡◌, ◌≤◌, ◌⊎◌, inl, inr, refl, sym, ap, subst, ℕ, List, Option, None, Some, Vec, arith}
-use Rattle.gateway_run.specs.declared.limits.TheConstants.{SCHEMA_LIMIT, DOCUMENT_LIMIT, VARIABLES_LIMIT, CLIENTS_LIMIT}
+use Rattle.gateway_run.specs.declared.limits.TheConstants.{SCHEMA_LIMIT, DOCUMENT_LIMIT, VARIABLES_LIMIT, CLIENTS_LIMIT, SCRIPT_LIMIT}
 use Rattle.std.specs.declared.alloc.Global.{Global}
 use Rattle.outside.specs.Faults.{Rose}
 use Rattle.gateway_run.specs.Texts.{line, too_large_text, meter_text}
 use Rattle.response_meter.specs.declared.fault.MeterFault.{MeterFault}
 use Rattle.response_meter.specs.declared.fault.MeterFault.TheVariants.{NotResponse, SizeBroken, Memory as MeterMemory}
 use Rattle.command_words.specs.declared.command.Command.{Command}
-use Rattle.command_words.specs.declared.command.Command.TheVariants.{Help, Version, Check, Price, Worst, Forward, Meter, Migrate}
+use Rattle.command_words.specs.declared.command.Command.TheVariants.{Help, Version, Check, Price, Worst, Forward, Meter, Replay, Exercise, Migrate}
 use Rattle.command_words.specs.declared.command.Asked.{Asked}
+use Rattle.command_words.specs.declared.command.AskedReplay.{AskedReplay}
 use Rattle.static_cost.specs.declared.part.Part.{Part}
 use Rattle.plan_table.specs.declared.table.Plan.{Plan}
 use Rattle.gateway_run.specs.declared.outcome.Outcome.{Outcome}
@@ -26,8 +27,11 @@ use Rattle.acceptance.specs.Requests.{plan_tree}
 use Rattle.gateway_run.specs.Worst.{WorstOfTree, WorstOf}
 use Rattle.gateway_run.specs.Forward.{ForwardOf}
 use Rattle.gateway_run.specs.Meter.{status_of, IsReplyFault, HasNoReply, HaveNoMetering, MeterOfPlan, MeterOf}
+use Rattle.gateway_run.specs.declared.replay_texts.ReplayTexts.{ReplayTexts}
+use Rattle.gateway_run.specs.Replay.{HaveNoReplay, ReplayOf}
+use Rattle.gateway_run.specs.Exercise.{ExerciseCameTo}
 use Rattle.gateway_run.specs.Migrate.{MigrateOf}
-use Rattle.gateway_run.specs.Program.{CommandCameTo, IsCommandOf, ComeTo, IsAskedFile, IsFileOf, NamesFile, OneFailed, PrintsOutput, PrintsRefusal, PrintsFault, IsSilent}
+use Rattle.gateway_run.specs.Program.{CommandCameTo, IsCommandOf, ComeTo, IsAskedFile, IsReplayFile, IsFileOf, NamesFile, OneFailed, PrintsOutput, PrintsRefusal, PrintsFault, IsSilent}
 
 -- the statuses of faulty replies
 abbrev IsReplyStatus : ℕ → Type 0
@@ -94,6 +98,11 @@ module _ (IsName : List ℕ → Type 0) (files : FilesTold) where
   no_reply_answer name outcome is (inl stopped) = stopped_answer name outcome is stopped
   no_reply_answer name outcome is (inr large) = refused_answer _ outcome large.3
 
+  no_replay_answer : (asked : AskedReplay) (outcome : Outcome) → ((name : List ℕ) → IsReplayFile asked name → IsName name) → HaveNoReplay asked files outcome → IsAnswer IsName files outcome
+  no_replay_answer asked outcome is (inl (inl none)) = no_text_answer SCHEMA_LIMIT asked.schema outcome (is asked.schema (inl refl)) none
+  no_replay_answer asked outcome is (inl (inr none)) = no_text_answer CLIENTS_LIMIT asked.clients outcome (is asked.clients (inr (inl refl))) none.1
+  no_replay_answer asked outcome is (inr none) = no_text_answer SCRIPT_LIMIT asked.script outcome (is asked.script (inr (inr refl))) none.1
+
   -- ---- what they hold
 
   check_answer : (schema bytes : List ℕ) (outcome : Outcome) → CheckOf schema bytes outcome → IsAnswer IsName files outcome
@@ -149,6 +158,16 @@ module _ (IsName : List ℕ → Type 0) (files : FilesTold) where
   migrate_answer text outcome (inr (inl done)) = done_answer _ outcome done.2
   migrate_answer text outcome (inr (inr refused)) = refused_answer _ outcome refused.2
 
+  replay_answer : (name : List ℕ) (texts : ReplayTexts) (undeclared : ℕ) (outcome : Outcome) → ReplayOf name texts undeclared outcome → IsAnswer IsName files outcome
+  replay_answer name texts undeclared outcome (inl memory) = memory_answer outcome memory
+  replay_answer name texts undeclared outcome (inr (inl done)) = done_answer _ outcome done.2.2.2
+  replay_answer name texts undeclared outcome (inr (inr refused)) = refused_answer _ outcome refused.2
+
+  exercise_answer : (requests : ℕ) (outcome : Outcome) → ExerciseCameTo requests outcome → IsAnswer IsName files outcome
+  exercise_answer requests outcome (inl memory) = memory_answer outcome memory
+  exercise_answer requests outcome (inr (inl done)) = done_answer _ outcome done.2.2
+  exercise_answer requests outcome (inr (inr refused)) = refused_answer _ outcome refused.2
+
 -- ---- commands
 
 asked_answer : (asked : Asked) (files : FilesTold) (outcome : Outcome) → HaveNoTexts asked files outcome → IsAnswer (IsAskedFile asked) files outcome
@@ -173,6 +192,9 @@ came (Forward asked) files outcome (inl none) = asked_answer asked files outcome
 came (Forward asked) files outcome (inr read) = forward_answer (IsAskedFile asked) files asked read.0 outcome read.2
 came (Meter asked reply) files outcome (inl none) = metering_answer asked reply files outcome none
 came (Meter asked reply) files outcome (inr read) = meter_answer (IsFileOf (Meter asked reply)) files asked read.0 read.1 outcome read.4
+came (Replay asked) files outcome (inl none) = no_replay_answer (IsReplayFile asked) files asked outcome (λ name is. is) none
+came (Replay asked) files outcome (inr read) = replay_answer (IsReplayFile asked) files asked.schema read.0 asked.undeclared outcome read.2
+came (Exercise requests) files outcome came_to = exercise_answer (IsFileOf (Exercise requests)) files requests outcome came_to
 came (Migrate clients) files outcome (inl none) = no_text_answer (IsFileOf (Migrate clients)) files CLIENTS_LIMIT clients outcome refl none
 came (Migrate clients) files outcome (inr read) = migrate_answer (IsFileOf (Migrate clients)) files read.0 outcome read.2
 

@@ -9,4 +9,6 @@ pub mod Worst
 pub mod Forward
 pub mod Meter
 pub mod Migrate
+pub mod Replay
+pub mod Exercise
 pub mod Program

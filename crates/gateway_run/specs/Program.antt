@@ -2,8 +2,9 @@
 use Rattle.std.specs.Prelude.{◌≡◌, ◌⊎◌, ℕ, List, Some, Vec}
 use Rattle.std.specs.declared.alloc.Global.{Global}
 use Rattle.command_words.specs.declared.command.Command.{Command}
-use Rattle.command_words.specs.declared.command.Command.TheVariants.{Help, Version, Check, Price, Worst, Forward, Meter, Migrate}
+use Rattle.command_words.specs.declared.command.Command.TheVariants.{Help, Version, Check, Price, Worst, Forward, Meter, Replay, Exercise, Migrate}
 use Rattle.command_words.specs.declared.command.Asked.{Asked}
+use Rattle.command_words.specs.declared.command.AskedReplay.{AskedReplay}
 use Rattle.command_words.specs.declared.command.WordsFault.{WordsFault}
 use Rattle.command_words.specs.declared.command.WordsFault.TheVariants.{Usage as NoCommand, Memory as NoMemory}
 use Rattle.gateway_run.specs.declared.outcome.Outcome.{Outcome}
@@ -18,6 +19,8 @@ use Rattle.gateway_run.specs.Price.{PriceCameTo}
 use Rattle.gateway_run.specs.Worst.{WorstCameTo}
 use Rattle.gateway_run.specs.Forward.{ForwardCameTo}
 use Rattle.gateway_run.specs.Meter.{MeterCameTo}
+use Rattle.gateway_run.specs.Replay.{ReplayCameTo}
+use Rattle.gateway_run.specs.Exercise.{ExerciseCameTo}
 use Rattle.gateway_run.specs.Migrate.{MigrateCameTo}
 
 -- What a command came to.
@@ -29,6 +32,8 @@ CommandCameTo (Price asked) files outcome = PriceCameTo asked files outcome
 CommandCameTo (Worst asked part) files outcome = WorstCameTo asked part files outcome
 CommandCameTo (Forward asked) files outcome = ForwardCameTo asked files outcome
 CommandCameTo (Meter asked reply) files outcome = MeterCameTo asked reply files outcome
+CommandCameTo (Replay asked) files outcome = ReplayCameTo asked files outcome
+CommandCameTo (Exercise requests) files outcome = ExerciseCameTo requests outcome
 CommandCameTo (Migrate clients) files outcome = MigrateCameTo clients files outcome
 
 -- The outcome of words that were not read into a command.
@@ -54,6 +59,10 @@ Runs words status files out err = (outcome : Outcome) × ComeTo words files outc
 abbrev pub IsAskedFile : Asked → List ℕ → Type 0
 IsAskedFile asked name = (name ≡ asked.schema) ⊎ (name ≡ asked.document) ⊎ (asked.variables ≡ Some name)
 
+-- The names of a replay's files.
+abbrev pub IsReplayFile : AskedReplay → List ℕ → Type 0
+IsReplayFile asked name = (name ≡ asked.schema) ⊎ (name ≡ asked.clients) ⊎ (name ≡ asked.script)
+
 -- The names of the command's files.
 abbrev pub IsFileOf : Command → List ℕ → Type 0
 IsFileOf Help name = ⊥
@@ -63,6 +72,8 @@ IsFileOf (Price asked) name = IsAskedFile asked name
 IsFileOf (Worst asked part) name = IsAskedFile asked name
 IsFileOf (Forward asked) name = IsAskedFile asked name
 IsFileOf (Meter asked reply) name = IsAskedFile asked name ⊎ (name ≡ reply)
+IsFileOf (Replay asked) name = IsReplayFile asked name
+IsFileOf (Exercise requests) name = ⊥
 IsFileOf (Migrate clients) name = name ≡ clients
 
 -- A file of the command that the words ask for was not read; just the line that names it was written, or the error stream failed.

@@ -35,10 +35,10 @@ pub enum SchemaRefusal {
     #[error("the text is no schema text of GraphQL: {0}")]
     NoSchemaText(SchemaTextFault),
     /// The schema doesn't pass a test. The fault is not want of memory.
-    #[error("the schema doesn't pass a test: {0}")]
+    #[error("the schema doesn't pass its tests: {0}")]
     Fails(SchemaFault),
     /// The cost directives of the schema don't pass a test. The fault is not want of memory.
-    #[error("the cost directives of the schema don't pass a test: {0}")]
+    #[error("the cost directives of the schema don't pass their tests: {0}")]
     Misuses(DirectiveFault),
 }
 

@@ -22,6 +22,10 @@ usage: tellcrock forward SCHEMA DOCUMENT [--variables FILE] [--operation NAME] [
   prints the request that is sent on for an operation
 usage: tellcrock meter SCHEMA DOCUMENT REPLY [--variables FILE] [--operation NAME] [--unsized N]
   prints what a reply cost, and the answer for its client
+usage: tellcrock replay SCHEMA CLIENTS SCRIPT [--unsized N]
+  prints what becomes of each request of a script, and of the clients' accounts
+usage: tellcrock exercise N
+  prints a summary of a replay of N requests of one client
 usage: tellcrock migrate CLIENTS
   prints a client file in the newest version of its format
 usage: tellcrock --help

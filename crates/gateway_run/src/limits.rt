@@ -10,3 +10,5 @@ pub const VARIABLES_LIMIT: usize = 4_194_304;
 pub const CLIENTS_LIMIT: usize = 262_144;
 /// How many bytes a reply file may have.
 pub const REPLY_LIMIT: usize = 4_194_304;
+/// How many bytes a script may have.
+pub const SCRIPT_LIMIT: usize = 4_194_304;

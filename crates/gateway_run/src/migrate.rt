@@ -14,8 +14,8 @@ use gql_base::Text;
 use outside::Files;
 use std::alloc::Global;
 
-// The outcome of a text that is no client file.
-fn refused_clients(alloc: Global, fault: ClientsFault) -> Outcome
+/// The outcome of a text that is no client file.
+pub fn refused_clients(alloc: Global, fault: ClientsFault) -> Outcome
     ensures { IsRefusedAs (fault_text fault) result }
 {
     match fault_text(alloc, fault) {
@@ -24,8 +24,8 @@ fn refused_clients(alloc: Global, fault: ClientsFault) -> Outcome
     }
 }
 
-// A text without the line end that it ends with.
-fn unended(text: Text) -> Vec<u8>
+/// A text without the line end that it ends with.
+pub fn unended(text: Text) -> Vec<u8>
     requires { IsLine text }
     ensures { line result.items ≡ text }
 {

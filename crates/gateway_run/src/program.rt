@@ -5,17 +5,20 @@ ghost use Rattle.gateway_run.specs.Outcomes.{files_told, stream_told, IsDone, En
 ghost use Rattle.gateway_run.specs.Program.{no_command, CommandCameTo, ComeTo, Runs};
 
 use crate::check::check;
+use crate::exercise::exercise;
 use crate::finish::{USAGE_TEXT, VERSION_TEXT, finish};
 use crate::forward::forward;
 use crate::meter::meter;
 use crate::migrate::migrate;
 use crate::outcome::Outcome;
 use crate::price::price;
+use crate::replay::replay;
 use crate::worst::worst;
 use command_words::{Command, WordsFault, command_of};
 use gql_base::Text;
 use outside::{Files, Sink};
 use std::alloc::Global;
+use std::sync::Wait;
 
 // The outcome of a command with this output.
 fn done(alloc: Global, output: &[u8]) -> Outcome
@@ -28,7 +31,12 @@ fn done(alloc: Global, output: &[u8]) -> Outcome
 }
 
 // Does a command, and gives what it came to.
-fn outcome_of<F: Files>(alloc: Global, command: Command, files: &mut F) -> Outcome
+fn outcome_of<Rt: Wait, F: Files>(
+    alloc: Global,
+    rt: &Rt,
+    command: Command,
+    files: &mut F,
+) -> Outcome
     ensures { CommandCameTo command (files_told (F.content files.old) (F.faults files.old) (F.faults files.new)) result }
 {
     match command {
@@ -39,6 +47,8 @@ fn outcome_of<F: Files>(alloc: Global, command: Command, files: &mut F) -> Outco
         Command::Worst { asked, part } => worst(alloc, &asked, part, files),
         Command::Forward { asked } => forward(alloc, &asked, files),
         Command::Meter { asked, reply } => meter(alloc, &asked, &reply, files),
+        Command::Replay { asked } => replay(alloc, rt, &asked, files),
+        Command::Exercise { requests } => exercise(alloc, rt, requests),
         Command::Migrate { clients } => migrate(alloc, &clients, files),
     }
 }
@@ -54,17 +64,23 @@ fn no_outcome(fault: WordsFault) -> Outcome
 }
 
 // Does what words ask for, and gives what that came to.
-fn answer_words<F: Files>(alloc: Global, words: &[Text], files: &mut F) -> Outcome
+fn answer_words<Rt: Wait, F: Files>(
+    alloc: Global,
+    rt: &Rt,
+    words: &[Text],
+    files: &mut F,
+) -> Outcome
     ensures { ComeTo words.now (files_told (F.content files.old) (F.faults files.old) (F.faults files.new)) result }
 {
     match command_of(alloc, words) {
-        Ok(command) => outcome_of(alloc, command, files),
+        Ok(command) => outcome_of(alloc, rt, command, files),
         Err(fault) => no_outcome(fault),
     }
 }
 
-/// Does what the words after the program's name say, and gives the status to end with.
-pub fn run<Rt, F: Files, K: Sink, E: Sink>(
+/// Does what the words after the program's name say, and gives the status to end with. It may wait for the steps of other
+/// workers, of which there are none today.
+pub fn run<Rt: Wait, F: Files, K: Sink, E: Sink>(
     rt: &Rt,
     alloc: Global,
     words: &[Text],
@@ -76,8 +92,7 @@ pub fn run<Rt, F: Files, K: Sink, E: Sink>(
         (stream_told (K.written out.old) (K.written out.new) (K.faults out.old) (K.faults out.new))
         (stream_told (E.written err.old) (E.written err.new) (E.faults err.old) (E.faults err.new)) }
 {
-    let _ = rt;
-    let outcome = answer_words(alloc, words, files);
+    let outcome = answer_words(alloc, rt, words, files);
     finish(outcome, out, err)
 }
 

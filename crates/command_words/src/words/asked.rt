@@ -1,12 +1,13 @@
-//! The operation that words ask for.
+//! The operation or the replay that words ask for.
 
 ghost use Rattle.std.specs.Prelude.{◌≡◌, IfOk, Err, Some, None, option_map, codes, ℕ};
 ghost use Rattle.clap.specs.Walk.{rows_of, first_of};
 ghost use Rattle.clap.specs.Matches.{found_of};
 ghost use Rattle.command_words.specs.declared.command.Asked.{Asked as AskedType};
-ghost use Rattle.command_words.specs.Words.{IsUndeclared, GivesAsked};
+ghost use Rattle.command_words.specs.declared.command.AskedReplay.{AskedReplay as AskedReplayType};
+ghost use Rattle.command_words.specs.Words.{IsUndeclared, GivesAsked, GivesAskedReplay};
 
-use crate::command::{Asked, GREATEST_UNSIZED, UNDECLARED, WordsFault};
+use crate::command::{Asked, AskedReplay, GREATEST_UNSIZED, UNDECLARED, WordsFault};
 use crate::number::number_of;
 use crate::words::matches::word_of;
 use clap::ArgMatches;
@@ -93,4 +94,32 @@ pub fn asked_of(alloc: Global, matches: &ArgMatches) -> Result<Asked, WordsFault
         operation,
         undeclared,
     })
+}
+
+/// The replay that words ask for.
+pub fn asked_replay_of(alloc: Global, matches: &ArgMatches) -> Result<AskedReplay, WordsFault>
+    ensures found { IfOk result (λ asked. GivesAskedReplay (rows_of (found_of matches.now)) asked) }
+    ensures usage { result ≡ Err WordsFault.Usage → (asked : AskedReplayType) → GivesAskedReplay (rows_of (found_of matches.now)) asked → ⊥ }
+{
+    let schema = match place_text(alloc, matches, "schema") {
+        Ok(schema) => schema,
+        Err(fault) => return Err(fault),
+    };
+    let clients = match place_text(alloc, matches, "clients") {
+        Ok(clients) => clients,
+        Err(fault) => return Err(fault),
+    };
+    let script = match place_text(alloc, matches, "script") {
+        Ok(script) => script,
+        Err(fault) => return Err(fault),
+    };
+    match undeclared_of(matches) {
+        Ok(undeclared) => Ok(AskedReplay {
+            schema,
+            clients,
+            script,
+            undeclared,
+        }),
+        Err(fault) => Err(fault),
+    }
 }

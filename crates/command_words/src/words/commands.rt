@@ -1,18 +1,20 @@
 //! The commands, each by the words behind its name.
 
-ghost use Rattle.std.specs.Prelude.{◌≡◌, IfOk, Err, Some, map, ℕ, List};
+ghost use Rattle.std.specs.Prelude.{◌≡◌, IfOk, Err, Some, codes, map, ℕ, List};
 ghost use Rattle.clap.specs.Walk.{rows_of, first_of};
 ghost use Rattle.clap.specs.Matches.{found_of};
 ghost use Rattle.static_cost.specs.declared.part.Part.{Part as PartType};
 ghost use Rattle.command_words.specs.declared.command.Command.{Command as CommandType};
-ghost use Rattle.command_words.specs.Words.{GivesPart, GivesCheck, GivesPrice, GivesWorst, GivesForward, GivesMeter, GivesMigrate, AsksCheck, AsksPrice, AsksWorst, AsksForward, AsksMeter, AsksMigrate};
+ghost use Rattle.command_words.specs.Words.{GivesPart, GivesCheck, GivesPrice, GivesWorst, GivesForward, GivesMeter, GivesReplay, IsRequests, GivesExercise, GivesMigrate, AsksCheck, AsksPrice, AsksWorst, AsksForward, AsksMeter, AsksReplay, AsksExercise, AsksMigrate};
 
 use crate::builder::{
-    check_command, forward_command, meter_command, migrate_command, price_command, worst_command,
+    check_command, exercise_command, forward_command, meter_command, migrate_command,
+    price_command, replay_command, worst_command,
 };
-use crate::command::{Command, WordsFault};
-use crate::words::asked::{asked_of, place_text, place_word};
-use crate::words::matches::matches_of;
+use crate::command::{Command, GREATEST_EXERCISE, WordsFault};
+use crate::number::number_of;
+use crate::words::asked::{asked_of, asked_replay_of, place_text, place_word};
+use crate::words::matches::{matches_of, word_of};
 use clap::ArgMatches;
 use static_cost::Part;
 use std::alloc::Global;
@@ -164,6 +166,71 @@ pub fn meter<'a>(alloc: Global, words: &'a [&'a str]) -> Result<Command, WordsFa
     };
     match matches_of(command, words) {
         Ok(matches) => meter_of(alloc, &matches),
+        Err(fault) => Err(fault),
+    }
+}
+
+// The replay that words ask for.
+fn replay_of(alloc: Global, matches: &ArgMatches) -> Result<Command, WordsFault>
+    ensures found { IfOk result (GivesReplay (rows_of (found_of matches.now))) }
+    ensures usage { result ≡ Err WordsFault.Usage → (command : CommandType) → GivesReplay (rows_of (found_of matches.now)) command → ⊥ }
+{
+    match asked_replay_of(alloc, matches) {
+        Ok(asked) => Ok(Command::Replay { asked }),
+        Err(fault) => Err(fault),
+    }
+}
+
+/// `replay SCHEMA CLIENTS SCRIPT`
+pub fn replay<'a>(alloc: Global, words: &'a [&'a str]) -> Result<Command, WordsFault>
+    ensures found { IfOk result (AsksReplay (map (λ s. s.now) words.entry.now)) }
+    ensures usage { result ≡ Err WordsFault.Usage → (command : CommandType) → AsksReplay (map (λ s. s.now) words.entry.now) command → ⊥ }
+{
+    let Ok(command) = replay_command(alloc) else {
+        return Err(WordsFault::Memory);
+    };
+    match matches_of(command, words) {
+        Ok(matches) => replay_of(alloc, &matches),
+        Err(fault) => Err(fault),
+    }
+}
+
+// The number of requests.
+fn requests_of(matches: &ArgMatches) -> Result<u32, WordsFault>
+    ensures found { IfOk result (λ n. IsRequests (first_of (codes "requests") (rows_of (found_of matches.now))) n) }
+    ensures usage { result ≡ Err WordsFault.Usage → (n : ℕ) → IsRequests (first_of (codes "requests") (rows_of (found_of matches.now))) n → ⊥ }
+{
+    match word_of(matches, "requests") {
+        Some(word) => match number_of(word, GREATEST_EXERCISE) {
+            Some(0) => Err(WordsFault::Usage),
+            Some(number) => Ok(number),
+            None => Err(WordsFault::Usage),
+        },
+        None => Err(WordsFault::Usage),
+    }
+}
+
+// The exercise that words ask for.
+fn exercise_of(matches: &ArgMatches) -> Result<Command, WordsFault>
+    ensures found { IfOk result (GivesExercise (rows_of (found_of matches.now))) }
+    ensures usage { result ≡ Err WordsFault.Usage → (command : CommandType) → GivesExercise (rows_of (found_of matches.now)) command → ⊥ }
+{
+    match requests_of(matches) {
+        Ok(requests) => Ok(Command::Exercise { requests }),
+        Err(fault) => Err(fault),
+    }
+}
+
+/// `exercise N`
+pub fn exercise<'a>(alloc: Global, words: &'a [&'a str]) -> Result<Command, WordsFault>
+    ensures found { IfOk result (AsksExercise (map (λ s. s.now) words.entry.now)) }
+    ensures usage { result ≡ Err WordsFault.Usage → (command : CommandType) → AsksExercise (map (λ s. s.now) words.entry.now) command → ⊥ }
+{
+    let Ok(command) = exercise_command(alloc) else {
+        return Err(WordsFault::Memory);
+    };
+    match matches_of(command, words) {
+        Ok(matches) => exercise_of(&matches),
         Err(fault) => Err(fault),
     }
 }

@@ -1,22 +1,27 @@
 -- The first word names one command.
-use Rattle.std.proofs.Common.{codes}
-use Rattle.command_words.proofs.Names.{only_by}
+use Rattle.command_words.proofs.Names.{only_check, only_price, only_worst, only_forward, only_meter, only_replay, only_exercise, only_migrate}
 use Rattle.command_words.proofs.reading.named_command.Goals as goal
 
 pub returns-in-check-clause-usage : goal.returns-in-check-clause-usage
-returns-in-check-clause-usage c = λ failed command asks. c.check.ensures.usage failed command (only_by c.args.name.now (codes "check") _ command c.in-check.is asks)
+returns-in-check-clause-usage c = λ failed command. only_check c.args.name.now _ command c.in-check.is (c.check.ensures.usage failed command)
 
 pub returns-in-price-clause-usage : goal.returns-in-price-clause-usage
-returns-in-price-clause-usage c = λ failed command asks. c.price.ensures.usage failed command (only_by c.args.name.now (codes "price") _ command c.in-price.is asks)
+returns-in-price-clause-usage c = λ failed command. only_price c.args.name.now _ command c.in-price.is (c.price.ensures.usage failed command)
 
 pub returns-in-worst-clause-usage : goal.returns-in-worst-clause-usage
-returns-in-worst-clause-usage c = λ failed command asks. c.worst.ensures.usage failed command (only_by c.args.name.now (codes "worst") _ command c.in-worst.is asks)
+returns-in-worst-clause-usage c = λ failed command. only_worst c.args.name.now _ command c.in-worst.is (c.worst.ensures.usage failed command)
 
 pub returns-in-forward-clause-usage : goal.returns-in-forward-clause-usage
-returns-in-forward-clause-usage c = λ failed command asks. c.forward.ensures.usage failed command (only_by c.args.name.now (codes "forward") _ command c.in-forward.is asks)
+returns-in-forward-clause-usage c = λ failed command. only_forward c.args.name.now _ command c.in-forward.is (c.forward.ensures.usage failed command)
 
 pub returns-in-meter-clause-usage : goal.returns-in-meter-clause-usage
-returns-in-meter-clause-usage c = λ failed command asks. c.meter.ensures.usage failed command (only_by c.args.name.now (codes "meter") _ command c.in-meter.is asks)
+returns-in-meter-clause-usage c = λ failed command. only_meter c.args.name.now _ command c.in-meter.is (c.meter.ensures.usage failed command)
+
+pub returns-in-replay-clause-usage : goal.returns-in-replay-clause-usage
+returns-in-replay-clause-usage c = λ failed command. only_replay c.args.name.now _ command c.in-replay.is (c.replay.ensures.usage failed command)
+
+pub returns-in-exercise-clause-usage : goal.returns-in-exercise-clause-usage
+returns-in-exercise-clause-usage c = λ failed command. only_exercise c.args.name.now _ command c.in-exercise.is (c.exercise.ensures.usage failed command)
 
 pub returns-in-migrate-clause-usage : goal.returns-in-migrate-clause-usage
-returns-in-migrate-clause-usage c = λ failed command asks. c.migrate.ensures.usage failed command (only_by c.args.name.now (codes "migrate") _ command c.in-migrate.is asks)
+returns-in-migrate-clause-usage c = λ failed command. only_migrate c.args.name.now _ command c.in-migrate.is (c.migrate.ensures.usage failed command)

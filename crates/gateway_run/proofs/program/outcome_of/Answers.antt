@@ -26,3 +26,11 @@ returns-in-Meter g c =
 pub returns-in-Migrate : goal.returns-in-Migrate
 returns-in-Migrate g c =
     subst (λ command. CommandCameTo command (files_told (g.F.Files.content c.args.files.now) (g.F.Files.faults c.args.files.now) (g.F.Files.faults c.migrate.new.files)) c.migrate.result) (sym c.in-Migrate.is) c.migrate.ensures
+
+pub returns-in-Replay : goal.returns-in-Replay
+returns-in-Replay g c =
+    subst (λ command. CommandCameTo command (files_told (g.F.Files.content c.args.files.now) (g.F.Files.faults c.args.files.now) (g.F.Files.faults c.replay.new.files)) c.replay.result) (sym c.in-Replay.is) c.replay.ensures
+
+pub returns-in-Exercise : goal.returns-in-Exercise
+returns-in-Exercise g c =
+    subst (λ command. CommandCameTo command (files_told (g.F.Files.content c.args.files.now) (g.F.Files.faults c.args.files.now) (g.F.Files.faults c.args.files.now)) c.exercise.result) (sym c.in-Exercise.is) c.exercise.ensures

@@ -1,0 +1,16 @@
+-- The files before were texts, and reading them changed none.
+use Rattle.std.proofs.Common.{inl, inr}
+use Rattle.gateway_run.specs.declared.limits.TheConstants.{SCRIPT_LIMIT}
+use Rattle.gateway_run.proofs.AskedFiles.{no_text_sooner}
+use Rattle.gateway_run.proofs.replay_texts.read_replay.Goals as goal
+
+pub returns-in-Err-clause-none : goal.returns-in-Err-clause-none
+returns-in-Err-clause-none g c = inl c.in-Err.ensures.none
+
+pub returns-in-Err-read_text-clause-none : goal.returns-in-Err-read_text-clause-none
+returns-in-Err-read_text-clause-none g c =
+    inr (
+      ((c.in-Ok.texts.schema, c.in-Ok.ensures.schema), (c.in-Ok.texts.clients, c.in-Ok.ensures.clients)),
+      no_text_sooner (g.F.Files.content c.args.files.now) (g.F.Files.content c.read_rules.new.files) (g.F.Files.faults c.args.files.now) (g.F.Files.faults c.read_rules.new.files) (g.F.Files.faults c.read_text.new.files)
+          c.in-Ok.ensures.same c.in-Ok.ensures.count SCRIPT_LIMIT c.args.asked.now.script c.in-Err-read_text.outcome c.in-Err-read_text.ensures.none,
+    )
