@@ -1,8 +1,8 @@
 -- Words whose first names a command.
 use Rattle.std.proofs.Common.{◌≡◌, ◌∙◌, sym, ap, refl, ℕ, List, codes, slice_index, arith}
 use Rattle.command_words.specs.declared.command.Command.{Command}
-use Rattle.command_words.specs.declared.command.Command.TheVariants.{Help, Version, Check, Price, Worst, Forward, Meter, Replay, Exercise, Migrate}
-use Rattle.command_words.specs.Words.{AsksCheck, AsksPrice, AsksWorst, AsksForward, AsksMeter, AsksReplay, AsksExercise, AsksMigrate, AsksAfter}
+use Rattle.command_words.specs.declared.command.Command.TheVariants.{Help, Version, Check, Price, Worst, Forward, Meter, Replay, Serve, Exercise, Migrate}
+use Rattle.command_words.specs.Words.{AsksCheck, AsksPrice, AsksWorst, AsksForward, AsksMeter, AsksReplay, AsksServe, AsksExercise, AsksMigrate, AsksAfter}
 
 -- two names with different letters at a place
 apart : (a b name : List ℕ) (at x y : ℕ) → slice_index a at ≡ x → slice_index b at ≡ y → (x ≡ y → ⊥) → name ≡ a → name ≡ b → ⊥
@@ -17,6 +17,7 @@ only_check name words (Worst asked part) is none asks = apart (codes "check") (c
 only_check name words (Forward asked) is none asks = apart (codes "check") (codes "forward") name 0 99 102 refl refl (λ e. omega (arith, e)) is asks.0
 only_check name words (Meter asked reply) is none asks = apart (codes "check") (codes "meter") name 0 99 109 refl refl (λ e. omega (arith, e)) is asks.0
 only_check name words (Replay asked) is none asks = apart (codes "check") (codes "replay") name 0 99 114 refl refl (λ e. omega (arith, e)) is asks.0
+only_check name words (Serve asked) is none asks = apart (codes "check") (codes "serve") name 0 99 115 refl refl (λ e. omega (arith, e)) is asks.0
 only_check name words (Exercise requests) is none asks = apart (codes "check") (codes "exercise") name 0 99 101 refl refl (λ e. omega (arith, e)) is asks.0
 only_check name words (Migrate clients) is none asks = apart (codes "check") (codes "migrate") name 0 99 109 refl refl (λ e. omega (arith, e)) is asks.0
 
@@ -29,6 +30,7 @@ only_price name words (Worst asked part) is none asks = apart (codes "price") (c
 only_price name words (Forward asked) is none asks = apart (codes "price") (codes "forward") name 0 112 102 refl refl (λ e. omega (arith, e)) is asks.0
 only_price name words (Meter asked reply) is none asks = apart (codes "price") (codes "meter") name 0 112 109 refl refl (λ e. omega (arith, e)) is asks.0
 only_price name words (Replay asked) is none asks = apart (codes "price") (codes "replay") name 0 112 114 refl refl (λ e. omega (arith, e)) is asks.0
+only_price name words (Serve asked) is none asks = apart (codes "price") (codes "serve") name 0 112 115 refl refl (λ e. omega (arith, e)) is asks.0
 only_price name words (Exercise requests) is none asks = apart (codes "price") (codes "exercise") name 0 112 101 refl refl (λ e. omega (arith, e)) is asks.0
 only_price name words (Migrate clients) is none asks = apart (codes "price") (codes "migrate") name 0 112 109 refl refl (λ e. omega (arith, e)) is asks.0
 
@@ -41,6 +43,7 @@ only_worst name words (Worst asked part) is none asks = none asks.1
 only_worst name words (Forward asked) is none asks = apart (codes "worst") (codes "forward") name 0 119 102 refl refl (λ e. omega (arith, e)) is asks.0
 only_worst name words (Meter asked reply) is none asks = apart (codes "worst") (codes "meter") name 0 119 109 refl refl (λ e. omega (arith, e)) is asks.0
 only_worst name words (Replay asked) is none asks = apart (codes "worst") (codes "replay") name 0 119 114 refl refl (λ e. omega (arith, e)) is asks.0
+only_worst name words (Serve asked) is none asks = apart (codes "worst") (codes "serve") name 0 119 115 refl refl (λ e. omega (arith, e)) is asks.0
 only_worst name words (Exercise requests) is none asks = apart (codes "worst") (codes "exercise") name 0 119 101 refl refl (λ e. omega (arith, e)) is asks.0
 only_worst name words (Migrate clients) is none asks = apart (codes "worst") (codes "migrate") name 0 119 109 refl refl (λ e. omega (arith, e)) is asks.0
 
@@ -53,6 +56,7 @@ only_forward name words (Worst asked part) is none asks = apart (codes "forward"
 only_forward name words (Forward asked) is none asks = none asks.1
 only_forward name words (Meter asked reply) is none asks = apart (codes "forward") (codes "meter") name 0 102 109 refl refl (λ e. omega (arith, e)) is asks.0
 only_forward name words (Replay asked) is none asks = apart (codes "forward") (codes "replay") name 0 102 114 refl refl (λ e. omega (arith, e)) is asks.0
+only_forward name words (Serve asked) is none asks = apart (codes "forward") (codes "serve") name 0 102 115 refl refl (λ e. omega (arith, e)) is asks.0
 only_forward name words (Exercise requests) is none asks = apart (codes "forward") (codes "exercise") name 0 102 101 refl refl (λ e. omega (arith, e)) is asks.0
 only_forward name words (Migrate clients) is none asks = apart (codes "forward") (codes "migrate") name 0 102 109 refl refl (λ e. omega (arith, e)) is asks.0
 
@@ -65,6 +69,7 @@ only_meter name words (Worst asked part) is none asks = apart (codes "meter") (c
 only_meter name words (Forward asked) is none asks = apart (codes "meter") (codes "forward") name 0 109 102 refl refl (λ e. omega (arith, e)) is asks.0
 only_meter name words (Meter asked reply) is none asks = none asks.1
 only_meter name words (Replay asked) is none asks = apart (codes "meter") (codes "replay") name 0 109 114 refl refl (λ e. omega (arith, e)) is asks.0
+only_meter name words (Serve asked) is none asks = apart (codes "meter") (codes "serve") name 0 109 115 refl refl (λ e. omega (arith, e)) is asks.0
 only_meter name words (Exercise requests) is none asks = apart (codes "meter") (codes "exercise") name 0 109 101 refl refl (λ e. omega (arith, e)) is asks.0
 only_meter name words (Migrate clients) is none asks = apart (codes "meter") (codes "migrate") name 1 101 105 refl refl (λ e. omega (arith, e)) is asks.0
 
@@ -77,8 +82,22 @@ only_replay name words (Worst asked part) is none asks = apart (codes "replay") 
 only_replay name words (Forward asked) is none asks = apart (codes "replay") (codes "forward") name 0 114 102 refl refl (λ e. omega (arith, e)) is asks.0
 only_replay name words (Meter asked reply) is none asks = apart (codes "replay") (codes "meter") name 0 114 109 refl refl (λ e. omega (arith, e)) is asks.0
 only_replay name words (Replay asked) is none asks = none asks.1
+only_replay name words (Serve asked) is none asks = apart (codes "replay") (codes "serve") name 0 114 115 refl refl (λ e. omega (arith, e)) is asks.0
 only_replay name words (Exercise requests) is none asks = apart (codes "replay") (codes "exercise") name 0 114 101 refl refl (λ e. omega (arith, e)) is asks.0
 only_replay name words (Migrate clients) is none asks = apart (codes "replay") (codes "migrate") name 0 114 109 refl refl (λ e. omega (arith, e)) is asks.0
+
+pub only_serve : (name : List ℕ) (words : List (List ℕ)) (command : Command) → name ≡ codes "serve" → (AsksServe words command → ⊥) → AsksAfter name words command → ⊥
+only_serve name words Help is none asks = apart (codes "serve") (codes "--help") name 0 115 45 refl refl (λ e. omega (arith, e)) is asks.0
+only_serve name words Version is none asks = apart (codes "serve") (codes "--version") name 0 115 45 refl refl (λ e. omega (arith, e)) is asks.0
+only_serve name words (Check schema) is none asks = apart (codes "serve") (codes "check") name 0 115 99 refl refl (λ e. omega (arith, e)) is asks.0
+only_serve name words (Price asked) is none asks = apart (codes "serve") (codes "price") name 0 115 112 refl refl (λ e. omega (arith, e)) is asks.0
+only_serve name words (Worst asked part) is none asks = apart (codes "serve") (codes "worst") name 0 115 119 refl refl (λ e. omega (arith, e)) is asks.0
+only_serve name words (Forward asked) is none asks = apart (codes "serve") (codes "forward") name 0 115 102 refl refl (λ e. omega (arith, e)) is asks.0
+only_serve name words (Meter asked reply) is none asks = apart (codes "serve") (codes "meter") name 0 115 109 refl refl (λ e. omega (arith, e)) is asks.0
+only_serve name words (Replay asked) is none asks = apart (codes "serve") (codes "replay") name 0 115 114 refl refl (λ e. omega (arith, e)) is asks.0
+only_serve name words (Serve asked) is none asks = none asks.1
+only_serve name words (Exercise requests) is none asks = apart (codes "serve") (codes "exercise") name 0 115 101 refl refl (λ e. omega (arith, e)) is asks.0
+only_serve name words (Migrate clients) is none asks = apart (codes "serve") (codes "migrate") name 0 115 109 refl refl (λ e. omega (arith, e)) is asks.0
 
 pub only_exercise : (name : List ℕ) (words : List (List ℕ)) (command : Command) → name ≡ codes "exercise" → (AsksExercise words command → ⊥) → AsksAfter name words command → ⊥
 only_exercise name words Help is none asks = apart (codes "exercise") (codes "--help") name 0 101 45 refl refl (λ e. omega (arith, e)) is asks.0
@@ -89,6 +108,7 @@ only_exercise name words (Worst asked part) is none asks = apart (codes "exercis
 only_exercise name words (Forward asked) is none asks = apart (codes "exercise") (codes "forward") name 0 101 102 refl refl (λ e. omega (arith, e)) is asks.0
 only_exercise name words (Meter asked reply) is none asks = apart (codes "exercise") (codes "meter") name 0 101 109 refl refl (λ e. omega (arith, e)) is asks.0
 only_exercise name words (Replay asked) is none asks = apart (codes "exercise") (codes "replay") name 0 101 114 refl refl (λ e. omega (arith, e)) is asks.0
+only_exercise name words (Serve asked) is none asks = apart (codes "exercise") (codes "serve") name 0 101 115 refl refl (λ e. omega (arith, e)) is asks.0
 only_exercise name words (Exercise requests) is none asks = none asks.1
 only_exercise name words (Migrate clients) is none asks = apart (codes "exercise") (codes "migrate") name 0 101 109 refl refl (λ e. omega (arith, e)) is asks.0
 
@@ -101,5 +121,6 @@ only_migrate name words (Worst asked part) is none asks = apart (codes "migrate"
 only_migrate name words (Forward asked) is none asks = apart (codes "migrate") (codes "forward") name 0 109 102 refl refl (λ e. omega (arith, e)) is asks.0
 only_migrate name words (Meter asked reply) is none asks = apart (codes "migrate") (codes "meter") name 1 105 101 refl refl (λ e. omega (arith, e)) is asks.0
 only_migrate name words (Replay asked) is none asks = apart (codes "migrate") (codes "replay") name 0 109 114 refl refl (λ e. omega (arith, e)) is asks.0
+only_migrate name words (Serve asked) is none asks = apart (codes "migrate") (codes "serve") name 0 109 115 refl refl (λ e. omega (arith, e)) is asks.0
 only_migrate name words (Exercise requests) is none asks = apart (codes "migrate") (codes "exercise") name 0 109 101 refl refl (λ e. omega (arith, e)) is asks.0
 only_migrate name words (Migrate clients) is none asks = none asks.1

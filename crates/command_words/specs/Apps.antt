@@ -12,6 +12,10 @@ place id = record (new_rule id) { action = Some Set; required = true }
 abbrev pub option : Text → Rule
 option id = record (new_rule id) { long = Some id; action = Some Set }
 
+-- the same, and it must stand
+abbrev pub required_option : Text → Rule
+required_option id = record (option id) { required = true }
+
 -- a command without words so far; no flag asks for help
 abbrev pub top : Text → App
 top name = on_top (λ s. record s { no_binary_name = true; disable_help_flag = true }) (new_app name)
@@ -23,6 +27,14 @@ with_files app = with_rule (with_rule app (place (codes "schema"))) (place (code
 -- and how it is asked for
 abbrev pub with_options : App → App
 with_options app = with_rule (with_rule (with_rule app (option (codes "variables"))) (option (codes "operation"))) (option (codes "unsized"))
+
+-- the files of a gateway, and the addresses on both sides of it
+abbrev pub with_gateway : App → App
+with_gateway app = with_rule (with_rule (with_rule (with_rule app (place (codes "schema"))) (place (codes "clients"))) (required_option (codes "listen"))) (required_option (codes "upstream"))
+
+-- and how it is served
+abbrev pub with_serving : App → App
+with_serving app = with_rule (with_rule (with_rule (with_rule app (option (codes "target"))) (option (codes "workers"))) (option (codes "connections"))) (option (codes "unsized"))
 
 -- `check SCHEMA`
 abbrev pub check_app : App
@@ -47,6 +59,10 @@ meter_app = with_options (with_rule (with_files (top (codes "meter"))) (place (c
 -- `replay SCHEMA CLIENTS SCRIPT`
 abbrev pub replay_app : App
 replay_app = with_rule (with_rule (with_rule (with_rule (top (codes "replay")) (place (codes "schema"))) (place (codes "clients"))) (place (codes "script"))) (option (codes "unsized"))
+
+-- `serve SCHEMA CLIENTS --listen ADDR --upstream ADDR`
+abbrev pub serve_app : App
+serve_app = with_serving (with_gateway (top (codes "serve")))
 
 -- `exercise N`
 abbrev pub exercise_app : App

@@ -1,17 +1,18 @@
 -- The commands, and the words that ask for them.
-use Rattle.std.specs.Prelude.{◌≡◌, ◌≤◌, ◌<◌, ℕ, List, [], ◌∷◌, Option, None, Some, codes}
+use Rattle.std.specs.Prelude.{◌≡◌, ◌≤◌, ◌<◌, ⊤, ℕ, List, [], ◌∷◌, Option, None, Some, codes}
 use Rattle.std.specs.Str.Parse.{IsNumeral, digits_value}
 use Rattle.clap.specs.Walk.{Row, first_of}
 use Rattle.clap.specs.Simple.{App, matches_of}
 use Rattle.clap.specs.Faults.{fault_of}
-use Rattle.command_words.specs.declared.command.TheConstants.{UNDECLARED, GREATEST_UNSIZED, GREATEST_EXERCISE}
+use Rattle.command_words.specs.declared.command.TheConstants.{UNDECLARED, GREATEST_UNSIZED, GREATEST_EXERCISE, TARGET, WORKERS, GREATEST_WORKERS, GREATEST_CONNECTIONS}
 use Rattle.command_words.specs.declared.command.Command.{Command}
-use Rattle.command_words.specs.declared.command.Command.TheVariants.{Help, Version, Check, Price, Worst, Forward, Meter, Replay, Exercise, Migrate}
+use Rattle.command_words.specs.declared.command.Command.TheVariants.{Help, Version, Check, Price, Worst, Forward, Meter, Replay, Serve, Exercise, Migrate}
 use Rattle.command_words.specs.declared.command.Asked.{Asked}
 use Rattle.command_words.specs.declared.command.AskedReplay.{AskedReplay}
+use Rattle.command_words.specs.declared.command.AskedServe.{AskedServe}
 use Rattle.static_cost.specs.declared.part.Part.{Part}
 use Rattle.static_cost.specs.declared.part.Part.TheVariants.{Types, Fields}
-use Rattle.command_words.specs.Apps.{check_app, price_app, worst_app, forward_app, meter_app, replay_app, exercise_app, migrate_app}
+use Rattle.command_words.specs.Apps.{check_app, price_app, worst_app, forward_app, meter_app, replay_app, serve_app, exercise_app, migrate_app}
 
 -- The text is this number, in one decimal digit or more, and it is no greater than that.
 abbrev pub IsNumber : ℕ → List ℕ → ℕ → Type 0
@@ -21,6 +22,24 @@ IsNumber most text n = IsNumeral 10 text × (n ≡ digits_value 10 text) × (n �
 abbrev pub IsUndeclared : Option (List ℕ) → ℕ → Type 0
 IsUndeclared None n = n ≡ UNDECLARED
 IsUndeclared (Some text) n = IsNumber GREATEST_UNSIZED text n
+
+-- the number of an option, from the least to the greatest one; without the option it is the usual one
+abbrev pub IsWithin : ℕ → ℕ → ℕ → Option (List ℕ) → ℕ → Type 0
+IsWithin least greatest usual None n = n ≡ usual
+IsWithin least greatest usual (Some text) n = IsNumber greatest text n × (least ≤ n)
+
+-- how many workers serve
+abbrev pub IsWorkers : Option (List ℕ) → ℕ → Type 0
+IsWorkers given n = IsWithin 1 GREATEST_WORKERS WORKERS given n
+
+-- how many connections each of them serves
+abbrev pub IsConnections : Option (List ℕ) → ℕ → Type 0
+IsConnections given n = IsWithin 1 GREATEST_CONNECTIONS GREATEST_CONNECTIONS given n
+
+-- the target of requests to the upstream
+abbrev pub IsTarget : Option (List ℕ) → List ℕ → Type 0
+IsTarget None target = target ≡ TARGET.now
+IsTarget (Some text) target = target ≡ text
 
 -- the number of requests of an exercise
 abbrev pub IsRequests : Option (List ℕ) → ℕ → Type 0
@@ -44,6 +63,17 @@ pub record GivesAskedReplay (rows : Rows) (asked : AskedReplay) : Type 0 where
   pub schema : first_of (codes "schema") rows ≡ Some asked.schema
   pub clients : first_of (codes "clients") rows ≡ Some asked.clients
   pub script : first_of (codes "script") rows ≡ Some asked.script
+  pub undeclared : IsUndeclared (first_of (codes "unsized") rows) asked.undeclared
+
+-- They give this serving of a gateway.
+pub record GivesAskedServe (rows : Rows) (asked : AskedServe) : Type 0 where
+  pub schema : first_of (codes "schema") rows ≡ Some asked.schema
+  pub clients : first_of (codes "clients") rows ≡ Some asked.clients
+  pub listen : first_of (codes "listen") rows ≡ Some asked.listen
+  pub upstream : first_of (codes "upstream") rows ≡ Some asked.upstream
+  pub target : IsTarget (first_of (codes "target") rows) asked.target
+  pub workers : IsWorkers (first_of (codes "workers") rows) asked.workers
+  pub connections : IsConnections (first_of (codes "connections") rows) asked.connections
   pub undeclared : IsUndeclared (first_of (codes "unsized") rows) asked.undeclared
 
 abbrev pub part_word : Part → List ℕ
@@ -88,6 +118,10 @@ abbrev pub GivesReplay : Rows → Command → Type 0
 GivesReplay rows (Replay asked) = GivesAskedReplay rows asked
 GivesReplay rows other = ⊥
 
+abbrev pub GivesServe : Rows → Command → Type 0
+GivesServe rows (Serve asked) = GivesAskedServe rows asked
+GivesServe rows other = ⊥
+
 abbrev pub GivesExercise : Rows → Command → Type 0
 GivesExercise rows (Exercise requests) = IsRequests (first_of (codes "requests") rows) requests
 GivesExercise rows other = ⊥
@@ -114,6 +148,9 @@ AsksMeter words command = Reads meter_app (λ rows. GivesMeter rows command) wor
 abbrev pub AsksReplay : List (List ℕ) → Command → Type 0
 AsksReplay words command = Reads replay_app (λ rows. GivesReplay rows command) words
 
+abbrev pub AsksServe : List (List ℕ) → Command → Type 0
+AsksServe words command = Reads serve_app (λ rows. GivesServe rows command) words
+
 abbrev pub AsksExercise : List (List ℕ) → Command → Type 0
 AsksExercise words command = Reads exercise_app (λ rows. GivesExercise rows command) words
 
@@ -130,6 +167,7 @@ AsksAfter name words (Worst asked part) = (name ≡ codes "worst") × AsksWorst 
 AsksAfter name words (Forward asked) = (name ≡ codes "forward") × AsksForward words (Forward asked)
 AsksAfter name words (Meter asked reply) = (name ≡ codes "meter") × AsksMeter words (Meter asked reply)
 AsksAfter name words (Replay asked) = (name ≡ codes "replay") × AsksReplay words (Replay asked)
+AsksAfter name words (Serve asked) = (name ≡ codes "serve") × AsksServe words (Serve asked)
 AsksAfter name words (Exercise requests) = (name ≡ codes "exercise") × AsksExercise words (Exercise requests)
 AsksAfter name words (Migrate clients) = (name ≡ codes "migrate") × AsksMigrate words (Migrate clients)
 
@@ -137,6 +175,11 @@ AsksAfter name words (Migrate clients) = (name ≡ codes "migrate") × AsksMigra
 abbrev pub Asks : List (List ℕ) → Command → Type 0
 Asks [] command = ⊥
 Asks (name ∷ words) command = AsksAfter name words command
+
+-- A gateway that is to be served has 1 worker or more, with 1 connection or more each, within their limits.
+abbrev pub ServesWithinLimits : Command → Type 0
+ServesWithinLimits (Serve asked) = (0 < asked.workers) × (asked.workers ≤ GREATEST_WORKERS) × (0 < asked.connections) × (asked.connections ≤ GREATEST_CONNECTIONS)
+ServesWithinLimits other = ⊤
 
 -- They ask for no command.
 abbrev pub IsNoCommand : List (List ℕ) → Type 0

@@ -3,7 +3,7 @@
 ghost use Rattle.std.specs.Prelude.{◌≡◌, IfOk, false, codes};
 ghost use Rattle.clap.specs.Simple.{app_of, with_rule};
 ghost use Rattle.clap.specs.Walk.{rule_of};
-ghost use Rattle.command_words.specs.Apps.{with_files, with_options, check_app, price_app, worst_app, forward_app, meter_app, replay_app, exercise_app, migrate_app};
+ghost use Rattle.command_words.specs.Apps.{with_files, with_options, with_gateway, with_serving, check_app, price_app, worst_app, forward_app, meter_app, replay_app, serve_app, exercise_app, migrate_app};
 
 use clap::{Arg, ArgAction, Command};
 use std::alloc::{AllocError, Global};
@@ -22,6 +22,17 @@ fn option<'a>(alloc: Global, id: &'a str) -> Arg<'a>
     ensures local { result.global ≡ false }
 {
     Arg::new(alloc, id).long(id).action(ArgAction::Set)
+}
+
+// `--` and this, with a value; it must stand.
+fn required_option<'a>(alloc: Global, id: &'a str) -> Arg<'a>
+    ensures rule { rule_of result ≡ Rattle.command_words.specs.Apps.required_option id.entry.now }
+    ensures local { result.global ≡ false }
+{
+    Arg::new(alloc, id)
+        .long(id)
+        .required(true)
+        .action(ArgAction::Set)
 }
 
 // A command without words so far.
@@ -62,6 +73,17 @@ fn with_option<'a>(
     with(command, option(alloc, id))
 }
 
+// An option that must stand, beside those of the command.
+fn with_required_option<'a>(
+    alloc: Global,
+    command: Command<'a>,
+    id: &'a str,
+) -> Result<Command<'a>, AllocError>
+    ensures { IfOk result (λ c. app_of c ≡ with_rule (app_of command.entry) (Rattle.command_words.specs.Apps.required_option id.entry.now)) }
+{
+    with(command, required_option(alloc, id))
+}
+
 // The files of an operation.
 fn with_files<'a>(alloc: Global, command: Command<'a>) -> Result<Command<'a>, AllocError>
     ensures { IfOk result (λ c. app_of c ≡ with_files (app_of command.entry)) }
@@ -76,6 +98,26 @@ fn with_options<'a>(alloc: Global, command: Command<'a>) -> Result<Command<'a>, 
 {
     let command = with_option(alloc, command, "variables")?;
     let command = with_option(alloc, command, "operation")?;
+    with_option(alloc, command, "unsized")
+}
+
+// The files of a gateway, and the addresses on both sides of it.
+fn with_gateway<'a>(alloc: Global, command: Command<'a>) -> Result<Command<'a>, AllocError>
+    ensures { IfOk result (λ c. app_of c ≡ with_gateway (app_of command.entry)) }
+{
+    let command = with_place(alloc, command, "schema")?;
+    let command = with_place(alloc, command, "clients")?;
+    let command = with_required_option(alloc, command, "listen")?;
+    with_required_option(alloc, command, "upstream")
+}
+
+// How it is served.
+fn with_serving<'a>(alloc: Global, command: Command<'a>) -> Result<Command<'a>, AllocError>
+    ensures { IfOk result (λ c. app_of c ≡ with_serving (app_of command.entry)) }
+{
+    let command = with_option(alloc, command, "target")?;
+    let command = with_option(alloc, command, "workers")?;
+    let command = with_option(alloc, command, "connections")?;
     with_option(alloc, command, "unsized")
 }
 
@@ -128,6 +170,14 @@ pub fn replay_command<'a>(alloc: Global) -> Result<Command<'a>, AllocError>
     let command = with_place(alloc, command, "clients")?;
     let command = with_place(alloc, command, "script")?;
     with_option(alloc, command, "unsized")
+}
+
+/// `serve SCHEMA CLIENTS --listen ADDR --upstream ADDR`
+pub fn serve_command<'a>(alloc: Global) -> Result<Command<'a>, AllocError>
+    ensures { IfOk result (λ c. app_of c ≡ serve_app) }
+{
+    let command = with_gateway(alloc, top(alloc, "serve"))?;
+    with_serving(alloc, command)
 }
 
 /// `exercise N`

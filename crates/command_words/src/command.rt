@@ -11,6 +11,14 @@ pub const UNDECLARED: u32 = 10;
 pub const GREATEST_UNSIZED: u32 = 1_000_000;
 /// How many requests an exercise may have.
 pub const GREATEST_EXERCISE: u32 = 5_000;
+/// The target of requests to the upstream, where no other is given.
+pub const TARGET: &str = "/graphql";
+/// How many workers serve side by side, where no other number is given.
+pub const WORKERS: u32 = 4;
+/// How many workers may serve side by side.
+pub const GREATEST_WORKERS: u32 = 16;
+/// How many connections a worker may serve, and how many it serves where no other number is given.
+pub const GREATEST_CONNECTIONS: u32 = 1_000_000;
 
 /// An operation, by the names of its files and by how it is asked for.
 #[derive(Drop)]
@@ -36,6 +44,25 @@ pub struct AskedReplay {
     pub undeclared: u32,
 }
 
+/// How a gateway is served.
+#[derive(Drop)]
+pub struct AskedServe {
+    pub schema: Text,
+    pub clients: Text,
+    /// The address that clients call at, `HOST:PORT`.
+    pub listen: Text,
+    /// The address of the upstream, `HOST:PORT`.
+    pub upstream: Text,
+    /// The target of requests to the upstream.
+    pub target: Text,
+    /// How many workers serve side by side.
+    pub workers: u32,
+    /// How many connections each worker serves.
+    pub connections: u32,
+    /// The size of lists that declare none.
+    pub undeclared: u32,
+}
+
 /// A command, with the names of its files.
 #[derive(Drop)]
 pub enum Command {
@@ -55,6 +82,8 @@ pub enum Command {
     Meter { asked: Asked, reply: Text },
     /// Replays a script of requests, and says what becomes of each and of the clients' accounts.
     Replay { asked: AskedReplay },
+    /// Serves the clients of a client file over HTTP, in front of an upstream.
+    Serve { asked: AskedServe },
     /// Replays a script of its own with so many requests, and sums up what becomes of them.
     Exercise { requests: u32 },
     /// Writes a client file in the newest version of its format.

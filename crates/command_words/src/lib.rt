@@ -8,6 +8,7 @@ mod reading;
 mod words;
 
 pub use command::{
-    Asked, AskedReplay, Command, GREATEST_EXERCISE, GREATEST_UNSIZED, UNDECLARED, WordsFault,
+    Asked, AskedReplay, AskedServe, Command, GREATEST_CONNECTIONS, GREATEST_EXERCISE,
+    GREATEST_UNSIZED, GREATEST_WORKERS, TARGET, UNDECLARED, WORKERS, WordsFault,
 };
 pub use reading::command_of;

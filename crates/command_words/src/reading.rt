@@ -2,10 +2,12 @@
 
 ghost use Rattle.std.specs.Prelude.{◌≡◌, IfOk, Err, IsSome, map, List, []};
 ghost use Rattle.command_words.specs.declared.command.Command.{Command as CommandType};
-ghost use Rattle.command_words.specs.Words.{AsksAfter, Asks, IsNoCommand};
+ghost use Rattle.command_words.specs.Words.{AsksAfter, Asks, ServesWithinLimits, IsNoCommand};
 
 use crate::command::{Command, WordsFault};
-use crate::words::commands::{check, exercise, forward, meter, migrate, price, replay, worst};
+use crate::words::commands::{
+    check, exercise, forward, meter, migrate, price, replay, serve, worst,
+};
 use gql_base::Text;
 use std::alloc::{AllocError, Global};
 
@@ -32,6 +34,7 @@ fn named_command<'a>(alloc: Global, name: &str, words: &'a [&'a str]) -> Result<
         "forward" => forward(alloc, words),
         "meter" => meter(alloc, words),
         "replay" => replay(alloc, words),
+        "serve" => serve(alloc, words),
         "exercise" => exercise(alloc, words),
         "migrate" => migrate(alloc, words),
         "--help" if words.is_empty() => Ok(Command::Help),
@@ -43,6 +46,7 @@ fn named_command<'a>(alloc: Global, name: &str, words: &'a [&'a str]) -> Result<
 /// The command that words ask for.
 pub fn command_of(alloc: Global, words: &[Text]) -> Result<Command, WordsFault>
     ensures asked { IfOk result (Asks words.now) }
+    ensures limits { IfOk result ServesWithinLimits }
     ensures usage { result ≡ Err WordsFault.Usage → IsNoCommand words.now }
 {
     let Some((name, others)) = words.split_first() else {

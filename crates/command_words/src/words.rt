@@ -3,3 +3,4 @@
 pub mod asked;
 pub mod commands;
 pub mod matches;
+pub mod serving;

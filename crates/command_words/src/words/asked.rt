@@ -14,7 +14,7 @@ use clap::ArgMatches;
 use gql_base::Text;
 use std::alloc::{AllocError, Global};
 
-/// The word at a place.
+/// The word at a place, or of an option that must stand.
 pub fn place_word<'a>(matches: &ArgMatches<'a>, id: &str) -> Result<&'a str, WordsFault>
     ensures found { IfOk result (λ word. first_of id.now (rows_of (found_of matches.now)) ≡ Some word.now) }
     ensures usage { result ≡ Err WordsFault.Usage → first_of id.now (rows_of (found_of matches.now)) ≡ None }
@@ -25,7 +25,7 @@ pub fn place_word<'a>(matches: &ArgMatches<'a>, id: &str) -> Result<&'a str, Wor
     }
 }
 
-/// A copy of the word at a place.
+/// A copy of such a word.
 pub fn place_text(alloc: Global, matches: &ArgMatches, id: &str) -> Result<Text, WordsFault>
     ensures found { IfOk result (λ word. first_of id.now (rows_of (found_of matches.now)) ≡ Some word) }
     ensures usage { result ≡ Err WordsFault.Usage → first_of id.now (rows_of (found_of matches.now)) ≡ None }
@@ -50,8 +50,8 @@ fn option_text(alloc: Global, matches: &ArgMatches, id: &str) -> Result<Option<T
     }
 }
 
-// The size of lists that declare none.
-fn undeclared_of(matches: &ArgMatches) -> Result<u32, WordsFault>
+/// The size of lists that declare none.
+pub fn undeclared_of(matches: &ArgMatches) -> Result<u32, WordsFault>
     ensures found { IfOk result (λ n. IsUndeclared (first_of (codes "unsized") (rows_of (found_of matches.now))) n) }
     ensures usage { result ≡ Err WordsFault.Usage → (n : ℕ) → IsUndeclared (first_of (codes "unsized") (rows_of (found_of matches.now))) n → ⊥ }
 {

@@ -5,16 +5,17 @@ ghost use Rattle.clap.specs.Walk.{rows_of, first_of};
 ghost use Rattle.clap.specs.Matches.{found_of};
 ghost use Rattle.static_cost.specs.declared.part.Part.{Part as PartType};
 ghost use Rattle.command_words.specs.declared.command.Command.{Command as CommandType};
-ghost use Rattle.command_words.specs.Words.{GivesPart, GivesCheck, GivesPrice, GivesWorst, GivesForward, GivesMeter, GivesReplay, IsRequests, GivesExercise, GivesMigrate, AsksCheck, AsksPrice, AsksWorst, AsksForward, AsksMeter, AsksReplay, AsksExercise, AsksMigrate};
+ghost use Rattle.command_words.specs.Words.{GivesPart, GivesCheck, GivesPrice, GivesWorst, GivesForward, GivesMeter, GivesReplay, GivesServe, IsRequests, GivesExercise, GivesMigrate, AsksCheck, AsksPrice, AsksWorst, AsksForward, AsksMeter, AsksReplay, AsksServe, AsksExercise, AsksMigrate};
 
 use crate::builder::{
     check_command, exercise_command, forward_command, meter_command, migrate_command,
-    price_command, replay_command, worst_command,
+    price_command, replay_command, serve_command, worst_command,
 };
 use crate::command::{Command, GREATEST_EXERCISE, WordsFault};
 use crate::number::number_of;
 use crate::words::asked::{asked_of, asked_replay_of, place_text, place_word};
 use crate::words::matches::{matches_of, word_of};
+use crate::words::serving::asked_serve_of;
 use clap::ArgMatches;
 use static_cost::Part;
 use std::alloc::Global;
@@ -191,6 +192,31 @@ pub fn replay<'a>(alloc: Global, words: &'a [&'a str]) -> Result<Command, WordsF
     };
     match matches_of(command, words) {
         Ok(matches) => replay_of(alloc, &matches),
+        Err(fault) => Err(fault),
+    }
+}
+
+// The serving that words ask for.
+fn serve_of(alloc: Global, matches: &ArgMatches) -> Result<Command, WordsFault>
+    ensures found { IfOk result (GivesServe (rows_of (found_of matches.now))) }
+    ensures usage { result ≡ Err WordsFault.Usage → (command : CommandType) → GivesServe (rows_of (found_of matches.now)) command → ⊥ }
+{
+    match asked_serve_of(alloc, matches) {
+        Ok(asked) => Ok(Command::Serve { asked }),
+        Err(fault) => Err(fault),
+    }
+}
+
+/// `serve SCHEMA CLIENTS --listen ADDR --upstream ADDR`
+pub fn serve<'a>(alloc: Global, words: &'a [&'a str]) -> Result<Command, WordsFault>
+    ensures found { IfOk result (AsksServe (map (λ s. s.now) words.entry.now)) }
+    ensures usage { result ≡ Err WordsFault.Usage → (command : CommandType) → AsksServe (map (λ s. s.now) words.entry.now) command → ⊥ }
+{
+    let Ok(command) = serve_command(alloc) else {
+        return Err(WordsFault::Memory);
+    };
+    match matches_of(command, words) {
+        Ok(matches) => serve_of(alloc, &matches),
         Err(fault) => Err(fault),
     }
 }

@@ -1,9 +1,11 @@
 -- The first word, and those behind it.
 use Rattle.std.proofs.Common.{◌≡◌, ◌∙◌, sym, ap, ap₂, subst, List, ℕ, Bor, map, ◌∷◌, Result}
 use Rattle.std.specs.Prelude.{IfOk}
+use Rattle.std.proofs.lemmas.Result.{IfOk-weaker}
 use Rattle.command_words.specs.declared.command.Command.{Command}
 use Rattle.command_words.specs.declared.command.WordsFault.{WordsFault}
-use Rattle.command_words.specs.Words.{AsksAfter, Asks, IsNoCommand}
+use Rattle.command_words.specs.Words.{AsksAfter, Asks, ServesWithinLimits, IsNoCommand}
+use Rattle.command_words.proofs.Limits.{serves_within}
 use Rattle.command_words.proofs.reading.command_of.Goals as goal
 
 abbrev texts : List (Bor (List ℕ)) → List (List ℕ)
@@ -24,6 +26,9 @@ returns-clause-asked c =
     found c.named_command.result c.args.words.now (texts c.as_slice.result.now) c.as_str.result.now
     (whole c.args.words.now c.in-Some.others.now c.in-Some.name.now c.as_str.result.now c.in-Ok.texts.items c.as_slice.result.now c.in-Some.ensures.cases.0 c.in-Ok.ensures c.as_slice.ensures.value c.as_str.ensures)
     c.named_command.ensures.found
+
+pub returns-clause-limits : goal.returns-clause-limits
+returns-clause-limits c = IfOk-weaker c.named_command.result _ ServesWithinLimits (serves_within c.args.words.now) (returns-clause-asked c)
 
 pub returns-clause-usage : goal.returns-clause-usage
 returns-clause-usage c = λ failed.

@@ -1,5 +1,5 @@
 -- The first word names one command.
-use Rattle.command_words.proofs.Names.{only_check, only_price, only_worst, only_forward, only_meter, only_replay, only_exercise, only_migrate}
+use Rattle.command_words.proofs.Names.{only_check, only_price, only_worst, only_forward, only_meter, only_replay, only_serve, only_exercise, only_migrate}
 use Rattle.command_words.proofs.reading.named_command.Goals as goal
 
 pub returns-in-check-clause-usage : goal.returns-in-check-clause-usage
@@ -19,6 +19,9 @@ returns-in-meter-clause-usage c = λ failed command. only_meter c.args.name.now 
 
 pub returns-in-replay-clause-usage : goal.returns-in-replay-clause-usage
 returns-in-replay-clause-usage c = λ failed command. only_replay c.args.name.now _ command c.in-replay.is (c.replay.ensures.usage failed command)
+
+pub returns-in-serve-clause-usage : goal.returns-in-serve-clause-usage
+returns-in-serve-clause-usage c = λ failed command. only_serve c.args.name.now _ command c.in-serve.is (c.serve.ensures.usage failed command)
 
 pub returns-in-exercise-clause-usage : goal.returns-in-exercise-clause-usage
 returns-in-exercise-clause-usage c = λ failed command. only_exercise c.args.name.now _ command c.in-exercise.is (c.exercise.ensures.usage failed command)
