@@ -8,6 +8,8 @@ use Rattle.account_shared.proofs.Stretches.{none_gained, gained_then}
 use Rattle.doors.specs.Visits.{Told, Visit, given_by, after_visit, Gained}
 use Rattle.doors.specs.Starts.{DoorMembers}
 use Rattle.gateway_connections.specs.declared.ending.Served.{Served}
+use Rattle.gateway_connections.specs.declared.ending.ConnectionEnd.TheVariants as ending
+use Rattle.outside.specs.Faults.{Rose}
 use Rattle.gateway_connections.specs.Exchanges.{Service}
 use Rattle.gateway_connections.specs.Connections.{end_number}
 use Rattle.gateway_connections.specs.Serving.{Serves}
@@ -83,13 +85,13 @@ did_still t s accounts v w belong idle same connections replies visits to_come f
 }
 
 -- one connection
-pub did_one : {D : Type 0} (t : DoorMembers D) (s : Service) (accounts : AccountsView) (v w : Worker D) (told back : Told) (served : Served) (serves : Serves s v.passes w.passes told back served) → Belongs w.passes accounts → IsIdle w.passes
+pub did_one : {D : Type 0} (t : DoorMembers D) (s : Service) (accounts : AccountsView) (v w : Worker D) (told back : Told) (served : Served) (serves : Serves s v.passes w.passes told back served) → (served.end ≡ ending.ReadFault → Rose told.read_faults back.read_faults) → (served.end ≡ ending.WriteFault → Rose told.write_faults back.write_faults) → Belongs w.passes accounts → IsIdle w.passes
     → Gained (t.visits v.door) (record { given = told; back = back; ending = end_number served.end } ∷ []) (t.visits w.door)
     → w.connections ≡ v.connections + 1 → w.replies ≡ v.replies + served.replies → t.to_come v.door ≡ t.to_come w.door + 1 → t.out w.door ≡ false → served.replies ≤ 1000 → w.passes.made ≤ v.passes.made + 2000
     → Did t s accounts v w (record { given = told; back = back; calls = serves.calls; served = served } ∷ [])
 unfolding AreRuns calls_in replies_in
-did_one t s accounts v w told back served serves belong idle visits connections replies to_come free few made = record {
-  each = (serves.runs, tt);
+did_one t s accounts v w told back served serves read written belong idle visits connections replies to_come free few made = record {
+  each = ((serves.runs, record { read = read; written = written }), tt);
   visits = visits;
   gains = subst (λ (cs : List ClientCall). Gains v.passes w.passes cs) (sym (append-nil serves.calls)) serves.gains;
   belong = belong;

@@ -5,6 +5,7 @@ use Rattle.outside.specs.Faults.{Rose}
 use Rattle.doors.specs.Visits.{Told, Visit, Gained}
 use Rattle.doors.specs.Starts.{DoorMembers}
 use Rattle.gateway_connections.specs.declared.ending.Served.{Served}
+use Rattle.gateway_connections.specs.declared.ending.ConnectionEnd.TheVariants as ending
 use Rattle.gateway_connections.specs.Exchanges.{Service}
 use Rattle.gateway_connections.specs.Connections.{end_number}
 use Rattle.gateway_connections.specs.Serving.{Runs}
@@ -16,10 +17,15 @@ pub record Run : Type 0 where
   pub calls : List ClientCall
   pub served : Served
 
+-- Its end has its cause: the source, or the sink, is blamed only where the count of its faults rose.
+pub record HasCause (r : Run) : Type 0 where
+  pub read : r.served.end ≡ ending.ReadFault → Rose r.given.read_faults r.back.read_faults
+  pub written : r.served.end ≡ ending.WriteFault → Rose r.given.write_faults r.back.write_faults
+
 -- these connections were served, one after the other, behind so many calls
 unfoldable pub AreRuns : Service → ℕ → List Run → Type 0
 AreRuns s made [] = ⊤
-AreRuns s made (r ∷ rs) = Runs s made r.given r.back r.calls r.served × AreRuns s (made + length r.calls) rs
+AreRuns s made (r ∷ rs) = (Runs s made r.given r.back r.calls r.served × HasCause r) × AreRuns s (made + length r.calls) rs
 
 -- as its door tells it
 abbrev pub visit_of : Run → Visit

@@ -10,5 +10,6 @@ mod worker;
 mod working;
 
 pub use laws::doors_that_do_not_fail_are_served_whole;
-pub use serving::serve_workers;
+pub use serving::{WORKER_LIMIT, serve_workers};
 pub use work_done::WorkDone;
+pub use working::CONNECTION_LIMIT;

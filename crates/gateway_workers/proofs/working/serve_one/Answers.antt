@@ -10,7 +10,7 @@ returns-in-Ok-Some g c =
     let given = some_at _ c.in-Ok-Some.field-0 c.in-Ok-Some.conn c.in-Ok-Some.field-0-is c.in-Ok-Some.ensures.given in (
       (
         _,
-        did_one _ (service_of c.args.gate.now) c.args.gate.now.accounts c.args.worker.now _ _ _ c.serve_connection-served.result c.serve_connection-served.ensures.serves c.serve_connection-served.ensures.belong c.serve_connection-served.ensures.idle
+        did_one _ (service_of c.args.gate.now) c.args.gate.now.accounts c.args.worker.now _ _ _ c.serve_connection-served.result c.serve_connection-served.ensures.serves c.serve_connection-served.ensures.read_fault c.serve_connection-served.ensures.write_fault c.serve_connection-served.ensures.belong c.serve_connection-served.ensures.idle
             (one_visit (g.D.Door.visits c.args.worker.now.door) (g.D.Door.visits c.accept.new.self) (g.D.Door.visits c.hand_back.new.self) (g.D.Door.given c.accept.new.self) _ _ c.number.result (end_number c.serve_connection-served.result.end)
             c.accept.ensures.visits given c.hand_back.ensures.visit c.number.ensures)
             refl (omega (arith, c.from.ensures)) (omega (arith, gave.1, c.hand_back.ensures.to_come)) c.hand_back.ensures.free c.serve_connection-served.ensures.most c.serve_connection-served.ensures.few,
