@@ -1,0 +1,4 @@
+pub mod DoorsBack
+pub mod AddedUp
+pub mod ClientAccounts
+pub mod AllServed
