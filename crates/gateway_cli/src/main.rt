@@ -1,8 +1,9 @@
-//! The command line tool: it prices GraphQL operations.
+//! The gateway before a GraphQL server, and the command line tool: it prices operations, and serves them within budgets.
 #![tactic(auto)]
 
 ghost use Rattle.std.specs.Prelude.{◌≡◌, ◌↔◌};
 
+use doors::TcpDoors;
 pub use gateway_run::run;
 use gateway_run::{WordsFault, end_without_command};
 use gql_base::Text;
@@ -45,9 +46,15 @@ fn main(rt: HostRuntime) -> ExitCode {
         Ok(words) => words,
         Err(fault) => return ExitCode::from(end_without_command(fault, &mut out, &mut err)),
     };
-    let Ok(reached) = rt.clone() else {
+    let Ok(for_files) = rt.clone() else {
         return ExitCode::from(end_without_command(WordsFault::Memory, &mut out, &mut err));
     };
-    let mut files = StdFiles::new(reached);
-    ExitCode::from(run(&rt, alloc, &words, &mut files, &mut out, &mut err))
+    let Ok(for_doors) = rt.clone() else {
+        return ExitCode::from(end_without_command(WordsFault::Memory, &mut out, &mut err));
+    };
+    let mut files = StdFiles::new(for_files);
+    let mut doors = TcpDoors::new(for_doors, alloc);
+    ExitCode::from(run(
+        &rt, alloc, &words, &mut files, &mut doors, &mut out, &mut err,
+    ))
 }

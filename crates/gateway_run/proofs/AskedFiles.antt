@@ -2,7 +2,7 @@
 use Rattle.std.proofs.Common.{◌≡◌, ◌≤◌, ◌<◌, ◌⊎◌, inl, inr, ℕ, List, length, Option, None, Some, subst, arith}
 use Rattle.outside.specs.Faults.{Rose}
 use Rattle.gateway_run.specs.declared.outcome.Outcome.{Outcome}
-use Rattle.gateway_run.specs.declared.outcome.Outcome.TheVariants.{Done, Refused, FileFailed, Faulty, Usage, Memory}
+use Rattle.gateway_run.specs.declared.outcome.Outcome.TheVariants.{Done, Refused, FileFailed, Faulty, Served, NotStarted, Usage, Memory}
 use Rattle.gateway_run.specs.declared.limits.TheConstants.{VARIABLES_LIMIT, REPLY_LIMIT}
 use Rattle.gateway_run.specs.Texts.{too_large_text}
 use Rattle.gateway_run.specs.Outcomes.{FilesTold, files_told, IsStopped, IsRefusedAs}
@@ -23,6 +23,8 @@ module _ (content later : List ℕ → Option (List ℕ)) (before at after : Lis
   stopped_sooner IsName (Refused text) stopped = absurd stopped
   stopped_sooner IsName (FileFailed name) stopped = (stopped.0, rose_sooner (before name) (at name) (after name) (rising name) stopped.1)
   stopped_sooner IsName (Faulty status text) stopped = absurd stopped
+  stopped_sooner IsName (Served lines failed) stopped = absurd stopped
+  stopped_sooner IsName NotStarted stopped = absurd stopped
   stopped_sooner IsName Usage stopped = absurd stopped
   stopped_sooner IsName Memory stopped = tt
 

@@ -8,5 +8,9 @@ mod OnePrice
 mod OneMeasure
 mod Migrations
 mod Replays
+mod RuleRefusals
 mod ReplayRefusals
+mod OneRules
 mod OneReplay
+mod Services
+mod WordEnds

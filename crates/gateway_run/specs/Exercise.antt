@@ -15,8 +15,7 @@ use Rattle.gateway_run.specs.Replay.{IsReplayed, IsReplayRefused}
 -- the texts of an exercise with so many requests
 abbrev pub exercise_texts : ℕ → ReplayTexts
 exercise_texts requests = record {
-  schema = schema_text;
-  clients = clients_text;
+  rules = record { schema = schema_text; clients = clients_text };
   script = script_text requests;
 }
 

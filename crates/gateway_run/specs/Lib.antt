@@ -9,6 +9,8 @@ pub mod Worst
 pub mod Forward
 pub mod Meter
 pub mod Migrate
+pub mod RuleFiles
 pub mod Replay
+pub mod Serve
 pub mod Exercise
 pub mod Program

@@ -1,12 +1,12 @@
 -- What commands come to, and what is written of it with which status.
-use Rattle.std.specs.Prelude.{◌≡◌, ◌⊎◌, ℕ, List, Option}
+use Rattle.std.specs.Prelude.{◌≡◌, ◌⊎◌, ℕ, List, Option, Bool, true, false}
 use Rattle.std.specs.Io.KnownBytes.{Appends, Keeps}
 use Rattle.outside.specs.Faults.{Rose}
 use Rattle.outside.specs.Contents.{AppendsFront}
-use Rattle.gateway_run.specs.declared.finish.TheConstants.{USAGE_TEXT}
+use Rattle.gateway_run.specs.declared.finish.TheConstants.{USAGE_TEXT, DOOR_TEXT}
 use Rattle.gateway_run.specs.declared.outcome.Outcome.{Outcome}
-use Rattle.gateway_run.specs.declared.outcome.Outcome.TheVariants.{Done, Refused, FileFailed, Faulty, Usage, Memory}
-use Rattle.gateway_run.specs.declared.outcome.TheConstants.{DONE, REFUSED, USAGE, FILE_FAILED, STREAM_FAILED, NO_MEMORY}
+use Rattle.gateway_run.specs.declared.outcome.Outcome.TheVariants.{Done, Refused, FileFailed, Faulty, Served, NotStarted, Usage, Memory}
+use Rattle.gateway_run.specs.declared.outcome.TheConstants.{DONE, REFUSED, USAGE, FILE_FAILED, STREAM_FAILED, NO_MEMORY, DOOR_FAILED}
 use Rattle.gateway_run.specs.Texts.{line, file_text}
 
 -- ---- what a command comes to
@@ -89,11 +89,19 @@ Writes text status result stream = ((result ≡ status) × Gains stream text) �
 abbrev pub Mentions : List ℕ → ℕ → ℕ → StreamTold → Type 0
 Mentions text status result stream = (result ≡ status) × (Gains stream text ⊎ FailsAmid stream text)
 
+-- The closing lines were written whole, and then, where a door failed, the line that says so; or a stream failed amid its own.
+abbrev pub EndsServed : List ℕ → Bool → ℕ → StreamTold → StreamTold → Type 0
+EndsServed lines false result out err = Writes (line lines) DONE result out × IsKept err
+EndsServed lines true result out err = (Gains out (line lines) × Writes (line DOOR_TEXT.now) DOOR_FAILED result err)
+    ⊎ ((result ≡ STREAM_FAILED) × FailsAmid out (line lines) × IsKept err)
+
 -- What an outcome ends with: the status, and what is written on the output stream and on the error stream.
 abbrev pub Ends : Outcome → ℕ → StreamTold → StreamTold → Type 0
 Ends (Done output) result out err = Writes (line output.items) DONE result out × IsKept err
 Ends (Refused text) result out err = IsKept out × Writes (line text) REFUSED result err
 Ends (FileFailed name) result out err = IsKept out × Mentions (line (file_text name)) FILE_FAILED result err
 Ends (Faulty status text) result out err = IsKept out × Writes (line text) status result err
+Ends (Served lines failed) result out err = EndsServed lines.items failed result out err
+Ends NotStarted result out err = IsKept out × Writes (line DOOR_TEXT.now) DOOR_FAILED result err
 Ends Usage result out err = IsKept out × Mentions (line USAGE_TEXT.now) USAGE result err
 Ends Memory result out err = (result ≡ NO_MEMORY) × IsKept out × IsKept err

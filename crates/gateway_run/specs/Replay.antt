@@ -10,28 +10,21 @@ use Rattle.account_core.specs.History.{state_after}
 use Rattle.account_shared.specs.Gains.{entries_for}
 use Rattle.client_files.specs.declared.client.Client.{Client}
 use Rattle.client_files.specs.declared.client.TheConstants.{CLIENT_LIMIT}
-use Rattle.client_files.specs.Lines.{lines_of}
-use Rattle.client_files.specs.ClientFiles.{IsClientFile}
-use Rattle.client_files.specs.Faults.{IsFirstFault}
-use Rattle.client_files.specs.FaultTexts as client_faults
 use Rattle.replay_scripts.specs.Steps.{StepData}
 use Rattle.replay_scripts.specs.Answers.{steps_of}
 use Rattle.replay_scripts.specs.Scripts.{IsScript}
 use Rattle.replay_scripts.specs.Faults.{HasFault}
 use Rattle.replay_scripts.specs.FaultTexts as script_faults
-use Rattle.schema_model.specs.declared.schema.Schema.{Schema}
-use Rattle.schema_model.specs.SchemaViews.{schema_data}
-use Rattle.cost_directives.specs.declared.weights.Weights.{Weights}
-use Rattle.cost_directives.specs.WeightViews.{weights_data}
-use Rattle.gateway_core.specs.Rules.{Rules, rules_with, client_limit, greatest}
+use Rattle.gateway_core.specs.Rules.{Rules, client_limit, greatest}
 use Rattle.gateway_replay.specs.Turns.{Turn}
 use Rattle.gateway_replay.specs.Replays.{all_calls, ReplaysFresh}
 use Rattle.command_words.specs.declared.command.AskedReplay.{AskedReplay}
 use Rattle.gateway_run.specs.declared.limits.TheConstants.{SCHEMA_LIMIT, CLIENTS_LIMIT, SCRIPT_LIMIT}
+use Rattle.gateway_run.specs.declared.rule_texts.RuleTexts.{RuleTexts}
 use Rattle.gateway_run.specs.declared.replay_texts.ReplayTexts.{ReplayTexts}
 use Rattle.gateway_run.specs.declared.replay_inputs.ReplayInputs.{ReplayInputs}
 use Rattle.gateway_run.specs.declared.replay_inputs.ReplayRefusal.{ReplayRefusal}
-use Rattle.gateway_run.specs.declared.replay_inputs.ReplayRefusal.TheVariants.{NoSchema, NoClients, NoScript}
+use Rattle.gateway_run.specs.declared.replay_inputs.ReplayRefusal.TheVariants.{NoRules, NoScript}
 use Rattle.gateway_run.specs.declared.replay_inputs.ReplayFault.{ReplayFault}
 use Rattle.gateway_run.specs.declared.replay_inputs.ReplayFault.TheVariants.{Refused, Memory as NoMemory}
 use Rattle.gateway_run.specs.declared.replay_end.ReplayEnd.{ReplayEnd}
@@ -40,62 +33,42 @@ use Rattle.gateway_run.specs.declared.outcome.Outcome.TheVariants.{Memory}
 use Rattle.gateway_run.specs.Texts.{line}
 use Rattle.gateway_run.specs.Outcomes.{FilesTold, IsDone, IsRefusedAs}
 use Rattle.gateway_run.specs.Reading.{IsTextOf, HasNoText}
-use Rattle.gateway_run.specs.Check.{HoldsWith, IsUnchecked}
-use Rattle.gateway_run.specs.SchemaTexts.{schema_refusal_text}
 use Rattle.gateway_run.specs.Asked.{HoldsText}
+use Rattle.gateway_run.specs.RuleFiles.{HoldRuleTexts, HaveNoRules, HoldRules, rules_in, HoldsSchema, HoldsClients, IsRulesRefusal, rules_refusal_text}
 
 -- ---- the texts of the files
 
 -- The files are these texts.
 pub record HoldReplayTexts (asked : AskedReplay) (content : List ℕ → Option (List ℕ)) (texts : ReplayTexts) : Type 0 where
-  pub is_schema : IsTextOf SCHEMA_LIMIT (content asked.schema) texts.schema
-  pub are_clients : IsTextOf CLIENTS_LIMIT (content asked.clients) texts.clients
+  pub are_rules : HoldRuleTexts asked.schema asked.clients content texts.rules
   pub is_script : IsTextOf SCRIPT_LIMIT (content asked.script) texts.script
 
--- The schema's file holds no text; or it does, and the clients' file holds none.
-abbrev pub HaveNoRules : AskedReplay → FilesTold → Outcome → Type 0
-HaveNoRules asked files outcome = HasNoText SCHEMA_LIMIT asked.schema files outcome
-    ⊎ (HoldsText SCHEMA_LIMIT (files.content asked.schema) × HasNoText CLIENTS_LIMIT asked.clients files outcome)
-
 -- The files of the schema and of the clients are texts.
-abbrev pub HoldRules : AskedReplay → (List ℕ → Option (List ℕ)) → Type 0
-HoldRules asked content = HoldsText SCHEMA_LIMIT (content asked.schema) × HoldsText CLIENTS_LIMIT (content asked.clients)
+abbrev pub HoldBothTexts : AskedReplay → (List ℕ → Option (List ℕ)) → Type 0
+HoldBothTexts asked content = HoldsText SCHEMA_LIMIT (content asked.schema) × HoldsText CLIENTS_LIMIT (content asked.clients)
 
 -- The first of the files that was not read, or holds no text: the schema, the clients, the script.
 abbrev pub HaveNoReplay : AskedReplay → FilesTold → Outcome → Type 0
-HaveNoReplay asked files outcome = HaveNoRules asked files outcome
-    ⊎ (HoldRules asked files.content × HasNoText SCRIPT_LIMIT asked.script files outcome)
+HaveNoReplay asked files outcome = HaveNoRules asked.schema asked.clients files outcome
+    ⊎ (HoldBothTexts asked files.content × HasNoText SCRIPT_LIMIT asked.script files outcome)
 
 -- ---- what the texts hold
 
 -- The texts hold these inputs, where lists that declare no size have this one.
 pub record HoldReplay (texts : ReplayTexts) (undeclared : ℕ) (inputs : ReplayInputs) : Type 0 where
-  pub is_schema : HoldsWith texts.schema undeclared inputs.weighed.schema inputs.weighed.weights
-  pub are_clients : IsClientFile texts.clients inputs.clients.window_seconds inputs.clients.clients.items
+  pub are_rules : HoldRules texts.rules undeclared inputs.rules
   pub is_script : IsScript texts.script (steps_of inputs.script)
-
--- by what requests are decided
-abbrev pub rules_in : ReplayInputs → Rules
-rules_in inputs = rules_with (schema_data inputs.weighed.schema) (weights_data inputs.weighed.weights) inputs.clients.clients.items inputs.clients.window_seconds
 
 -- ---- why they are refused
 
-abbrev pub HoldsSchema : ReplayTexts → ℕ → Type 0
-HoldsSchema texts undeclared = (schema : Schema) × (weights : Weights) × HoldsWith texts.schema undeclared schema weights
-
-abbrev pub HoldsClients : ReplayTexts → Type 0
-HoldsClients texts = (seconds : ℕ) × (clients : List Client) × IsClientFile texts.clients seconds clients
-
 -- The first reason in this order: of the schema, of the client file, of the script.
 abbrev pub IsReplayRefusal : ReplayTexts → ℕ → ReplayRefusal → Type 0
-IsReplayRefusal texts undeclared (NoSchema refusal) = IsUnchecked texts.schema refusal
-IsReplayRefusal texts undeclared (NoClients fault) = HoldsSchema texts undeclared × IsFirstFault (lines_of texts.clients) fault
-IsReplayRefusal texts undeclared (NoScript fault) = HoldsSchema texts undeclared × HoldsClients texts × HasFault texts.script fault
+IsReplayRefusal texts undeclared (NoRules refusal) = IsRulesRefusal texts.rules undeclared refusal
+IsReplayRefusal texts undeclared (NoScript fault) = HoldsSchema texts.rules undeclared × HoldsClients texts.rules × HasFault texts.script fault
 
 -- the text of a refusal, where the schema's file has this name
 abbrev pub replay_refusal_text : List ℕ → ReplayRefusal → List ℕ
-replay_refusal_text name (NoSchema refusal) = schema_refusal_text name refusal
-replay_refusal_text name (NoClients fault) = client_faults.fault_text fault
+replay_refusal_text name (NoRules refusal) = rules_refusal_text name refusal
 replay_refusal_text name (NoScript fault) = script_faults.fault_text fault
 
 -- where it is a refusal, this holds of it
@@ -127,7 +100,7 @@ pub record EndsAs (rules : Rules) (script : List StepData) (end : ReplayEnd) : T
 -- The texts hold a replay, and this holds of its end.
 abbrev pub IsReplayed : ReplayTexts → ℕ → (ReplayEnd → Type 0) → Type 0
 IsReplayed texts undeclared P = (inputs : ReplayInputs) × HoldReplay texts undeclared inputs
-    × ((end : ReplayEnd) × EndsAs (rules_in inputs) (steps_of inputs.script) end × P end)
+    × ((end : ReplayEnd) × EndsAs (rules_in inputs.rules) (steps_of inputs.script) end × P end)
 
 -- ---- how it is written
 
@@ -166,15 +139,10 @@ ReplayCameTo asked files outcome = HaveNoReplay asked files outcome
 
 -- ---- what serves proofs
 
--- The schema's text holds none, for this reason.
-abbrev pub IsNoSchema : List ℕ → ReplayRefusal → Type 0
-IsNoSchema text (NoSchema refusal) = IsUnchecked text refusal
-IsNoSchema text other = ⊥
-
--- The text is no client file, for this reason.
-abbrev pub AreNoClients : List ℕ → ReplayRefusal → Type 0
-AreNoClients text (NoClients fault) = IsFirstFault (lines_of text) fault
-AreNoClients text other = ⊥
+-- The texts hold no rules, for this reason.
+abbrev pub HaveNoRulesIn : RuleTexts → ℕ → ReplayRefusal → Type 0
+HaveNoRulesIn texts undeclared (NoRules refusal) = IsRulesRefusal texts undeclared refusal
+HaveNoRulesIn texts undeclared other = ⊥
 
 -- The text is no script, for this reason.
 abbrev pub IsNoScript : List ℕ → ReplayRefusal → Type 0

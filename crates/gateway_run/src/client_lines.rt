@@ -63,8 +63,8 @@ fn write_client(
     into.push('\n')
 }
 
-// Writes the lines of all clients.
-fn write_clients(alloc: Global, totals: &Totals, into: &mut String) -> Result<(), AllocError>
+/// Writes the lines of all clients.
+pub fn write_clients(alloc: Global, totals: &Totals, into: &mut String) -> Result<(), AllocError>
     requires few { length totals.now.clients.items.items ≤ CLIENT_LIMIT }
     ensures { OnOk result (string_bytes into.new ≡ string_bytes into.old ++ client_lines totals.now.clients.items.items totals.now.accounts) }
 {

@@ -12,6 +12,7 @@ use crate::outcome::Outcome;
 use crate::replay_end::replay_texts;
 use crate::replay_inputs::{ReplayFault, ReplayRefusal, refused_replay};
 use crate::replay_texts::ReplayTexts;
+use crate::rule_texts::RuleTexts;
 use command_words::UNDECLARED;
 use cost_vectors::generated;
 use gateway_replay::Replayed;
@@ -25,8 +26,10 @@ fn texts_of(alloc: Global, requests: u32) -> Result<ReplayTexts, AllocError>
 {
     let texts = generated(alloc, requests)?;
     Ok(ReplayTexts {
-        schema: Text::from(texts.schema),
-        clients: Text::from(texts.clients),
+        rules: RuleTexts {
+            schema: Text::from(texts.schema),
+            clients: Text::from(texts.clients),
+        },
         script: Text::from(texts.script),
     })
 }

@@ -5,9 +5,11 @@ ghost use Rattle.std.specs.Io.KnownBytes.{Appends};
 ghost use Rattle.outside.specs.Faults.{Rose};
 ghost use Rattle.outside.specs.Contents.{AppendsFront};
 ghost use Rattle.gateway_run.specs.Texts.{line, file_text};
-ghost use Rattle.gateway_run.specs.Outcomes.{stream_told, Writes, Mentions, Ends};
+ghost use Rattle.gateway_run.specs.Outcomes.{stream_told, Writes, Mentions, EndsServed, Ends};
 
-use crate::outcome::{DONE, FILE_FAILED, NO_MEMORY, Outcome, REFUSED, STREAM_FAILED, USAGE};
+use crate::outcome::{
+    DONE, DOOR_FAILED, FILE_FAILED, NO_MEMORY, Outcome, REFUSED, STREAM_FAILED, USAGE,
+};
 use gql_base::Text;
 use outside::{Sink, WriteFault, write_whole};
 
@@ -24,6 +26,8 @@ usage: tellcrock meter SCHEMA DOCUMENT REPLY [--variables FILE] [--operation NAM
   prints what a reply cost, and the answer for its client
 usage: tellcrock replay SCHEMA CLIENTS SCRIPT [--unsized N]
   prints what becomes of each request of a script, and of the clients' accounts
+usage: tellcrock serve SCHEMA CLIENTS --listen ADDR --upstream ADDR [--target PATH] [--workers N] [--connections N] [--unsized N]
+  serves clients over HTTP within their budgets, and forwards what they cover; prints the accounts at the end
 usage: tellcrock exercise N
   prints a summary of a replay of N requests of one client
 usage: tellcrock migrate CLIENTS
@@ -33,6 +37,9 @@ usage: tellcrock --version";
 
 /// The program and its version.
 pub const VERSION_TEXT: &[u8] = b"tellcrock 1.0";
+
+/// What is said of doors that were not started, or of which one failed.
+pub const DOOR_TEXT: &[u8] = b"door";
 
 // Writes a text and its line end.
 fn write_line<K: Sink>(to: &mut K, text: &[u8]) -> Result<(), WriteFault>
@@ -83,6 +90,20 @@ fn mention_usage<E: Sink>(err: &mut E) -> u8
     }
 }
 
+// Writes the closing lines, and then says so where a door failed.
+fn write_served<K: Sink, E: Sink>(lines: &[u8], failed: bool, out: &mut K, err: &mut E) -> u8
+    ensures { EndsServed lines.now failed result (stream_told (K.written out.old) (K.written out.new) (K.faults out.old) (K.faults out.new))
+        (stream_told (E.written err.old) (E.written err.new) (E.faults err.old) (E.faults err.new)) }
+{
+    if !failed {
+        return write_or_fail(out, lines, DONE);
+    }
+    match write_line(out, lines) {
+        Ok(()) => write_or_fail(err, DOOR_TEXT, DOOR_FAILED),
+        Err(WriteFault) => STREAM_FAILED,
+    }
+}
+
 /// Writes what a command came to, and gives the status to end with.
 pub fn finish<K: Sink, E: Sink>(outcome: Outcome, out: &mut K, err: &mut E) -> u8
     ensures { Ends outcome result (stream_told (K.written out.old) (K.written out.new) (K.faults out.old) (K.faults out.new))
@@ -93,6 +114,8 @@ pub fn finish<K: Sink, E: Sink>(outcome: Outcome, out: &mut K, err: &mut E) -> u
         Outcome::Refused(text) => write_or_fail(err, text.as_bytes(), REFUSED),
         Outcome::FileFailed(name) => mention_file(err, name.as_bytes()),
         Outcome::Faulty { status, text } => write_or_fail(err, text.as_bytes(), status),
+        Outcome::Served { lines, failed } => write_served(lines.as_slice(), failed, out, err),
+        Outcome::NotStarted => write_or_fail(err, DOOR_TEXT, DOOR_FAILED),
         Outcome::Usage => mention_usage(err),
         Outcome::Memory => NO_MEMORY,
     }

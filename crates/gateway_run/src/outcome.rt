@@ -18,6 +18,8 @@ pub const NO_MEMORY: u8 = 5;
 pub const SIZE_BROKEN: u8 = 6;
 /// The status of a reply that is no response to its operation.
 pub const NOT_RESPONSE: u8 = 7;
+/// The status of a command whose doors were not started, or one of them failed.
+pub const DOOR_FAILED: u8 = 8;
 
 /// What a command came to, before anything of it is written. Its texts have no line end.
 #[derive(Drop)]
@@ -30,6 +32,10 @@ pub enum Outcome {
     FileFailed(Text),
     /// Something else is wrong with the input, which has a status of its own.
     Faulty { status: u8, text: Text },
+    /// The doors were served, and these are the closing lines. A door may have failed meanwhile.
+    Served { lines: Vec<u8>, failed: bool },
+    /// The doors were not started. The count of their faults rose.
+    NotStarted,
     /// The words are those of no command.
     Usage,
     /// There was no memory.

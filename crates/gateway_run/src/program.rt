@@ -1,7 +1,9 @@
 //! The one call that does all of the program.
 
 ghost use Rattle.std.specs.Prelude.{◌≡◌};
+ghost use Rattle.command_words.specs.Words.{ServesWithinLimits};
 ghost use Rattle.gateway_run.specs.Outcomes.{files_told, stream_told, IsDone, Ends};
+ghost use Rattle.gateway_run.specs.Serve.{doors_call};
 ghost use Rattle.gateway_run.specs.Program.{no_command, CommandCameTo, ComeTo, Runs};
 
 use crate::check::check;
@@ -13,12 +15,15 @@ use crate::migrate::migrate;
 use crate::outcome::Outcome;
 use crate::price::price;
 use crate::replay::replay;
+use crate::serve::serve;
 use crate::worst::worst;
 use command_words::{Command, WordsFault, command_of};
+use doors::Doors;
 use gql_base::Text;
 use outside::{Files, Sink};
 use std::alloc::Global;
 use std::sync::Wait;
+use std::thread::Threads;
 
 // The outcome of a command with this output.
 fn done(alloc: Global, output: &[u8]) -> Outcome
@@ -31,13 +36,17 @@ fn done(alloc: Global, output: &[u8]) -> Outcome
 }
 
 // Does a command, and gives what it came to.
-fn outcome_of<Rt: Wait, F: Files>(
+fn outcome_of<Rt: Threads + Wait + Sync, F: Files, D: Doors>(
     alloc: Global,
     rt: &Rt,
     command: Command,
     files: &mut F,
+    doors: &mut D,
 ) -> Outcome
-    ensures { CommandCameTo command (files_told (F.content files.old) (F.faults files.old) (F.faults files.new)) result }
+    requires limits { ServesWithinLimits command }
+    requires idle { D.running doors.old ≡ 0 }
+    ensures { CommandCameTo command (files_told (F.content files.old) (F.faults files.old) (F.faults files.new))
+        (doors_call D.faults D.asked D.running D.stopped doors.old doors.new) result }
 {
     match command {
         Command::Help => done(alloc, USAGE_TEXT),
@@ -48,6 +57,7 @@ fn outcome_of<Rt: Wait, F: Files>(
         Command::Forward { asked } => forward(alloc, &asked, files),
         Command::Meter { asked, reply } => meter(alloc, &asked, &reply, files),
         Command::Replay { asked } => replay(alloc, rt, &asked, files),
+        Command::Serve { asked } => serve(alloc, rt, &asked, files, doors),
         Command::Exercise { requests } => exercise(alloc, rt, requests),
         Command::Migrate { clients } => migrate(alloc, &clients, files),
     }
@@ -64,35 +74,41 @@ fn no_outcome(fault: WordsFault) -> Outcome
 }
 
 // Does what words ask for, and gives what that came to.
-fn answer_words<Rt: Wait, F: Files>(
+fn answer_words<Rt: Threads + Wait + Sync, F: Files, D: Doors>(
     alloc: Global,
     rt: &Rt,
     words: &[Text],
     files: &mut F,
+    doors: &mut D,
 ) -> Outcome
-    ensures { ComeTo words.now (files_told (F.content files.old) (F.faults files.old) (F.faults files.new)) result }
+    requires idle { D.running doors.old ≡ 0 }
+    ensures { ComeTo words.now (files_told (F.content files.old) (F.faults files.old) (F.faults files.new))
+        (doors_call D.faults D.asked D.running D.stopped doors.old doors.new) result }
 {
     match command_of(alloc, words) {
-        Ok(command) => outcome_of(alloc, rt, command, files),
+        Ok(command) => outcome_of(alloc, rt, command, files, doors),
         Err(fault) => no_outcome(fault),
     }
 }
 
-/// Does what the words after the program's name say, and gives the status to end with. It may wait for the steps of other
-/// workers, of which there are none today.
-pub fn run<Rt: Wait, F: Files, K: Sink, E: Sink>(
+/// Does what the words after the program's name say, and gives the status to end with. No doors run before, and none after: a
+/// command that serves stops those that it started. It may wait for the steps of other workers.
+pub fn run<Rt: Threads + Wait + Sync, F: Files, D: Doors, K: Sink, E: Sink>(
     rt: &Rt,
     alloc: Global,
     words: &[Text],
     files: &mut F,
+    doors: &mut D,
     out: &mut K,
     err: &mut E,
 ) -> u8
+    requires idle { D.running doors.old ≡ 0 }
     ensures { Runs words.now result (files_told (F.content files.old) (F.faults files.old) (F.faults files.new))
+        (doors_call D.faults D.asked D.running D.stopped doors.old doors.new)
         (stream_told (K.written out.old) (K.written out.new) (K.faults out.old) (K.faults out.new))
         (stream_told (E.written err.old) (E.written err.new) (E.faults err.old) (E.faults err.new)) }
 {
-    let outcome = answer_words(alloc, rt, words, files);
+    let outcome = answer_words(alloc, rt, words, files, doors);
     finish(outcome, out, err)
 }
 

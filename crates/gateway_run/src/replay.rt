@@ -31,7 +31,7 @@ fn replayed(alloc: Global, end: ReplayEnd) -> Outcome
 
 // What the texts of a replay come to.
 fn replay_of<Rt: Wait>(alloc: Global, rt: &Rt, asked: &AskedReplay, texts: &ReplayTexts) -> Outcome
-    requires text { IsText SCHEMA_LIMIT texts.now.schema }
+    requires text { IsText SCHEMA_LIMIT texts.now.rules.schema }
     ensures { ReplayOf asked.now.schema texts.now asked.now.undeclared result }
 {
     match replay_texts(alloc, rt, texts, asked.undeclared) {

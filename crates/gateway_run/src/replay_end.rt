@@ -10,11 +10,13 @@ ghost use Rattle.gateway_core.specs.Rules.{HasWeights};
 ghost use Rattle.gateway_core.specs.Gates.{rules_of};
 ghost use Rattle.gateway_replay.specs.Replays.{AreFresh};
 ghost use Rattle.gateway_run.specs.Reading.{IsText};
-ghost use Rattle.gateway_run.specs.Replay.{rules_in, EndsAs, IsReplayed, IsReplayRefusal, IfReplayRefused, IsPrintable};
+ghost use Rattle.gateway_run.specs.RuleFiles.{rules_in};
+ghost use Rattle.gateway_run.specs.Replay.{EndsAs, IsReplayed, IsReplayRefusal, IfReplayRefused, IsPrintable};
 
 use crate::limits::SCHEMA_LIMIT;
 use crate::replay_inputs::{ReplayFault, ReplayInputs, replay_inputs_in};
 use crate::replay_texts::ReplayTexts;
+use crate::rule_inputs::RuleInputs;
 use account_shared::Passes;
 use gateway_core::{Gate, Settings, Totals, close};
 use gateway_replay::{Replayed, replay, scripts_are_short};
@@ -67,16 +69,13 @@ fn replay_by<Rt: Wait>(
     rt: &Rt,
     inputs: ReplayInputs<'_>,
 ) -> Result<ReplayEnd, AllocError>
-    requires weighed { HasWeights (schema_data inputs.weighed.schema) (weights_data inputs.weighed.weights) }
-    requires served { MayBeServed inputs.clients.window_seconds inputs.clients.clients.items }
+    requires weighed { HasWeights (schema_data inputs.rules.weighed.schema) (weights_data inputs.rules.weighed.weights) }
+    requires served { MayBeServed inputs.rules.clients.window_seconds inputs.rules.clients.clients.items }
     requires few { length (steps_of inputs.script) ≤ LINE_LIMIT }
-    ensures { IfOk result (EndsAs (rules_in inputs.entry) (steps_of inputs.entry.script)) }
+    ensures { IfOk result (EndsAs (rules_in inputs.entry.rules) (steps_of inputs.entry.script)) }
 {
-    let ReplayInputs {
-        weighed,
-        clients,
-        script,
-    } = inputs;
+    let ReplayInputs { rules, script } = inputs;
+    let RuleInputs { weighed, clients } = rules;
     let settings = settings_of(alloc, clients.window_seconds);
     let (gate, passes) = Gate::make(
         alloc,
@@ -95,7 +94,7 @@ pub fn replay_texts<Rt: Wait>(
     texts: &ReplayTexts,
     undeclared: u32,
 ) -> Result<ReplayEnd, ReplayFault>
-    requires text { IsText SCHEMA_LIMIT texts.now.schema }
+    requires text { IsText SCHEMA_LIMIT texts.now.rules.schema }
     ensures replayed { IfOk result (λ end. IsReplayed texts.now undeclared (λ other. other ≡ end)) }
     ensures printable { IfOk result IsPrintable }
     ensures refused { IfErr result (λ fault. IfReplayRefused fault (IsReplayRefusal texts.now undeclared)) }

@@ -1,23 +1,20 @@
 //! What the texts of a replay hold.
 
 ghost use Rattle.std.specs.Prelude.{◌≡◌, IfOk, IfErr};
-ghost use Rattle.client_files.specs.ClientFiles.{IsClientFile, MayBeServed};
-ghost use Rattle.client_files.specs.FaultTexts as client_texts;
+ghost use Rattle.client_files.specs.ClientFiles.{MayBeServed};
 ghost use Rattle.replay_scripts.specs.Answers.{steps_of};
 ghost use Rattle.replay_scripts.specs.Scripts.{IsScript};
 ghost use Rattle.replay_scripts.specs.FaultTexts as script_texts;
 ghost use Rattle.gateway_run.specs.Reading.{IsText};
 ghost use Rattle.gateway_run.specs.Outcomes.{IsRefusedAs};
-ghost use Rattle.gateway_run.specs.Check.{HoldsWith};
-ghost use Rattle.gateway_run.specs.Replay.{HoldReplay, IsReplayRefusal, IfReplayRefused, replay_refusal_text, IsNoSchema, AreNoClients, IsNoScript};
+ghost use Rattle.gateway_run.specs.RuleFiles.{HoldRules};
+ghost use Rattle.gateway_run.specs.Replay.{HoldReplay, IsReplayRefusal, IfReplayRefused, replay_refusal_text, HaveNoRulesIn, IsNoScript};
 
-use crate::checked::{CheckFault, SchemaRefusal, Weighed, weighed_in};
 use crate::limits::SCHEMA_LIMIT;
-use crate::migrate::refused_clients;
 use crate::outcome::Outcome;
 use crate::replay_texts::ReplayTexts;
-use crate::schema_texts::refused_schema;
-use client_files::{Clients, ClientsFault, read_clients};
+use crate::rule_inputs::{RuleInputs, RulesFault, RulesRefusal, refused_rules, rule_inputs_in};
+use crate::rule_texts::RuleTexts;
 use gql_base::Text;
 use replay_scripts::{Script, ScriptFault, fault_text, read_script};
 use std::alloc::Global;
@@ -26,20 +23,16 @@ use thiserror::Error;
 /// What is replayed, and by which rules.
 #[derive(Drop)]
 pub struct ReplayInputs<'a> {
-    pub weighed: Weighed,
-    pub clients: Clients,
+    pub rules: RuleInputs,
     pub script: Script<'a>,
 }
 
 /// Why the texts of a replay are refused.
 #[derive(Debug, Drop, Error)]
 pub enum ReplayRefusal {
-    /// The schema's text holds none.
-    #[error("the schema is refused: {0}")]
-    NoSchema(SchemaRefusal),
-    /// The text of the clients is no client file. The fault is not want of memory.
-    #[error("the clients are refused: {0}")]
-    NoClients(ClientsFault),
+    /// Those of the rules are.
+    #[error("{0}")]
+    NoRules(RulesRefusal),
     /// The text of the script is none. The fault is not want of memory.
     #[error("the script is refused: {0}")]
     NoScript(ScriptFault),
@@ -56,31 +49,19 @@ pub enum ReplayFault {
     Memory,
 }
 
-// The schema of a text, with its weights.
-fn schema_of(alloc: Global, text: &str, undeclared: u32) -> Result<Weighed, ReplayFault>
-    requires text { IsText SCHEMA_LIMIT text.now }
-    ensures held { IfOk result (λ w. HoldsWith text.now undeclared w.schema w.weights) }
-    ensures refused { IfErr result (λ fault. IfReplayRefused fault (IsNoSchema text.now)) }
+// The rules of texts.
+fn rules_of(alloc: Global, texts: &RuleTexts, undeclared: u32) -> Result<RuleInputs, ReplayFault>
+    requires text { IsText SCHEMA_LIMIT texts.now.schema }
+    ensures held { IfOk result (HoldRules texts.now undeclared) }
+    ensures served { IfOk result (λ inputs. MayBeServed inputs.clients.window_seconds inputs.clients.clients.items) }
+    ensures refused { IfErr result (λ fault. IfReplayRefused fault (HaveNoRulesIn texts.now undeclared)) }
 {
-    match weighed_in(alloc, text, undeclared) {
-        Ok(weighed) => Ok(weighed),
-        Err(CheckFault::Refused(refusal)) => {
-            Err(ReplayFault::Refused(ReplayRefusal::NoSchema(refusal)))
+    match rule_inputs_in(alloc, texts, undeclared) {
+        Ok(rules) => Ok(rules),
+        Err(RulesFault::Refused(refusal)) => {
+            Err(ReplayFault::Refused(ReplayRefusal::NoRules(refusal)))
         }
-        Err(CheckFault::Memory) => Err(ReplayFault::Memory),
-    }
-}
-
-// The clients of a text.
-fn clients_of(alloc: Global, text: &str) -> Result<Clients, ReplayFault>
-    ensures held { IfOk result (λ read. IsClientFile text.now read.window_seconds read.clients.items) }
-    ensures served { IfOk result (λ read. MayBeServed read.window_seconds read.clients.items) }
-    ensures refused { IfErr result (λ fault. IfReplayRefused fault (AreNoClients text.now)) }
-{
-    match read_clients(alloc, text) {
-        Ok(clients) => Ok(clients),
-        Err(ClientsFault::Memory) => Err(ReplayFault::Memory),
-        Err(fault) => Err(ReplayFault::Refused(ReplayRefusal::NoClients(fault))),
+        Err(RulesFault::Memory) => Err(ReplayFault::Memory),
     }
 }
 
@@ -103,25 +84,17 @@ pub fn replay_inputs_in(
     texts: &ReplayTexts,
     undeclared: u32,
 ) -> Result<ReplayInputs<'_>, ReplayFault>
-    requires text { IsText SCHEMA_LIMIT texts.now.schema }
+    requires text { IsText SCHEMA_LIMIT texts.now.rules.schema }
     ensures held { IfOk result (HoldReplay texts.now undeclared) }
-    ensures served { IfOk result (λ inputs. MayBeServed inputs.clients.window_seconds inputs.clients.clients.items) }
+    ensures served { IfOk result (λ inputs. MayBeServed inputs.rules.clients.window_seconds inputs.rules.clients.clients.items) }
     ensures refused { IfErr result (λ fault. IfReplayRefused fault (IsReplayRefusal texts.now undeclared)) }
 {
-    let weighed = match schema_of(alloc, texts.schema.as_str(), undeclared) {
-        Ok(weighed) => weighed,
-        Err(fault) => return Err(fault),
-    };
-    let clients = match clients_of(alloc, texts.clients.as_str()) {
-        Ok(clients) => clients,
+    let rules = match rules_of(alloc, &texts.rules, undeclared) {
+        Ok(rules) => rules,
         Err(fault) => return Err(fault),
     };
     match script_of(alloc, texts.script.as_str()) {
-        Ok(script) => Ok(ReplayInputs {
-            weighed,
-            clients,
-            script,
-        }),
+        Ok(script) => Ok(ReplayInputs { rules, script }),
         Err(fault) => Err(fault),
     }
 }
@@ -141,8 +114,7 @@ pub fn refused_replay(alloc: Global, name: &Text, refusal: ReplayRefusal) -> Out
     ensures { IsRefusedAs (replay_refusal_text name.now refusal) result }
 {
     match refusal {
-        ReplayRefusal::NoSchema(refusal) => refused_schema(alloc, name, refusal),
-        ReplayRefusal::NoClients(fault) => refused_clients(alloc, fault),
+        ReplayRefusal::NoRules(refusal) => refused_rules(alloc, name, refusal),
         ReplayRefusal::NoScript(fault) => refused_script(alloc, fault),
     }
 }

@@ -2,21 +2,28 @@
 //!
 //! The words of this program are the names of lists. In a list a line that begins with `$` is a row: the words behind
 //! it, with spaces between them, are those of a command. A number right behind the `$` is that of the write which fails on
-//! each stream, and the word `?` alone stands for words that the system didn't give. Every other line is a heading or a note.
+//! each stream, a `!` there says that one of the two doors fails, and the word `?` alone stands for words that the system
+//! didn't give. Every other line is a heading or a note.
 //! The transcript has all lines of the list; below a row stand what it wrote on its output, each line behind `> `, and on its
 //! error stream, behind `! `, and then its status, behind `= `.
 #![tactic(auto)]
 
+mod doors_of_rows;
 mod padded_files;
 mod transcript;
 
+use doors_of_rows::Exchange;
 use std::{env, fs, io};
 use transcript::play;
 
 fn main(rt: HostRuntime) -> io::Result<()> {
+    let exchange = Exchange {
+        request: fs::read_to_string(&rt, "serve/request.http")?,
+        reply: fs::read_to_string(&rt, "serve/reply.http")?,
+    };
     for name in env::args(&rt)?.skip(1) {
         let list = fs::read_to_string(&rt, name.as_str())?;
-        play(&rt, &rt, list.as_str())?;
+        play(&rt, &rt, &exchange, list.as_str())?;
     }
     Ok(())
 }

@@ -1,5 +1,8 @@
 //! The transcript of a list of rows.
 
+ghost use Rattle.std.specs.Prelude.{◌≡◌};
+
+use crate::doors_of_rows::{Exchange, two_doors};
 use crate::padded_files::PaddedFiles;
 use gateway_run::{WordsFault, end_without_command, run};
 use gql_base::Text;
@@ -7,6 +10,7 @@ use outside::{Failures, MemSink, StdFiles};
 use std::alloc::{AllocError, Global};
 use std::io;
 use std::sync::Wait;
+use std::thread::Threads;
 
 // The words of a command line.
 fn words_of(alloc: Global, line: &str) -> Result<Vec<Text>, AllocError> {
@@ -33,12 +37,9 @@ fn push_marked(into: &mut Vec<u8>, mark: &[u8], text: &[u8]) -> Result<(), Alloc
     Ok(())
 }
 
-// The number of the write that fails, which a row has before its words, and the words.
-fn parts_of(row: &str) -> (Option<u64>, &str) {
-    match row.split_once(' ') {
-        Some((number, words)) => (number.parse().ok(), words),
-        None => (None, row),
-    }
+// The mark that a row has before its words, and the words.
+fn parts_of(row: &str) -> (&str, &str) {
+    row.split_once(' ').unwrap_or(("", row))
 }
 
 // A stream of which the write of this number fails, counted from 1, or none.
@@ -51,9 +52,15 @@ fn stream(alloc: Global, failing: Option<u64>) -> Result<MemSink, AllocError> {
 }
 
 // Runs one row, and gives what it came to.
-fn outcome_of<W: Wait>(rt: &HostRuntime, waiting: &W, row: &str) -> io::Result<Vec<u8>> {
+fn outcome_of<W: Threads + Wait + Sync>(
+    rt: &HostRuntime,
+    workers: &W,
+    exchange: &Exchange,
+    row: &str,
+) -> io::Result<Vec<u8>> {
     let alloc = rt.alloc();
-    let (failing, words) = parts_of(row);
+    let (mark, words) = parts_of(row);
+    let failing = mark.parse().ok();
     let mut out = stream(alloc, failing)?;
     let mut err = stream(alloc, failing)?;
     let status = if words == "?" {
@@ -61,10 +68,11 @@ fn outcome_of<W: Wait>(rt: &HostRuntime, waiting: &W, row: &str) -> io::Result<V
     } else {
         let mut files = PaddedFiles::new(StdFiles::new(rt.clone()?));
         run(
-            waiting,
+            workers,
             alloc,
             &words_of(alloc, words)?,
             &mut files,
+            &mut two_doors(alloc, exchange, mark == "!")?,
             &mut out,
             &mut err,
         )
@@ -77,13 +85,18 @@ fn outcome_of<W: Wait>(rt: &HostRuntime, waiting: &W, row: &str) -> io::Result<V
 }
 
 // Runs the rows of a list and writes their transcript.
-pub(crate) fn play<W: Wait>(rt: &HostRuntime, waiting: &W, list: &str) -> io::Result<()> {
+pub(crate) fn play<W: Threads + Wait + Sync>(
+    rt: &HostRuntime,
+    workers: &W,
+    exchange: &Exchange,
+    list: &str,
+) -> io::Result<()> {
     let mut to = rt.stdout();
     for line in list.lines() {
         to.write_all(line.as_bytes())?;
         to.write_all(b"\n")?;
         if let Some(row) = line.strip_prefix('$') {
-            to.write_all(&outcome_of(rt, waiting, row)?)?;
+            to.write_all(&outcome_of(rt, workers, exchange, row)?)?;
         }
     }
     Ok(())

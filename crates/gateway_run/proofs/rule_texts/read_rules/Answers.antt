@@ -2,7 +2,7 @@
 use Rattle.std.proofs.Common.{inl, inr}
 use Rattle.gateway_run.specs.declared.limits.TheConstants.{CLIENTS_LIMIT}
 use Rattle.gateway_run.proofs.AskedFiles.{no_text_sooner}
-use Rattle.gateway_run.proofs.replay_texts.read_rules.Goals as goal
+use Rattle.gateway_run.proofs.rule_texts.read_rules.Goals as goal
 
 pub returns-in-Err-clause-none : goal.returns-in-Err-clause-none
 returns-in-Err-clause-none g c = inl c.in-Err.ensures.none
@@ -12,5 +12,5 @@ returns-in-Err-read_text-clause-none g c =
     inr (
       (c.in-Ok.schema, c.in-Ok.ensures.held),
       no_text_sooner (g.F.Files.content c.args.files.now) (g.F.Files.content c.read_text.new.files) (g.F.Files.faults c.args.files.now) (g.F.Files.faults c.read_text.new.files) (g.F.Files.faults c.read_text-2.new.files)
-          c.in-Ok.ensures.same c.in-Ok.ensures.count CLIENTS_LIMIT c.args.asked.now.clients c.in-Err-read_text.outcome c.in-Err-read_text.ensures.none,
+          c.in-Ok.ensures.same c.in-Ok.ensures.count CLIENTS_LIMIT c.args.clients.now c.in-Err-read_text.outcome c.in-Err-read_text.ensures.none,
     )
