@@ -6,8 +6,10 @@
 the kit's `rt must-fail`, over copies of the crate; the libraries below it are built into `crates/*/out`, if they aren't there. An edit of a
 function's body is tried by a check of that function alone, which takes the contracts of all others as they stand: what it refuses, a check
 of the whole crate refuses too. The function must be proved where nothing is edited. What isn't refused so, and with --whole every edit, is
-tried by whole checks. Each edit prints a line; the last line is `N refused, M not`, and the status is 1 unless M is 0."""
+tried by whole checks. No source may change meanwhile. Each edit prints a line; the last line is `N refused, M not`, and the status is 1
+unless M is 0."""
 
+import functools
 import importlib.machinery
 import importlib.util
 import os
@@ -40,6 +42,8 @@ def kit():
         return ran
 
     rt.checked = checked
+    # (a crate's sum is otherwise taken once for each way down to it, 50,000 times for the uppermost)
+    rt.rtlib.Crate.stamp = functools.lru_cache(None)(rt.rtlib.Crate.stamp)
     return rt
 
 
