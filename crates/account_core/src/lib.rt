@@ -268,6 +268,3 @@ impl Account {
         *self = self.settled_at(window, bound, measured);
     }
 }
-
-#[cfg(test)]
-mod tests;

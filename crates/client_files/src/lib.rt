@@ -12,8 +12,6 @@ pub mod laws;
 mod line;
 mod migration;
 mod reading;
-#[cfg(test)]
-mod tests;
 
 pub use client::{CARRY_LIMIT, CLIENT_LIMIT, Client, Clients, KEY_LIMIT, WINDOW_LIMIT};
 pub use fault::{ClientsFault, fault_text};

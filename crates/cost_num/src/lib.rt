@@ -11,8 +11,6 @@ ghost use Rattle.cost_num.specs.Within.{Within};
 
 pub mod laws;
 mod printed;
-#[cfg(test)]
-mod tests;
 mod weights;
 
 pub use weights::{WeightFault, read_allowance, read_weight};

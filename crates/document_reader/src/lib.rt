@@ -9,8 +9,6 @@ mod printing;
 mod printing_laws;
 mod reading_back;
 mod selections;
-#[cfg(test)]
-mod tests;
 mod tree_laws;
 mod trees;
 

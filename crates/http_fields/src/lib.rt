@@ -5,8 +5,6 @@
 mod fields;
 mod lengths;
 mod reading;
-#[cfg(test)]
-mod tests;
 mod values;
 
 pub use fields::Fields;

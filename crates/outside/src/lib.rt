@@ -20,8 +20,6 @@ mod std_sink;
 mod std_source;
 mod system_clock;
 mod tcp_wire;
-#[cfg(test)]
-mod tests;
 mod wire;
 
 pub use clock::{Clock, ListClock};

@@ -3,9 +3,8 @@ ghost use Rattle.account_shared.specs.Views.{Belongs, IsIdle, first_label};
 
 use account_core::{Account, Limit, Reply};
 use account_shared::{Accounts, Passes};
-use cost_num::{CAP, Cost};
+use cost_num::Cost;
 use std::alloc::{AllocError, Global};
-use std::process::Abort;
 use std::sync::Wait;
 use std::test::Fail;
 use std::thread::{Threads, join};
@@ -96,88 +95,6 @@ fn spend_four_of<R: Wait>(
 {
     let granted = spend_four(rt, accounts, &mut passes, steps);
     (granted, passes)
-}
-
-/// One worker reserves four times on a client's fresh account. How many were granted, and the account
-/// after all.
-fn row<R: Abort + Wait>(
-    rt: &R,
-    alloc: Global,
-    limit: Limit,
-    steps: [(u64, Cost); 4],
-) -> Result<(u32, Account), AllocError> {
-    let Limit { allowance, carry } = limit;
-    let most = if carry { CAP / 2 } else { CAP };
-    assert!(rt; allowance.types <= most && allowance.fields <= most);
-    let mut limits = Vec::with_capacity(alloc, 1)?;
-    limits.push(limit)?;
-    let (accounts, mut passes) = Accounts::make(alloc, limits)?;
-    let granted = spend_four(rt, &accounts, &mut passes, steps);
-    let totals = accounts.close(rt, passes);
-    Ok((granted, totals.account(0)))
-}
-
-#[test]
-fn keeps_windows_and_carries(rt: HostRuntime) -> Result<(), Fail> {
-    let plain = Limit {
-        allowance: even(6_000),
-        carry: false,
-    };
-    let carrying = Limit {
-        carry: true,
-        ..plain
-    };
-    let half = Limit {
-        allowance: even(CAP / 2),
-        carry: true,
-    };
-    let nothing = even(0);
-    // A limit, the steps, how many are granted; then the window, what is settled and what is carried.
-    for (limit, steps, granted, window, settled, carried) in [
-        // Windows 0, 1 and 3 in turn, and 0 again, which is window 3 then.
-        (
-            plain,
-            [(0, BOUND), (1, BOUND), (3, even(6_001)), (0, BOUND)],
-            3,
-            1,
-            Cost {
-                types: 4_000,
-                fields: 2_000,
-            },
-            nothing,
-        ),
-        (
-            carrying,
-            [(0, BOUND), (1, BOUND), (3, BOUND), (0, BOUND)],
-            4,
-            3,
-            Cost {
-                types: 4_000,
-                fields: 2_000,
-            },
-            even(6_000),
-        ),
-        // Half the cap with carry: both halves at once, then nothing is left, and nothing carried.
-        (
-            half,
-            [
-                (1, even(CAP / 2 * 2)),
-                (1, even(1)),
-                (1, nothing),
-                (2, even(CAP / 2)),
-            ],
-            3,
-            2,
-            even(CAP / 2),
-            nothing,
-        ),
-    ] {
-        let (won, account) = row(&rt, rt.alloc(), limit, steps)?;
-        assert_eq!(rt; won, granted);
-        assert_eq!(rt; (account.window, account.settled), (window, settled));
-        assert_eq!(rt; (account.carried, account.held), (carried, nothing));
-    }
-    Ok(())
 }
 
 /// The first worker reserves in window 0. While that grant is open another is split off and spends;

@@ -4,13 +4,11 @@
 #[cfg(test)]
 mod accounts;
 #[cfg(test)]
-mod bodies;
-#[cfg(test)]
-mod fronts;
+mod forms;
 #[cfg(test)]
 mod links;
 #[cfg(test)]
-mod scripts;
+mod texts;
 #[cfg(test)]
 mod vectors;
 #[cfg(test)]

@@ -13,8 +13,6 @@
 
 pub mod examples;
 pub mod laws;
-#[cfg(test)]
-mod tests;
 mod writing;
 
 pub use writing::{write_error_response, write_key, write_string, write_value};

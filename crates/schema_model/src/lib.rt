@@ -21,8 +21,6 @@ mod schema;
 mod shapes;
 mod sharing;
 mod sizes;
-#[cfg(test)]
-mod tests;
 
 pub use args::{Arg, Args};
 pub use entries::{FieldEntry, FieldId, ListSize, TypeEntry};

@@ -11,8 +11,6 @@ mod literals;
 mod place;
 mod roots;
 mod sharing;
-#[cfg(test)]
-mod tests;
 mod type_names;
 
 pub use directive_uses::{are_right, size_arguments, weight_of};

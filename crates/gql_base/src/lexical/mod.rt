@@ -4,14 +4,8 @@ pub mod blocks;
 mod characters;
 pub mod laws;
 pub mod lexing;
-#[cfg(test)]
-mod lexing_tests;
 pub mod literals;
-#[cfg(test)]
-mod literals_tests;
 mod numbers;
 mod strings;
 pub mod text;
-#[cfg(test)]
-mod text_tests;
 pub mod token;

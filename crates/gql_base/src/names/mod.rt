@@ -1,8 +1,6 @@
 //! Things that are found by their names.
 
 pub mod index;
-#[cfg(test)]
-mod index_tests;
 pub mod laws;
 pub mod named;
 pub mod owned_index;

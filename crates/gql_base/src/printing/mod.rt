@@ -4,6 +4,4 @@ pub mod printed_parts;
 pub mod printed_texts;
 pub mod printer;
 pub mod printing_laws;
-#[cfg(test)]
-mod printing_tests;
 pub mod reading_back;
