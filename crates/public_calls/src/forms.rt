@@ -20,7 +20,13 @@ const READS: &[(&str, usize, &str, u64)] = &[
 ];
 
 // A limit, and how many bytes are read of 13,000.
-const LIMITS: &[(usize, usize)] = &[(13_001, 13_000), (12_999, 13_000), (12_998, 12_999), (0, 1)];
+const LIMITS: &[(usize, usize)] = &[
+    (13_001, 13_000),
+    (13_000, 13_000),
+    (12_999, 13_000),
+    (12_998, 12_999),
+    (0, 1),
+];
 
 fn schema_file(alloc: Global) -> Result<MemFiles, Fail> {
     let mut files = Vec::new(alloc);

@@ -63,7 +63,8 @@ fn values_and_types_are_printed(rt: HostRuntime) -> Result<(), Fail> {
 #[test]
 fn texts_are_shown_and_given_back(rt: HostRuntime) -> Result<(), Fail> {
     let alloc = rt.alloc();
-    let text = Text::copy_of(alloc, "caf\u{e9}")?;
+    let text = Text::from(String::from_str(alloc, "caf\u{e9}")?);
+    assert!(rt; text == Text::copy_of(alloc, "caf\u{e9}")?);
     let shown = format!(in alloc; "{text} {text:?}")?;
     assert!(rt; shown.as_str() == "caf\u{e9} \"caf\u{e9}\"");
     let mut names = Vec::new(alloc);
