@@ -11,12 +11,13 @@ ghost use Rattle.collected_fields.specs.Drafts.{source_setting, AddsTo, AddsInli
 ghost use Rattle.collected_fields.specs.Prepared.{list_data, entry_data, Prepares, Grows, AreSound, Lists, IsListed, AreEntries, EntersFragment, steps_of_spread, steps_where, reached_fragment};
 
 use crate::included::is_included;
-use crate::lookups::{below_field, below_inline, composite_named};
+use crate::lookups::below_field;
 use crate::planning::Planning;
 use crate::source::{Reached, Source};
 use crate::steps::{Draft, Step};
 use crate::tables::{Entry, SelectionList, Tables};
 use document_reader::{Field, Fragment, Selection};
+use document_rules::lookups::{below_inline, composite_named};
 use gql_base::{Name, index_owned};
 use input_values::TypeId;
 use std::alloc::{AllocError, Global};

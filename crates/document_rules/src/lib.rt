@@ -4,7 +4,7 @@
 mod checking;
 mod indexes;
 mod laws;
-mod lookups;
+pub mod lookups;
 mod met;
 mod rule;
 mod rules;

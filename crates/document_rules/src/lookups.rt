@@ -100,6 +100,13 @@ pub fn below_field(schema: &Schema, meaning: Meaning) -> Option<TypeId>
     }
 }
 
+/// The type on which the selections below a field of this name are written, if it is an object, interface or union type.
+pub fn below_name(schema: &Schema, parent: Option<TypeId>, name: &str) -> Option<TypeId>
+    ensures { option_map type_number result ≡ below_field (schema_data schema.now) (meaning_on (schema_data schema.now) (option_map type_number parent) name.now) }
+{
+    below_field(schema, meaning_on(schema, parent, name))
+}
+
 /// The type on which an inline fragment's selections are written.
 pub fn below_inline(schema: &Schema, parent: Option<TypeId>, on: &Option<Name>) -> Option<TypeId>
     ensures { option_map type_number result ≡ below_inline (schema_data schema.now) (option_map type_number parent) (maybe_identifier on.now) }

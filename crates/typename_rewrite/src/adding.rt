@@ -9,10 +9,11 @@ ghost use Rattle.typename_rewrite.specs.Rewriting.{ended};
 ghost use Rattle.typename_rewrite.specs.Views.{selection_by, field_by, set_by};
 ghost use Rattle.typename_rewrite.specs.Endings.{end_symbols};
 
-use crate::lookups::{below_field, below_inline, is_abstract};
+use crate::lookups::is_abstract;
 use document_reader::{
     Field, Selection, write_argument_list, write_condition, write_directives, write_names,
 };
+use document_rules::lookups::{below_inline, below_name};
 use gql_base::{Printer, TokenKind};
 use input_values::TypeId;
 use schema_model::Schema;
@@ -69,7 +70,7 @@ fn write_field(
     write_names(printer, &field.alias, &field.name)?;
     write_argument_list(printer, field.arguments.as_slice())?;
     write_directives(printer, field.directives.as_slice())?;
-    let below = below_field(by.schema, parent, field.name.text.as_str());
+    let below = below_name(by.schema, parent, field.name.text.as_str());
     let asked = is_abstract(by.schema, below);
     write_set(printer, by, below, asked, field.selections.as_slice())
 }

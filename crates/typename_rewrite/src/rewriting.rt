@@ -11,11 +11,11 @@ ghost use Rattle.typename_rewrite.specs.Views.{operation_by, fragment_by, fragme
 
 use crate::adding::{Adding, write_set};
 use crate::alias::alias_for;
-use crate::lookups::composite_named;
 use document_reader::{
     Fragment, Operation, kind_name, write_directives, write_maybe_name, write_variable_list,
 };
 use document_rules::Checked;
+use document_rules::lookups::composite_named;
 use gql_base::{Printer, Text};
 use input_values::TypeId;
 use schema_model::Schema;

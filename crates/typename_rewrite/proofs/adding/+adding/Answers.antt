@@ -24,9 +24,9 @@ pub write_field-returns : goal.write_field-returns
 write_field-returns t c =
     let s = schema_data c.args.by.schema.now in
     let alias = c.args.by.alias.now in
-    let below = option_map type_number c.below_field-below.result in
+    let below = option_map type_number c.below_name-below.result in
     on_ok_weaker c.write_set.result (λ e. four_put (printed_by c.args.printer.now) (printed_by c.write_names.new.printer) (printed_by c.write_argument_list.new.printer) (printed_by c.write_directives.new.printer) (printed_by c.write_set.new.printer) _ (arguments_symbols (map named_value c.args.field.now.arguments.items)) (directives_symbols (map directive_tree c.args.field.now.directives.items)) (set_symbols (ended alias c.is_abstract-asked.result (rewritten_selections s alias below (set_tree c.args.field.now.selections.items)))) _
     c.in_ok-write_names.ensures (c.in_ok-write_argument_list.ensures ∙ ap (λ l. put_all (printed_by c.write_names.new.printer) (arguments_symbols (map named_value l))) c.as_slice.ensures.value)
     (c.in_ok-write_directives.ensures ∙ ap (λ l. put_all (printed_by c.write_argument_list.new.printer) (directives_symbols (map directive_tree l))) c.as_slice-2.ensures.value)
     (e ∙ ap (λ l. put_all (printed_by c.write_directives.new.printer) (set_symbols (ended alias c.is_abstract-asked.result (rewritten_selections s alias below (set_tree l))))) c.as_slice-3.ensures.value)
-    (field_added s alias (option_map type_number c.args.parent) c.args.field.now c.as_str.result.now below c.is_abstract-asked.result c.as_str.ensures c.below_field-below.ensures c.is_abstract-asked.ensures)) c.write_set.ensures
+    (field_added s alias (option_map type_number c.args.parent) c.args.field.now c.as_str.result.now below c.is_abstract-asked.result c.as_str.ensures c.below_name-below.ensures c.is_abstract-asked.ensures)) c.write_set.ensures
