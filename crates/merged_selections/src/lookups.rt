@@ -5,14 +5,14 @@ ghost use Rattle.std.specs.List.{list_any};
 ghost use Rattle.std.specs.Str.{bytes_eq};
 ghost use Rattle.schema_model.specs.Numbers.{type_number};
 ghost use Rattle.schema_model.specs.SchemaViews.{schema_data};
-ghost use Rattle.document_rules.specs.Sites.{is_composite, known_field, meaning_on, type_of_field};
+ghost use Rattle.document_rules.specs.Sites.{known_field, meaning_on};
 ghost use Rattle.plan_model.specs.SelectedFields.{form_of, handed_in, handed_to, is_asked};
 ghost use Rattle.collected_fields.specs.Views.{collected_field};
 ghost use Rattle.merged_selections.specs.NodeParts.{meaning_seen, has_lists, handed_data, types_below, lacks_types_below, is_abstract_kind, asks_in};
 
 use collected_fields::Collected;
+use document_rules::lookups::{is_composite, type_of_field};
 use gql_base::Text;
-use input_values::places::innermost;
 use input_values::{ShapeLevel, TypeId, shape_level};
 use schema_model::{FieldId, Schema};
 use schema_rules::Kind;
@@ -64,13 +64,6 @@ pub fn meaning_on(schema: &Schema, of: TypeId, name: &str) -> Meaning
     }
 }
 
-/// The named type of a field.
-fn type_of_field(schema: &Schema, field: FieldId) -> TypeId
-    ensures { result.number ≡ type_of_field (schema_data schema.now) field.number }
-{
-    innermost(schema.field_shape(field))
-}
-
 /// Whether a field is a list.
 pub fn has_lists(schema: &Schema, field: FieldId) -> bool
     ensures { result ≡ has_lists (schema_data schema.now) field.number }
@@ -79,13 +72,6 @@ pub fn has_lists(schema: &Schema, field: FieldId) -> bool
         ShapeLevel::Named { .. } => false,
         ShapeLevel::ListOf { .. } => true,
     }
-}
-
-/// Whether a type is an object, interface or union type.
-fn is_composite(schema: &Schema, of: TypeId) -> bool
-    ensures { result ≡ is_composite (schema_data schema.now) of.number }
-{
-    schema.kind(of).is_output_only()
 }
 
 /// The types of the objects that may stand at a field; none at a leaf.
