@@ -3,11 +3,11 @@ mod Stages
 mod Costs
 mod OneVerdict
 pub mod ReadKeys
-mod FoundMembers
+pub mod FoundMembers
 mod Floatless
 mod SentFloats
 mod SentBodies
-mod AlikeDocuments
+pub mod AlikeDocuments
 mod AlikeOperations
 mod AlikeRequests
 mod AlikeBodies

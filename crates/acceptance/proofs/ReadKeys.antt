@@ -60,19 +60,19 @@ ordered_put key d no_members once ordered = (tt, once, tt)
 ordered_put key d (member other e others) once ordered = ordered_put_at (slice_cmp nat_cmp key other) key other d e others refl once ordered (ordered_put key d others once ordered.2)
 
 -- what may be there holds P
-abbrev Holds : {A : Type 0} → (A → Type 0) → Option A → Type 0
+abbrev pub Holds : {A : Type 0} → (A → Type 0) → Option A → Type 0
 Holds P None = Unit {0}
 Holds P (Some x) = P x
 
-map_holds : {A B : Type 0} (P : A → Type 0) (Q : B → Type 0) (f : A → B) → ((x : A) → P x → Q (f x)) → (o : Option A) → Holds P o → Holds Q (option_map f o)
+pub map_holds : {A B : Type 0} (P : A → Type 0) (Q : B → Type 0) (f : A → B) → ((x : A) → P x → Q (f x)) → (o : Option A) → Holds P o → Holds Q (option_map f o)
 map_holds P Q f each None holds = tt
 map_holds P Q f each (Some x) holds = each x holds
 
-then_holds : {A B : Type 0} (P : A → Type 0) (Q : B → Type 0) (f : A → Option B) → ((x : A) → P x → Holds Q (f x)) → (o : Option A) → Holds P o → Holds Q (option_and_then f o)
+pub then_holds : {A B : Type 0} (P : A → Type 0) (Q : B → Type 0) (f : A → Option B) → ((x : A) → P x → Holds Q (f x)) → (o : Option A) → Holds P o → Holds Q (option_and_then f o)
 then_holds P Q f each None holds = tt
 then_holds P Q f each (Some x) holds = each x holds
 
-anything : {A : Type 0} (o : Option A) → Holds (λ _. Unit {0}) o
+pub anything : {A : Type 0} (o : Option A) → Holds (λ _. Unit {0}) o
 anything None = tt
 anything (Some x) = tt
 

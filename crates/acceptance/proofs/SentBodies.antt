@@ -1,18 +1,16 @@
 -- What was checked for a request is what is prepared of it.
-use Rattle.std.proofs.Common.{◌≡◌, ◌∙◌, ℕ, List, [], ◌∷◌, map, false, refl, sym, ap, subst}
-use Rattle.std.specs.Borrow.{Bor}
+use Rattle.std.proofs.Common.{◌≡◌, ◌∙◌, ℕ, List, map, false, sym, ap, subst}
 use Rattle.std.proofs.lemmas.Option.{same_Some}
 use Rattle.serde_json.specs.Data.{Data}
 use Rattle.serde_json.specs.Written.{has_float, compact_text}
 use Rattle.gql_base.specs.printing.Printing.{printed}
 use Rattle.document_reader.specs.declared.trees.Definition.{Definition}
 use Rattle.document_reader.specs.declared.trees.Operation.{Operation}
-use Rattle.document_reader.specs.declared.trees.Fragment.{Fragment}
 use Rattle.document_reader.specs.Trees.{definition_tree}
 use Rattle.document_reader.specs.PrintedDocuments.{document_symbols}
 use Rattle.document_reader.specs.Documents.{DefinitionTree}
 use Rattle.document_rules.specs.declared.checking.Checked.{Checked}
-use Rattle.document_rules.specs.Parts.{FragmentData, fragment_data, fragments_of}
+use Rattle.document_rules.specs.Parts.{fragment_data, fragments_of}
 use Rattle.document_rules.specs.Met.{fragments_met}
 use Rattle.document_rules.specs.Checking.{reached_by}
 use Rattle.document_rules.specs.Sites.{type_of_kind}
@@ -20,15 +18,12 @@ use Rattle.typename_rewrite.specs.AddedNames.{names_of_document, IsAlias}
 use Rattle.typename_rewrite.specs.Rewriting.{rewritten_document}
 use Rattle.typename_rewrite.specs.ForwardedBodies.{body_data}
 use Rattle.typename_rewrite.specs.Views.{fragment_seen, rewritten_of}
+use Rattle.merged_selections.proofs.BuiltPlans.{seen_fragments}
 use Rattle.acceptance.specs.Requests.{RequestData, Prepared, IsCheckFor, setting}
 use Rattle.acceptance.specs.Keys.{HasEachKeyOnce}
 use Rattle.acceptance.specs.Forwarding.{IsFreeIn, sent_document, sent_body, IsSentText}
 use Rattle.acceptance.proofs.OneVerdict.{same_operation}
 use Rattle.acceptance.proofs.SentFloats.{sent_floatless}
-
-seen_fragments : (fs : List (Bor Fragment)) → map fragment_seen fs ≡ map fragment_data (map (λ f. f.now) fs)
-seen_fragments [] = refl
-seen_fragments (f ∷ fs) = ap (λ (gs : List FragmentData). fragment_data f.now ∷ gs) (seen_fragments fs)
 
 module _ (r : RequestData) (c : Checked) (check : IsCheckFor r c) (p : Prepared r) where
   pub prepared_operation : c.operation.now ≡ p.operation

@@ -38,7 +38,7 @@ use Rattle.merged_selections.specs.NodeTests.{IsKept}
 use Rattle.merged_selections.specs.Stages.{types_rows, Frame, frame, setting_built, position_built, CanBuild, Builds, BuildsTypes}
 use Rattle.merged_selections.proofs.VisitedParts.{answer_of_outcome}
 
-seen_fragments : (fs : List (Bor Fragment)) → map fragment_seen fs ≡ map fragment_data (map (λ f. f.now) fs)
+pub seen_fragments : (fs : List (Bor Fragment)) → map fragment_seen fs ≡ map fragment_data (map (λ f. f.now) fs)
 seen_fragments [] = refl
 seen_fragments (f ∷ fs) = ap (λ ds. fragment_data f.now ∷ ds) (seen_fragments fs)
 

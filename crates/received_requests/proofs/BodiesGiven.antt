@@ -15,25 +15,9 @@ use Rattle.serde_json.proofs.Nesting.{depth-read}
 use Rattle.request_bodies.specs.Bodies.{RequestData as BodyData, IsRequest}
 use Rattle.request_bodies.proofs.Bodies.{variables_source}
 use Rattle.acceptance.specs.Requests.{RequestData}
+use Rattle.acceptance.proofs.ReadKeys.{Holds, map_holds, then_holds, anything}
 use Rattle.received_requests.specs.Bodies.{IsOf64Bits, IsAsRead, ItemsAreAsRead, MembersAreAsRead, IsGivenAsRead}
 use Rattle.received_requests.proofs.BodiesOrder.{put_as_read}
-
--- what may be there holds P
-abbrev Holds : {A : Type 0} → (A → Type 0) → Option A → Type 0
-Holds P None = Unit {0}
-Holds P (Some x) = P x
-
-map_holds : {A B : Type 0} (P : A → Type 0) (Q : B → Type 0) (f : A → B) → ((x : A) → P x → Q (f x)) → (o : Option A) → Holds P o → Holds Q (option_map f o)
-map_holds P Q f each None holds = tt
-map_holds P Q f each (Some x) holds = each x holds
-
-then_holds : {A B : Type 0} (P : A → Type 0) (Q : B → Type 0) (f : A → Option B) → ((x : A) → P x → Holds Q (f x)) → (o : Option A) → Holds P o → Holds Q (option_and_then f o)
-then_holds P Q f each None holds = tt
-then_holds P Q f each (Some x) holds = each x holds
-
-anything : {A : Type 0} (o : Option A) → Holds (λ _. Unit {0}) o
-anything None = tt
-anything (Some x) = tt
 
 -- ---- numbers
 

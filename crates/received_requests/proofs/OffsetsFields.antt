@@ -11,6 +11,7 @@ use Rattle.document_rules.specs.Sites.{composite_named, below_inline}
 use Rattle.schema_model.specs.SchemaData.{SchemaData}
 use Rattle.plan_model.specs.SelectedFields.{Setting, FieldCall}
 use Rattle.plan_model.specs.Collecting.{is_included, applies_if_named, applies_by_name, fragment_named, nesting, CollectedField, WrittenSelections, fields_of, fields_in, fields_written, fields_entered, fields_spread, collected_to, collected}
+use Rattle.stripped_responses.proofs.RewrittenFields.{map_where}
 use Rattle.received_requests.specs.Offsets.{fragment_placeless, setting_placeless, written_placeless}
 use Rattle.received_requests.proofs.OffsetsLiterals.{same_inclusion}
 
@@ -19,10 +20,6 @@ call_placeless c = record c { arguments = map argument_placeless c.arguments }
 
 abbrev pub field_placeless : CollectedField → CollectedField
 field_placeless f = record { parent = f.parent; key = f.key; call = call_placeless f.call; below = selections_placeless f.below }
-
-map_where : {X Y : Type 0} (f : X → Y) (b : Bool) (xs : List X) → (if b then map f xs else []) ≡ map f (if b then xs else [])
-map_where f true xs = refl
-map_where f false xs = refl
 
 same_below : (s : SchemaData) (parent : Option ℕ) (on : Option Identifier) → below_inline s parent (maybe_name_placeless on) ≡ below_inline s parent on
 same_below s None on = refl

@@ -1,9 +1,9 @@
 -- What fits a position, keeps its sizes and costs something does so without the offsets of names.
 use Rattle.std.proofs.Common.{◌≡◌, ℕ, ◌+◌, List, [], ◌∷◌, map, Bool, true, Option, None, refl, sym, ap, ap₂, ◌∙◌}
 use Rattle.cost_directives.specs.Weights.{WeightsData}
-use Rattle.response_model.specs.Plan.{Form, single, listed, Selected}
+use Rattle.response_model.specs.Plan.{Form, single, listed}
 use Rattle.response_model.specs.Response.{Tree, null, leaf, list_of, object, Elements, no_element, element, Entries, no_entry, entry, count, IsWithin}
-use Rattle.response_model.specs.Cost.{Part, types, fields, value_cost, entry_cost}
+use Rattle.response_model.specs.Cost.{Part, value_cost}
 use Rattle.input_values.specs.coercion.Literals.{Environment}
 use Rattle.document_rules.specs.Parts.{FragmentData}
 use Rattle.schema_model.specs.SchemaData.{SchemaData}
@@ -12,13 +12,10 @@ use Rattle.plan_model.specs.Collecting.{WrittenSelections}
 use Rattle.plan_model.specs.Merging.{Position, keys_at, call_under, selected_under, below_key}
 use Rattle.plan_model.specs.Plans.{type_weight}
 use Rattle.plan_model.specs.Responses.{is_among, FitsSelections, EntriesFitSelections, ElementsFitSelections, KeepsSizes, EntriesKeepSizes, ElementsKeepSizes, response_cost, entries_cost, elements_cost}
+use Rattle.stripped_responses.proofs.Stripping.{entry_alike}
 use Rattle.received_requests.specs.Offsets.{fragment_placeless, setting_placeless, position_placeless, DifferInOffsets}
 use Rattle.received_requests.proofs.OffsetsFields.{e'}
 use Rattle.received_requests.proofs.OffsetsKeys.{same_keys, below_alike, form_alike, place_alike, size_alike, weight_alike, cost_alike}
-
-entry_alike : (part : Part) (s r : Selected) → s.weight ≡ r.weight → s.arguments ≡ r.arguments → entry_cost part s ≡ entry_cost part r
-entry_alike types s r weight arguments = refl
-entry_alike fields s r weight arguments = ap₂ (λ (n m : ℕ). n + m) weight arguments
 
 abbrev p' : Position → Position
 p' p = position_placeless p

@@ -19,6 +19,7 @@ use Rattle.input_values.specs.coercion.Literals.{Environment}
 use Rattle.schema_model.specs.SchemaData.{SchemaData}
 use Rattle.typename_rewrite.specs.Rewriting.{rewritten_fragment}
 use Rattle.acceptance.specs.Requests.{RequestData, Prepared, AsksFor, setting}
+use Rattle.acceptance.proofs.AlikeDocuments.{seen_alike}
 use Rattle.received_requests.specs.Received.{IsReceived, HasFragments, received_setting, selections_sent, fragments_sent}
 use Rattle.received_requests.specs.Offsets.{fragment_placeless}
 use Rattle.received_requests.proofs.PickedParts.{Picked, parts_picked, as_fragment, is_it}
@@ -61,15 +62,6 @@ only_fragments o fs = each fs
     each : (gs : List Fragment) → fragments_of (map as_fragment gs) ≡ gs
     each [] = refl
     each (g ∷ gs) = ap (λ (l : List Fragment). g ∷ l) (each gs)
-
--- ---- lists of which the same is seen
-
-seen_alike : {A B C : Type 0} (view : A → C) (seen : A → B) (of : B → C) → ((x : A) → view x ≡ of (seen x)) → (xs ys : List A) → map seen xs ≡ map seen ys → map view xs ≡ map view ys
-seen_alike {A} {B} {C} view seen of is xs ys same = by_seen xs ∙ (ap (map of) same ∙ sym (by_seen ys))
-  where
-    by_seen : (zs : List A) → map view zs ≡ map of (map seen zs)
-    by_seen [] = refl
-    by_seen (z ∷ zs) = ap₂ (λ (c : C) (cs : List C). c ∷ cs) (is z) (by_seen zs)
 
 -- ---- rewritten fragments but for the offsets of names
 

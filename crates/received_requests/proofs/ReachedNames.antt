@@ -5,7 +5,6 @@ use Rattle.std.specs.Prelude.{slice_get}
 use Rattle.std.specs.List.{position_from}
 use Rattle.std.specs.Str.{bytes_eq}
 use Rattle.std.proofs.lemmas.Option.{same_Some, none-some}
-use Rattle.std.proofs.lemmas.Slice.Eq.{bytes_eq-Decides}
 use Rattle.gql_base.specs.names.Names.{place_of_name}
 use Rattle.document_reader.specs.Documents.{SelectionTree, field_selection, fragment_spread, inline_fragment, SelectionTrees, no_selection, selection_then}
 use Rattle.document_reader.specs.PlacelessDocuments.{selection_placeless, selections_placeless}
@@ -15,12 +14,7 @@ use Rattle.document_rules.specs.Met.{Met, Spread, spreads_in, spreads_in_one, sp
 use Rattle.schema_model.specs.SchemaData.{SchemaData}
 use Rattle.plan_model.specs.SelectedFields.{written_below, is_asked}
 use Rattle.typename_rewrite.specs.Rewriting.{typename_under, and_then, ended, call_of, rewritten_selection, rewritten_selections}
-
-same_bytes : (a b : List ℕ) → bytes_eq a b ≡ true → a ≡ b
-same_bytes a b = (bytes_eq-Decides a b).0
-
-equal_bytes : (a : List ℕ) → bytes_eq a a ≡ true
-equal_bytes a = (bytes_eq-Decides a a).1 refl
+use Rattle.acceptance.proofs.FoundMembers.{same_bytes, equal_bytes}
 
 -- ---- what is spread in selections
 

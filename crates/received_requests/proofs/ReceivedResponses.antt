@@ -11,9 +11,8 @@ use Rattle.variable_coercion.specs.Refusals.{Refusal}
 use Rattle.variable_coercion.specs.Variables.{VariableData, values_by_name}
 use Rattle.plan_model.specs.Responses.{IsResponseTo, response_cost}
 use Rattle.plan_model.specs.Operations.{root_place, root_position}
-use Rattle.stripped_responses.specs.Stripping.{SentOperation, rewritten_setting, rewritten_root}
+use Rattle.stripped_responses.specs.Stripping.{rewritten_setting, rewritten_root}
 use Rattle.acceptance.specs.Requests.{RequestData, Prepared, AreValues, setting}
-use Rattle.acceptance.specs.Forwarding.{IsFreeIn}
 use Rattle.received_requests.specs.Offsets.{DifferInOffsets}
 use Rattle.received_requests.specs.Received.{IsReceived, HasSelections, HasFragments, received_setting, selections_sent, fragments_sent}
 use Rattle.received_requests.specs.Responses.{Executed}
@@ -56,19 +55,3 @@ module _ (r : RequestData) (p : Prepared r) (q : RequestData) (x : Executed q) w
 
   pub values_are : AreValues q x.operation p.values → x.values ≡ p.values
   values_are are = same_values x.values p.values (sym x.are_values ∙ are)
-
--- the operation of a request, as one that is sent
-unfoldable pub operation_of : (r : RequestData) → Prepared r → (alias : List ℕ) → IsFreeIn r alias → SentOperation alias
-operation_of r p alias free = record {
-  schema = r.schema;
-  weights = r.weights;
-  values = values_by_name p.values;
-  document = r.document;
-  root = p.root;
-  operation = p.operation;
-  free = record {
-    place = p.keeps.0.0;
-    stands = p.keeps.0.2;
-    free = free.free;
-  };
-}

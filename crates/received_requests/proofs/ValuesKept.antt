@@ -1,11 +1,9 @@
 -- The values of a received operation's variables are those of the client's own.
-use Rattle.std.proofs.Common.{ℕ, ◌≡◌, Bool, true, false, true≢false, ◌||◌, List, [], ◌∷◌, map, Option, None, Some, Result, if◌then◌else◌, refl, sym, ap, ap₂, ◌∙◌, Ordering, Less, Equal, Greater, nat_cmp, is_eq}
+use Rattle.std.proofs.Common.{ℕ, ◌≡◌, Bool, true, false, true≢false, ◌||◌, List, [], ◌∷◌, map, Option, None, Some, Result, if◌then◌else◌, refl, sym, ap, ap₂, ◌∙◌, nat_cmp}
 use Rattle.std.specs.Str.{bytes_eq}
 use Rattle.std.specs.Ordering.{match_ordering}
 use Rattle.std.specs.Cmp.Lexicographic.{slice_cmp}
 use Rattle.std.proofs.Math.Bool.{or-true}
-use Rattle.std.proofs.lemmas.Map.Text.{is_eq-slice_cmp}
-use Rattle.std.proofs.lemmas.Slice.Eq.{bytes_eq-Decides}
 use Rattle.serde_json.specs.Data.{Data, null, boolean, number, string, array, object, Members, no_members, member}
 use Rattle.serde_json.specs.Find.{get, get_member}
 use Rattle.gql_base.specs.parts.Values.{ValueTree, variable_value, integer_value, string_value, boolean_value, null_value, enum_value, list_value, object_value, ValueTrees, no_value, value_then, FieldTrees, no_field, field_then}
@@ -27,6 +25,7 @@ use Rattle.variable_coercion.specs.Refusals.{Refusal, fitting, given_value, and_
 use Rattle.variable_coercion.specs.Variables.{Declared, VariableData, shape_in, declared_of, variable_refusal, default_answer, value_answer, named_answer, variable_answer, variables_answer}
 use Rattle.typename_rewrite.specs.ForwardedBodies.{members_of, members_where, declares, sent_variables}
 use Rattle.acceptance.specs.Requests.{RequestData, Prepared, AsksFor, AreValues}
+use Rattle.acceptance.proofs.FoundMembers.{equal_bytes, found_later}
 use Rattle.received_requests.specs.Received.{IsReceived}
 use Rattle.received_requests.proofs.PickedParts.{copied}
 
@@ -86,25 +85,6 @@ variables_alike s form given [] = refl
 variables_alike s form given (v ∷ vs) = ap₂ and_then (sym (variable_alike s form given (variable_tree v))) (variables_alike s form given vs)
 
 -- ---- what is given
-
-equal_bytes : (a : List ℕ) → bytes_eq a a ≡ true
-equal_bytes a = (bytes_eq-Decides a a).1 refl
-
-other_bytes : (a b : List ℕ) → (a ≡ b → ⊥) → bytes_eq a b ≡ false
-other_bytes a b apart = by_test (bytes_eq a b) refl
-  where
-    by_test : (r : Bool) → bytes_eq a b ≡ r → r ≡ false
-    by_test true same = absurd (apart ((bytes_eq-Decides a b).0 same))
-    by_test false other = refl
-
-passed : (o : Ordering) (a b : Option Data) → is_eq o ≡ false → match_ordering o a b a ≡ a
-passed Less a b other = refl
-passed Equal a b other = absurd (true≢false other)
-passed Greater a b other = refl
-
--- another key stands among the other members
-found_later : (key other : List ℕ) (d : Data) (others : Members) → (key ≡ other → ⊥) → get_member key (member other d others) ≡ get_member key others
-found_later key other d others apart = passed (slice_cmp nat_cmp key other) (get_member key others) (Some d) (is_eq-slice_cmp key other ∙ other_bytes key other apart)
 
 -- a name that is kept has what it had
 module _ (keeps : List ℕ → Bool) (name : List ℕ) (kept : keeps name ≡ true) where

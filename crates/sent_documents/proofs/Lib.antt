@@ -2,3 +2,4 @@ mod SendableParts
 mod SendableSelections
 mod SendableDocuments
 mod SentTextLaws
+pub mod SentOperations

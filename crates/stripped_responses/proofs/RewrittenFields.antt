@@ -27,7 +27,7 @@ pub each_where : {X : Type 0} (P : X → Type 0) (b : Bool) (xs : List X) → Ea
 each_where P true xs h = h
 each_where P false xs h = tt
 
-map_where : {X Y : Type 0} (f : X → Y) (b : Bool) (xs : List X) → (if b then map f xs else []) ≡ map f (if b then xs else [])
+pub map_where : {X Y : Type 0} (f : X → Y) (b : Bool) (xs : List X) → (if b then map f xs else []) ≡ map f (if b then xs else [])
 map_where f true xs = refl
 map_where f false xs = refl
 

@@ -26,7 +26,7 @@ free_entry : (part : Part) (s : Selected) → s.weight ≡ 0 → s.arguments ≡
 free_entry types s weight arguments = refl
 free_entry fields s weight arguments = omega (arith, weight, arguments)
 
-entry_alike : (part : Part) (s r : Selected) → s.weight ≡ r.weight → s.arguments ≡ r.arguments → entry_cost part s ≡ entry_cost part r
+pub entry_alike : (part : Part) (s r : Selected) → s.weight ≡ r.weight → s.arguments ≡ r.arguments → entry_cost part s ≡ entry_cost part r
 entry_alike types s r weight arguments = refl
 entry_alike fields s r weight arguments = omega (arith, weight, arguments)
 

@@ -1,6 +1,6 @@
 -- What is received is what is sent, and that is the client's own operation with names of types added.
 use Rattle.std.proofs.Common.{◌∙◌}
-use Rattle.received_requests.proofs.ReceivedResponses.{operation_of}
+use Rattle.sent_documents.proofs.SentOperations.{operation_of}
 use Rattle.received_requests.proofs.responses.replies_to_what_is_received.Goals as goal
 
 pub returns-clause-stripped : goal.returns-clause-stripped
