@@ -1,6 +1,7 @@
 -- What is coerced holds no float: a float is a fraction, and no type takes one (GraphQL October 2021, 3.5).
-use Rattle.std.proofs.Common.{◌≡◌, ◌∙◌, ℕ, List, [], ◌∷◌, Bool, true, false, ◌||◌, ◌&&◌, Option, Some, None, Ok, Err, bytes_eq, true≢false, refl, sym, ap, subst}
+use Rattle.std.proofs.Common.{◌≡◌, ◌∙◌, ℕ, List, [], ◌∷◌, Bool, true, false, ◌||◌, Option, Some, None, Ok, Err, bytes_eq, true≢false, refl, sym, ap, subst}
 use Rattle.std.specs.List.{list_all}
+use Rattle.std.proofs.lemmas.Bool.{or_from, and_parts}
 use Rattle.std.proofs.lemmas.Option.{none-some}
 use Rattle.serde_json.specs.Data.{Data, null, boolean, number, string, array, object, unsigned, negative, float, Items, no_items, item, Members, no_members, member}
 use Rattle.serde_json.specs.Find.{get_member}
@@ -17,10 +18,6 @@ use Rattle.input_values.proofs.CoercionLaws.Found.{mapped_ok, no_ok}
 use Rattle.variable_coercion.specs.Json.{json_given, json_items, json_members}
 use Rattle.acceptance.specs.Keys.{HasEachKeyOnce, ItemsHaveEachKeyOnce, MembersHaveEachKeyOnce}
 use Rattle.acceptance.proofs.FoundMembers.{equal_bytes, other_bytes, by_cases, found_here, found_later, another_key}
-
-pub neither : (a b : Bool) → a ≡ false → b ≡ false → (a || b) ≡ false
-neither true b first second = first
-neither false b first second = second
 
 -- ---- at a custom scalar
 
@@ -44,13 +41,13 @@ mutual
   any_items_floatless no_items ts is = refl
   any_items_floatless (item json others) ts is =
       let m = both_are_ok coerced_then (any_value (json_given json)) (any_items (json_items others)) ts is in
-      neither (has_float json) (items_have_float others) (any_floatless json m.0 m.2) (any_items_floatless others m.1 m.3)
+      or_from (has_float json) (items_have_float others) (any_floatless json m.0 m.2) (any_items_floatless others m.1 m.3)
 
   any_members_floatless : (ms : Members) (cs : CoercedFields) → any_fields (json_members ms) ≡ Ok cs → members_have_float ms ≡ false
   any_members_floatless no_members cs is = refl
   any_members_floatless (member key json others) cs is =
       let m = both_are_ok (coerced_field_then key) (any_value (json_given json)) (any_fields (json_members others)) cs is in
-      neither (has_float json) (members_have_float others) (any_floatless json m.0 m.2) (any_members_floatless others m.1 m.3)
+      or_from (has_float json) (members_have_float others) (any_floatless json m.0 m.2) (any_members_floatless others m.1 m.3)
 
 custom_only : (form : InputForm) (a : Answer CoercedTree) (t : CoercedTree) → custom_at form a ≡ Ok t → a ≡ Ok t
 custom_only custom_form a t is = is
@@ -76,10 +73,6 @@ there : (Is : CoercedTree → Type 0) (o : Option CoercedTree) → IsThere Is o 
 there Is None is = absurd is
 there Is (Some t) is = (t, is)
 
-both_true : (a b : Bool) → (a && b) ≡ true → (a ≡ true) × (b ≡ true)
-both_true true b is = (refl, is)
-both_true false b is = absurd (true≢false (sym is))
-
 something : (json : Data) → is_nothing (json_given json) ≡ false
 something null = refl
 something (boolean b) = refl
@@ -100,7 +93,7 @@ single_only P Is (list_shape inner nullable) t each is = single_only P Is inner 
 name_passes : (test : List ℕ → Bool) (key : List ℕ) (d : Data) (ms : Members) → list_all test (given_names (json_members ms)) ≡ true → get_member key ms ≡ Some d → test key ≡ true
 name_passes test key d no_members all some = absurd (none-some d some)
 name_passes test key d (member other json others) all some =
-    let passed = both_true (test other) (list_all test (given_names (json_members others))) all in
+    let passed = and_parts (test other) (list_all test (given_names (json_members others))) all in
     by_cases key other (test key ≡ true) (λ same. ap test same ∙ passed.0)
     (λ apart. name_passes test key d others passed.1 (sym (found_later key other json others apart) ∙ some))
 
@@ -171,13 +164,13 @@ module _ (form : ℕ → InputForm) where
     items_floatless : (items : Items) (shape : ShapeTree) (ts : CoercedTrees) → ItemsHaveEachKeyOnce items → AreCoerced form (json_items items) shape ts → items_have_float items ≡ false
     items_floatless no_items shape ts once are = refl
     items_floatless (item json others) shape ts once are =
-        neither (has_float json) (items_have_float others) (coerced_floatless json shape are.0 once.0 are.3) (items_floatless others shape are.1 once.1 are.4)
+        or_from (has_float json) (items_have_float others) (coerced_floatless json shape are.0 once.0 are.3) (items_floatless others shape are.1 once.1 are.4)
 
     members_floatless : (ms : Members) → MembersHaveEachKeyOnce ms → AllAreFields ms → members_have_float ms ≡ false
     members_floatless no_members once are = refl
     members_floatless (member key json others) once are =
         let field = are key json (found_here key json others) in
         let first = first_field key json others field.0 field.1 field.2 in
-        neither (has_float json) (members_have_float others)
+        or_from (has_float json) (members_have_float others)
         (coerced_floatless json field.0.shape first.0 once.1 first.1)
         (members_floatless others once.2 (later_fields key json others once.0 are))

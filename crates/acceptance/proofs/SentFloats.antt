@@ -1,5 +1,6 @@
 -- A body that is sent holds no float: the values of declared variables are coerced, and no others are sent.
 use Rattle.std.proofs.Common.{◌≡◌, ◌∙◌, ℕ, List, [], ◌∷◌, map, Bool, true, false, true≢false, ◌||◌, if◌then◌else◌, Option, Some, None, refl, sym, ap, subst}
+use Rattle.std.proofs.lemmas.Bool.{or_from}
 use Rattle.serde_json.specs.Data.{Data, null, boolean, number, string, array, object, Members, no_members, member}
 use Rattle.serde_json.specs.Find.{get, get_member}
 use Rattle.serde_json.specs.Written.{has_float, members_have_float}
@@ -22,7 +23,7 @@ use Rattle.acceptance.specs.Requests.{RequestData, Prepared}
 use Rattle.acceptance.specs.Keys.{HasEachKeyOnce, MembersHaveEachKeyOnce}
 use Rattle.acceptance.specs.Forwarding.{sent_document, sent_body}
 use Rattle.acceptance.proofs.FoundMembers.{by_cases, other_bytes, found_here, found_later, another_key}
-use Rattle.acceptance.proofs.Floatless.{neither, coerced_floatless}
+use Rattle.acceptance.proofs.Floatless.{coerced_floatless}
 
 -- ---- the value of a declared variable
 
@@ -48,7 +49,7 @@ module _ (form : ℕ → InputForm) where
 
 kept_floatless : (test : Bool) (key : List ℕ) (json : Data) (rest : Members) → (test ≡ true → has_float json ≡ false) → members_have_float rest ≡ false
     → members_have_float (if test then member key json rest else rest) ≡ false
-kept_floatless true key json rest first later = neither (has_float json) (members_have_float rest) (first refl) later
+kept_floatless true key json rest first later = or_from (has_float json) (members_have_float rest) (first refl) later
 kept_floatless false key json rest first later = later
 
 where_floatless : (keeps : List ℕ → Bool) (ms : Members) → MembersHaveEachKeyOnce ms
@@ -75,8 +76,8 @@ variables_floatless s vs values (object ms) once are =
 -- ---- the body
 
 body_floatless : (name : Option Identifier) (document : List ℕ) (variables : Members) → members_have_float variables ≡ false → has_float (body_with name document variables) ≡ false
-body_floatless None document variables none = neither (members_have_float variables) false none refl
-body_floatless (Some name) document variables none = neither (members_have_float variables) false none refl
+body_floatless None document variables none = or_from (members_have_float variables) false none refl
+body_floatless (Some name) document variables none = or_from (members_have_float variables) false none refl
 
 pub sent_floatless : (r : RequestData) (p : Prepared r) (alias : List ℕ) → HasEachKeyOnce r.given → has_float (sent_body r p alias) ≡ false
 unfolding body_data

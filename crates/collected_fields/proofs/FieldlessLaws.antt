@@ -1,5 +1,6 @@
 -- Steps that come to no field.
-use Rattle.std.proofs.Common.{◌≡◌, ◌⊎◌, ⊎_elim, ◌<◌, ◌≤◌, ◌+◌, ◌-◌, ℕ, zero, suc, List, [], ◌∷◌, map, drop, length, get_or, slice_get, Bool, true, false, true≢false, ◌&&◌, Option, Some, None, refl, sym, ap, ◌∙◌, subst, if◌then◌else◌}
+use Rattle.std.proofs.Common.{◌≡◌, ◌⊎◌, ⊎_elim, ◌<◌, ◌≤◌, ◌+◌, ◌-◌, ℕ, zero, suc, List, [], ◌∷◌, map, drop, length, get_or, slice_get, Bool, true, false, Option, Some, None, refl, sym, ap, ◌∙◌, subst, if◌then◌else◌}
+use Rattle.std.proofs.lemmas.Bool.{and_parts, and_from}
 use Rattle.gql_base.proofs.Lists.{at_front}
 use Rattle.schema_model.specs.SchemaData.{SchemaData, applies}
 use Rattle.schema_model.specs.SchemaViews.{schema_data}
@@ -11,14 +12,6 @@ use Rattle.collected_fields.specs.Steps.{StepData, field_step, spread_step, inli
 use Rattle.collected_fields.specs.Prepared.{ListData, EntryData, list_data, entry_data}
 use Rattle.collected_fields.specs.Fieldless.{steps_in, marked_for, MarksMore, is_fieldless, are_fieldless, AreFieldless, KnowsFieldless, list_fieldless}
 use Rattle.collected_fields.proofs.WalkSteps.{behind}
-
-pub both_true : (a b : Bool) → a && b ≡ true → (a ≡ true) × (b ≡ true)
-both_true true b h = (refl, h)
-both_true false b h = absurd (true≢false (sym h))
-
-true_both : (a b : Bool) → a ≡ true → b ≡ true → a && b ≡ true
-true_both true b h k = k
-true_both false b h k = absurd (true≢false (sym h))
 
 where_more : (b n m : Bool) → (n ≡ true → m ≡ true) → (if b then n else true) ≡ true → (if b then m else true) ≡ true
 where_more true n m more h = more h
@@ -35,8 +28,8 @@ module _ (s : SchemaData) (T : ℕ) (entries : List EntryData) where
     steps_more (suc n) (x ∷ xs) h = steps_more n xs h
     steps_more zero (field_step f below ∷ xs) h = h
     steps_more zero (spread_step number ∷ xs) h =
-        let both = both_true (is_fieldless s T entries none (slice_get entries number)) (are_fieldless s T entries none 0 xs) h in
-        true_both (is_fieldless s T entries others (slice_get entries number)) (are_fieldless s T entries others 0 xs) (fragment_more (slice_get entries number) both.0) (steps_more 0 xs both.1)
+        let both = and_parts (is_fieldless s T entries none (slice_get entries number)) (are_fieldless s T entries none 0 xs) h in
+        and_from (is_fieldless s T entries others (slice_get entries number)) (are_fieldless s T entries others 0 xs) (fragment_more (slice_get entries number) both.0) (steps_more 0 xs both.1)
     steps_more zero (inline_step on count ∷ xs) h = steps_more (if applies s on T then 0 else count) xs h
 
   module _ (none : ℕ → Bool) where

@@ -1,5 +1,6 @@
 -- The walk over steps collects what selections have, where repeats are left out.
 use Rattle.std.proofs.Common.{◌≡◌, ◌⊎◌, inl, inr, ⊎_elim, ℕ, zero, suc, ◌<◌, ◌≤◌, List, [], ◌∷◌, ◌++◌, map, slice_get, slice_set, get_or, Bool, true, false, true≢false, Option, Some, None, refl, sym, ap, ◌∙◌, subst, append_assoc, append-nil, arith, if◌then◌else◌}
+use Rattle.std.proofs.lemmas.Bool.{and_parts}
 use Rattle.std.proofs.lemmas.List.{map_push}
 use Rattle.std.proofs.lemmas.Option.{same_Some, none-some, slice_get-map, get_or_from_slice_get}
 use Rattle.document_reader.specs.Documents.{no_selection}
@@ -15,7 +16,6 @@ use Rattle.plan_model.proofs.Walking.{none_below_none, not_below_itself, opened}
 use Rattle.collected_fields.specs.Steps.{StepData, field_step, spread_step, inline_step, fields_of_steps, by_number, fields_of_fragment, IsRankedFragment, StepsRanked, LeavesOutUnknown, StandsFor}
 use Rattle.collected_fields.specs.Prepared.{ListData, EntryData, written_of, entry_seen, entry_wanted, ArePrepared, AreListed, AreSound}
 use Rattle.collected_fields.specs.Fieldless.{steps_in, is_fieldless, are_fieldless}
-use Rattle.collected_fields.proofs.FieldlessLaws.{both_true}
 use Rattle.collected_fields.specs.Walks.{field_alone, WalkData, is_marked, marked, kept, IsBlank, steps_left, walk_steps, walk_entry, walk_fragment, walk_lists}
 
 -- ---- lists
@@ -183,7 +183,7 @@ module _ (rank : List ℕ → ℕ) (e : Setting) (T : ℕ) (ranks : FragmentsRan
   steps_give_none spread gives bound (suc n) (x ∷ xs) r h = steps_give_none spread gives bound n xs (ranked_rest e rank bound x xs r) h
   steps_give_none spread gives bound zero (field_step f below ∷ xs) r h = absurd (true≢false (sym h))
   steps_give_none spread gives bound zero (spread_step k ∷ xs) r h =
-      let both = both_true (is_fieldless e.schema T entries none (slice_get entries k)) (are_fieldless e.schema T entries none 0 xs) h in
+      let both = and_parts (is_fieldless e.schema T entries none (slice_get entries k)) (are_fieldless e.schema T entries none 0 xs) h in
       ap (λ (fields : List CollectedField). fields ++ fields_of_steps e.schema T (by_number e spread) 0 xs) (gives bound k r.0 both.0) ∙ steps_give_none spread gives bound 0 xs r.1 both.1
   steps_give_none spread gives bound zero (inline_step on count ∷ xs) r h = steps_give_none spread gives bound (if applies e.schema on T then 0 else count) xs r h
 

@@ -2,6 +2,7 @@
 use Rattle.std.proofs.Common.{◌≡◌, ℕ, Bool, true, false, not, ◌&&◌, ◌||◌, if◌then◌else◌, List, [], ◌∷◌, bytes_eq, Option, Some, None, Result, Ok, Err, refl, sym, ap, ◌∙◌, subst}
 use Rattle.std.specs.Prelude.{option_map}
 use Rattle.std.specs.List.{list_any}
+use Rattle.std.proofs.lemmas.Bool.{not-false}
 use Rattle.std.proofs.lemmas.Slice.Eq.{bytes_eq-Decides}
 use Rattle.cost_num.specs.Capped.{capped}
 use Rattle.response_model.specs.Plan.{Form, single, listed}
@@ -35,10 +36,6 @@ or_parts : (a b : Bool) → a || b ≡ false → (a ≡ false) × (b ≡ false)
 or_parts true b h = absurd (cc)
 or_parts false b h = (refl, h)
 
-not_false : (b : Bool) → not b ≡ false → b ≡ true
-not_false true h = refl
-not_false false h = absurd (cc)
-
 module _ (e : Setting) (T : ℕ) (m : Meaning) where
   -- ---- the tests by the meaning of the name
 
@@ -70,14 +67,14 @@ module _ (e : Setting) (T : ℕ) (m : Meaning) where
     refused_alike [] h = refl
     refused_alike (g ∷ fields) h =
         let parts = or_parts (not (bytes_eq g.call.name name)) (names_not name fields) h in
-        ap (λ a. or_else (option_map refused_argument (refusal_of a)) (first_of (argument_fault e T) fields)) (own_arguments g (not_false (bytes_eq g.call.name name) parts.0))
+        ap (λ a. or_else (option_map refused_argument (refusal_of a)) (first_of (argument_fault e T) fields)) (own_arguments g (not-false (bytes_eq g.call.name name) parts.0))
         ∙ ap (λ o. or_else (refused_by g) o) (refused_alike fields parts.1)
 
     differ_alike : (args : List ArgData) (fields : List CollectedField) → names_not name fields ≡ false → list_any (λ g. not (same_arguments args (if_coerced (arguments_at e T g.call)))) fields ≡ list_any (other_by args) fields
     differ_alike args [] h = refl
     differ_alike args (g ∷ fields) h =
         let parts = or_parts (not (bytes_eq g.call.name name)) (names_not name fields) h in
-        ap (λ a. not (same_arguments args (if_coerced a)) || list_any (λ g. not (same_arguments args (if_coerced (arguments_at e T g.call)))) fields) (own_arguments g (not_false (bytes_eq g.call.name name) parts.0))
+        ap (λ a. not (same_arguments args (if_coerced a)) || list_any (λ g. not (same_arguments args (if_coerced (arguments_at e T g.call)))) fields) (own_arguments g (not-false (bytes_eq g.call.name name) parts.0))
         ∙ ap (λ b. other_by args g || b) (differ_alike args fields parts.1)
 
   module _ (f : CollectedField) (means : meaning_at e T f.call ≡ m) where

@@ -2,7 +2,7 @@
 use Rattle.std.proofs.Common.{◌≡◌, ◌⊎◌, inl, inr, ⊎_elim, ℕ, zero, suc, ◌+◌, List, [], ◌∷◌, ◌++◌, map, drop, get_or, length, Bool, true, false, not, true≢false, ◌||◌, eqb-true, Option, Some, None, refl, sym, ap, ◌∙◌, subst}
 use Rattle.std.specs.Prelude.{nat_eq, if◌then◌else◌}
 use Rattle.std.specs.List.{list_any, list_all}
-use Rattle.std.proofs.lemmas.Bool.{cases_Bool, not-false}
+use Rattle.std.proofs.lemmas.Bool.{cases_Bool, not-false, or_parts}
 use Rattle.std.proofs.lemmas.List.{append_assoc}
 use Rattle.std.proofs.lemmas.Option.{none-some, same_Some}
 use Rattle.input_values.specs.coercion.Forms.{InputForm}
@@ -25,7 +25,6 @@ use Rattle.cost_directives.proofs.PlainDrafts.{IsPlain}
 use Rattle.cost_directives.proofs.Implemented.{kept_field}
 use Rattle.document_rules.specs.Sites.{type_of_field}
 use Rattle.sent_replies.specs.Interfaces.{Implements, IsMember, IsNarrower, HasField}
-use Rattle.sent_replies.proofs.Ends.{neither_of}
 
 -- ---- only unions have members, and they have neither fields nor interfaces
 
@@ -91,7 +90,7 @@ unlacked false place of field none = refl
 none_passes : (test : ℕ → Bool) (ns : List ℕ) (n : ℕ) → list_any test ns ≡ false → list_any (nat_eq n) ns ≡ true → test n ≡ false
 none_passes test [] n none among = absurd (true≢false (sym among))
 none_passes test (m ∷ ns) n none among =
-    let apart = neither_of (test m) (list_any test ns) none in
+    let apart = or_parts (test m) (list_any test ns) none in
     ⊎_elim
     (λ (here : nat_eq n m ≡ true). ap test (eqb-true n m here) ∙ apart.0)
     (λ (later : nat_eq n m ≡ false). none_passes test ns n apart.1 (sym (ap (λ (b : Bool). b || list_any (nat_eq n) ns) later) ∙ among))

@@ -2,7 +2,7 @@
 use Rattle.std.proofs.Common.{◌≡◌, ⊎_elim, ℕ, zero, suc, List, [], ◌∷◌, map, Bool, true, false, true≢false, ◌||◌, bytes_eq, Option, refl, sym, ap, ◌∙◌, subst}
 use Rattle.std.specs.Prelude.{find, if◌then◌else◌}
 use Rattle.std.specs.List.{list_any}
-use Rattle.std.proofs.lemmas.Bool.{cases_Bool, or_right}
+use Rattle.std.proofs.lemmas.Bool.{cases_Bool, or_right, or_parts}
 use Rattle.std.proofs.lemmas.List.Folds.{list_any-append}
 use Rattle.std.proofs.lemmas.Slice.Eq.{bytes_eq-Decides}
 use Rattle.document_reader.specs.Documents.{SelectionTree, field_selection, fragment_spread, inline_fragment, SelectionTrees, no_selection, selection_then}
@@ -16,10 +16,6 @@ use Rattle.stripped_responses.specs.Stripping.{IsFreeOne, IsFree, AreFree, AreFr
 use Rattle.stripped_responses.proofs.RewrittenFields.{Each, each_append, each_where, e'}
 use Rattle.stripped_responses.proofs.RewrittenKeys.{symmetric}
 use Rattle.sent_replies.specs.Asking.{MarkedSelections, is_marked, written_of, CanBeEnded, sent_of, IsSentAsking}
-
-pub neither_of : (b c : Bool) → (b || c) ≡ false → (b ≡ false) × (c ≡ false)
-neither_of true c h = absurd (true≢false h)
-neither_of false c h = (refl, h)
 
 module _ (alias : List ℕ) where
   -- a field and a key that aren't the alias
@@ -137,7 +133,7 @@ module _ (alias : List ℕ) (e : Setting) where
       unasked_own : (marked : List MarkedSelections) → AreFragmentsFree alias e.fragments → AreFree alias (map written_of marked) → list_any is_marked marked ≡ false → Each (HasOwnKey alias) (sent_fields marked)
       unasked_own [] fragments free asks = tt
       unasked_own (m ∷ marked) fragments free asks =
-          let none : (m.0 ≡ false) × (list_any is_marked marked ≡ false) = neither_of m.0 (list_any is_marked marked) asks in
+          let none : (m.0 ≡ false) × (list_any is_marked marked ≡ false) = or_parts m.0 (list_any is_marked marked) asks in
           each_append (HasOwnKey alias) (fields_sent m) (sent_fields marked)
           (subst (λ (xs : SelectionTrees). Each (HasOwnKey alias) (fields_in w T (fields_spread w T depth) m.1.0 xs)) (unmarked m.0 (rewritten_selections e.schema alias m.1.0 m.1.1) none.0)
           (own_all (fields_spread w T depth) m.1.0 m.1.1 (λ name. own_spread depth name fragments) free.0))

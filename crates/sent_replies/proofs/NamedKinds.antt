@@ -2,7 +2,7 @@
 use Rattle.std.proofs.Common.{◌≡◌, ⊎_elim, ℕ, zero, suc, ◌+◌, ◌<◌, List, [], ◌∷◌, ◌++◌, map, flat_map, drop, get_or, length, Bool, true, false, not, true≢false, ◌||◌, eqb-true, bytes_eq, Option, Some, None, refl, sym, ap, ◌∙◌, subst, append_assoc, append-nil, arith}
 use Rattle.std.specs.Prelude.{nat_eq, codes, if◌then◌else◌}
 use Rattle.std.specs.List.{list_any}
-use Rattle.std.proofs.lemmas.Bool.{cases_Bool, not-false}
+use Rattle.std.proofs.lemmas.Bool.{cases_Bool, not-false, or_parts}
 use Rattle.std.proofs.lemmas.List.{get_or-map, length-map, map-append, drop_at}
 use Rattle.gql_base.specs.names.Names.{has_name}
 use Rattle.gql_base.specs.parts.Arguments.{DirectiveTree}
@@ -23,7 +23,6 @@ use Rattle.schema_model.specs.Schemas.{types_from, no_type}
 use Rattle.cost_directives.proofs.FirstsFound.{Standing, standing, never}
 use Rattle.document_rules.proofs.Lists.{first_of_append}
 use Rattle.stripped_responses.proofs.RewrittenFields.{Each, each_append}
-use Rattle.sent_replies.proofs.Ends.{neither_of}
 
 in_each : (P : ℕ → Type 0) (ns : List ℕ) (n : ℕ) → Each P ns → list_any (nat_eq n) ns ≡ true → P n
 in_each P [] n each among = absurd (true≢false (sym among))
@@ -130,7 +129,7 @@ module _ (types : List NamedKind) (has : Bool) where
   named_interfaces of [] none = tt
   named_interfaces of (n ∷ names) none =
       let apart = neither (wrong_at types has (interface_item of n)) (first_of (wrong_at types has) (map (interface_item of) names)) none in
-      let right = neither_of (not (is_interface (kind_named types n))) (bytes_eq n of) (not_told (is_wrong types has (interface_item of n)) (place_of (interface_item of n)) apart.0) in
+      let right = or_parts (not (is_interface (kind_named types n))) (bytes_eq n of) (not_told (is_wrong types has (interface_item of n)) (place_of (interface_item of n)) apart.0) in
       ((n, refl, not-false (is_interface (kind_named types n)) right.0), named_interfaces of names apart.1)
 
   abbrev AreOfInterfaces : List TypeDraft → Type 0

@@ -2,7 +2,7 @@
 use Rattle.std.proofs.Common.{◌≡◌, ◌⊎◌, inl, inr, ⊎_elim, ℕ, zero, suc, List, [], ◌∷◌, map, flat_map, Bool, true, false, not, true≢false, ◌||◌, eqb, eq-eqb, bytes_eq, Option, Some, None, refl, sym, ap, ◌∙◌, subst}
 use Rattle.std.specs.Prelude.{if◌then◌else◌}
 use Rattle.std.specs.List.{list_any}
-use Rattle.std.proofs.lemmas.Bool.{cases_Bool, or_right, not-false}
+use Rattle.std.proofs.lemmas.Bool.{cases_Bool, or_right, not-false, or_parts}
 use Rattle.std.proofs.lemmas.Option.{same_Some}
 use Rattle.std.proofs.lemmas.Slice.Eq.{bytes_eq-Decides}
 use Rattle.response_model.specs.Plan.{Plan}
@@ -20,7 +20,6 @@ use Rattle.plan_model.proofs.FaultlessPlans.{NoFault, none_in_front, none_behind
 use Rattle.stripped_responses.proofs.RewrittenFields.{Each}
 use Rattle.sent_replies.specs.Asking.{HasOneType, TellsType, TellsTypes, BelowTypesTell, BelowNodesTell}
 use Rattle.sent_replies.specs.Interfaces.{IsNarrower, HasField, KeepsInterfaces}
-use Rattle.sent_replies.proofs.Ends.{neither_of}
 use Rattle.sent_replies.proofs.PossibleTypes.{HasNoSecond, possible_applies}
 use Rattle.sent_replies.proofs.Placed.{FragmentsKnown, StandAt, AllStandAt, FieldStands, stands_wider, composite_wider, object_is_narrowest, own_field, under_stands}
 
@@ -55,7 +54,7 @@ HasName name f = f.call.name ≡ name
 all_named : (name : List ℕ) (fs : List CollectedField) → list_any (λ f. not (bytes_eq f.call.name name)) fs ≡ false → Each (HasName name) fs
 all_named name [] none = tt
 all_named name (f ∷ fs) none =
-    let both = neither_of (not (bytes_eq f.call.name name)) (list_any (λ g. not (bytes_eq g.call.name name)) fs) none in
+    let both = or_parts (not (bytes_eq f.call.name name)) (list_any (λ g. not (bytes_eq g.call.name name)) fs) none in
     ((bytes_eq-Decides f.call.name name).0 (not-false (bytes_eq f.call.name name) both.0), all_named name fs both.1)
 
 module _ (e : Setting) where
@@ -159,7 +158,7 @@ module _ (e : Setting) where
     node_alone [] first stands named = absurd first
     node_alone (f ∷ fs) first stands named = λ unasked. ⊎_elim
         (λ (none : HoldsNone T f.call.name). subst HasNoSecond (sym none) tt)
-        (λ (h : HoldsObjects T f.call.name). subst (λ (place : Place). HasNoSecond (types_of place)) (sym h.place) (unasked_alone f f.call.name h stands.0 refl (neither_of (asks e f) (list_any (asks e) fs) unasked).0))
+        (λ (h : HoldsObjects T f.call.name). subst (λ (place : Place). HasNoSecond (types_of place)) (sym h.place) (unasked_alone f f.call.name h stands.0 refl (or_parts (asks e f) (list_any (asks e) fs) unasked).0))
         (held T f.call.name)
 
     node_there : (fs : List CollectedField) → HasFirst fs → Each (FieldStands s T) fs → Each (HasName (first_call fs).name) fs → AreThere (place_by fs) (position_below e T fs)

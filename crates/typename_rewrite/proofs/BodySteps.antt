@@ -1,6 +1,7 @@
 -- The pieces of the body, one after another.
-use Rattle.std.proofs.Common.{ℕ, ◌≡◌, ◌||◌, Bool, true, false, List, [], ◌∷◌, ◌++◌, Option, None, Some, refl, sym, ap, ◌∙◌, subst, append_assoc}
+use Rattle.std.proofs.Common.{ℕ, ◌≡◌, Bool, true, false, List, [], ◌∷◌, ◌++◌, Option, None, Some, refl, sym, ap, ◌∙◌, subst, append_assoc}
 use Rattle.std.specs.Prelude.{codes, if◌then◌else◌}
+use Rattle.std.proofs.lemmas.Bool.{or_parts}
 use Rattle.serde_json.specs.Data.{Data, string, object, Members, no_members, member}
 use Rattle.serde_json.specs.Written.{has_float, members_have_float, compact_text, members_text, comma_if}
 use Rattle.gql_base.specs.ways.Reading.{Identifier}
@@ -13,10 +14,6 @@ MembersLeft whole left start now later = members_have_float whole ≡ false → 
 
 pub members_begun : (whole : Members) (start now : List ℕ) → now ≡ start ++ codes "{" → MembersLeft whole whole start now false
 members_begun whole start now e floatless = (floatless, ap (λ l. l ++ members_text false whole) e ∙ append_assoc start (codes "{") (members_text false whole))
-
-neither : (a b : Bool) → (a || b) ≡ false → (a ≡ false) × (b ≡ false)
-neither true b e = cc
-neither false b e = (refl, e)
 
 pub member_left_out : (keeps : List ℕ → Bool) (whole : Members) (key : List ℕ) (d : Data) (left : Members) (start now : List ℕ) (later : Bool) → keeps key ≡ false
     → MembersLeft whole (members_where keeps (member key d left)) start now later → MembersLeft whole (members_where keeps left) start now later
@@ -36,7 +33,7 @@ member_written keeps whole key d left start now new later stays grown m floatles
     let rest = members_where keeps left in
     let same : members_where keeps (member key d left) ≡ member key d rest = rw (stays) refl in
     let before = subst (λ ms. MembersLeft whole ms start now later) same m floatless in
-    let parts = neither (has_float d) (members_have_float rest) before.0 in
+    let parts = or_parts (has_float d) (members_have_float rest) before.0 in
     (parts.1, ap (λ l. l ++ members_text true rest) (grown parts.0) ∙ (regrouped now (comma_if later) (compact_text (string key)) (compact_text d) (members_text true rest) ∙ before.1))
 
 pub members_ended : (whole : Members) (start now new : List ℕ) (later : Bool) → new ≡ now ++ codes "}" → MembersLeft whole no_members start now later → members_have_float whole ≡ false → new ≡ start ++ compact_text (object whole)
@@ -81,5 +78,5 @@ members_alike f g no_members same = refl
 members_alike f g (member name d ms) same = ap (λ b. if b then member name d (members_where f ms) else members_where f ms) (same name) ∙ ap (λ l. if g name then member name d l else l) (members_alike f g ms same)
 
 pub variables_floatless : (name : Option Identifier) (document : List ℕ) (variables : Members) → has_float (body_with name document variables) ≡ false → has_float (object variables) ≡ false
-variables_floatless None document variables e = (neither (members_have_float variables) false e).0
-variables_floatless (Some name) document variables e = (neither (members_have_float variables) false e).0
+variables_floatless None document variables e = (or_parts (members_have_float variables) false e).0
+variables_floatless (Some name) document variables e = (or_parts (members_have_float variables) false e).0
