@@ -5,10 +5,9 @@ use Rattle.cost_num.specs.declared.Cost.{Cost}
 use Rattle.cost_num.specs.CostText.{cost_text}
 use Rattle.response_model.specs.Errors.{pathless}
 use Rattle.response_model.specs.ResponseText.{response_text}
-use Rattle.response_meter.specs.declared.fault.Why.{Why}
-use Rattle.response_meter.specs.declared.fault.Why.TheVariants as why
 use Rattle.response_meter.specs.declared.fault.MeterFault.{MeterFault}
 use Rattle.response_meter.specs.declared.fault.MeterFault.TheVariants as meter
+use Rattle.response_meter.specs.Faults.{why_name}
 use Rattle.upstream_link.specs.declared.fault.LinkFault.{LinkFault}
 use Rattle.upstream_link.specs.declared.fault.LinkFault.TheVariants as link
 use Rattle.request_bodies.specs.FaultTexts.{fault_text}
@@ -57,20 +56,6 @@ link_text link.BadChunk = codes "BAD_UPSTREAM 7 BadChunk"
 link_text link.Memory = no_memory_text
 
 -- ---- what is wrong with the upstream's reply
-
--- the name of a test that a reply doesn't pass
-abbrev pub why_name : Why → List ℕ
-why_name why.NotJson = codes "NotJson"
-why_name why.NotObject = codes "NotObject"
-why_name why.NoData = codes "NoData"
-why_name why.BadErrors = codes "BadErrors"
-why_name why.MissingKey = codes "MissingKey"
-why_name why.ExtraKey = codes "ExtraKey"
-why_name why.NullHere = codes "NullHere"
-why_name why.NotList = codes "NotList"
-why_name why.BadLeaf = codes "BadLeaf"
-why_name why.BadType = codes "BadType"
-why_name why.BadObject = codes "BadObject"
 
 abbrev pub reply_text : MeterFault → List ℕ
 reply_text (meter.NotResponse path reason) = codes "NOT_RESPONSE " ++ (path ++ (32 ∷ why_name reason))

@@ -5,7 +5,7 @@ ghost use Rattle.std.specs.Fmt.{decimal};
 ghost use Rattle.cost_num.specs.Within.{Within};
 ghost use Rattle.cost_num.specs.CostText.{cost_text};
 ghost use Rattle.gateway_core.specs.Rules.{greatest};
-ghost use Rattle.gateway_core.specs.Messages.{message_body, denial_status, denial_text, link_status, link_text, why_name, reply_text};
+ghost use Rattle.gateway_core.specs.Messages.{message_body, denial_status, denial_text, link_status, link_text, reply_text};
 ghost use Rattle.gateway_core.specs.Begins.{HasCostsWithin};
 
 use crate::beginning::Denial;
@@ -13,7 +13,7 @@ use acceptance::refusal_text;
 use cost_num::{Cost, cost_bytes};
 use gql_base::Text;
 use request_bodies::fault_text;
-use response_meter::{MeterFault, Why};
+use response_meter::{MeterFault, Why, why_name};
 use response_model::write_error_response;
 use std::alloc::{AllocError, Global};
 use upstream_link::LinkFault;
@@ -132,25 +132,6 @@ pub(crate) fn link_message(alloc: Global, fault: LinkFault) -> Result<Text, Allo
         LinkFault::Memory => "NO_MEMORY",
     };
     Text::copy_of(alloc, message)
-}
-
-// The name of a test that a reply doesn't pass.
-fn why_name(why: Why) -> &'static str
-    ensures { result.now ≡ why_name why }
-{
-    match why {
-        Why::NotJson => "NotJson",
-        Why::NotObject => "NotObject",
-        Why::NoData => "NoData",
-        Why::BadErrors => "BadErrors",
-        Why::MissingKey => "MissingKey",
-        Why::ExtraKey => "ExtraKey",
-        Why::NullHere => "NullHere",
-        Why::NotList => "NotList",
-        Why::BadLeaf => "BadLeaf",
-        Why::BadType => "BadType",
-        Why::BadObject => "BadObject",
-    }
 }
 
 /// The message of a reply that is no response.

@@ -1,8 +1,23 @@
 -- What is wrong with a reply, and where.
-use Rattle.std.specs.Prelude.{ℕ, ◌≡◌, List, [], ◌∷◌, ◌++◌, Bool, true, false, decimal, Option, Some, None, option_map}
+use Rattle.std.specs.Prelude.{ℕ, ◌≡◌, List, [], ◌∷◌, ◌++◌, Bool, true, false, decimal, Option, Some, None, option_map, codes}
 use Rattle.response_meter.specs.declared.fault.Why.{Why}
+use Rattle.response_meter.specs.declared.fault.Why.TheVariants.{NotJson, NotObject, NoData, BadErrors, MissingKey, ExtraKey, NullHere, NotList, BadLeaf, BadType, BadObject}
 use Rattle.response_meter.specs.declared.fault.MeterFault.{MeterFault}
 use Rattle.response_meter.specs.declared.fault.MeterFault.TheVariants.{NotResponse, SizeBroken, Memory}
+
+-- the name of a test that a reply doesn't pass
+abbrev pub why_name : Why → List ℕ
+why_name NotJson = codes "NotJson"
+why_name NotObject = codes "NotObject"
+why_name NoData = codes "NoData"
+why_name BadErrors = codes "BadErrors"
+why_name MissingKey = codes "MissingKey"
+why_name ExtraKey = codes "ExtraKey"
+why_name NullHere = codes "NullHere"
+why_name NotList = codes "NotList"
+why_name BadLeaf = codes "BadLeaf"
+why_name BadType = codes "BadType"
+why_name BadObject = codes "BadObject"
 
 -- A fault has a path: the place that the test stood at, seen from the place that is spoken of.
 -- Either the value is no response there, or the list there has more items than its declared size.

@@ -1,7 +1,7 @@
 //! Why a reply is not measured.
 
 ghost use Rattle.std.specs.Prelude.{◌≡◌, ◌++◌, [], Option, Some, IfOk};
-ghost use Rattle.response_meter.specs.Faults.{Fault, not_response as refused, size_broken as broken, Tells, at_step, key_step, item_step};
+ghost use Rattle.response_meter.specs.Faults.{Fault, not_response as refused, size_broken as broken, Tells, at_step, key_step, item_step, why_name};
 
 use gql_base::Text;
 use std::alloc::{AllocError, Global};
@@ -44,6 +44,25 @@ pub enum Why {
     /// An object is due, and another value stands there.
     #[error("an object is due")]
     BadObject = 11,
+}
+
+/// The name of a test that a reply does not pass.
+pub fn why_name(why: Why) -> &'static str
+    ensures { result.now ≡ why_name why }
+{
+    match why {
+        Why::NotJson => "NotJson",
+        Why::NotObject => "NotObject",
+        Why::NoData => "NoData",
+        Why::BadErrors => "BadErrors",
+        Why::MissingKey => "MissingKey",
+        Why::ExtraKey => "ExtraKey",
+        Why::NullHere => "NullHere",
+        Why::NotList => "NotList",
+        Why::BadLeaf => "BadLeaf",
+        Why::BadType => "BadType",
+        Why::BadObject => "BadObject",
+    }
 }
 
 /// Why a reply is not measured.

@@ -15,6 +15,6 @@ mod readings;
 mod types;
 mod walk;
 
-pub use fault::{MeterFault, Why};
+pub use fault::{MeterFault, Why, why_name};
 pub use measuring::meter;
 pub use metered::{Metered, print_answer};
