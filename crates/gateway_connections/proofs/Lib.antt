@@ -2,3 +2,4 @@ pub mod Growing
 pub mod Going
 pub mod WrittenReplies
 pub mod OneExchange
+pub mod GateLemmas

@@ -3,3 +3,5 @@ pub mod Replies
 pub mod Exchanges
 pub mod Connections
 pub mod Serving
+-- What is passed on.
+pub mod Decisions

@@ -11,6 +11,7 @@ mod turn;
 
 pub use ending::{ConnectionEnd, EXCHANGE_LIMIT, Served};
 pub use exchanging::exchange;
+pub use gateway_core::{Gate, Settings, Totals, close};
 pub use reply::Reply;
 pub use serving::serve_connection;
 pub use sharing::replies_are_shared;

@@ -6,3 +6,4 @@ pub mod CappedAccounts
 pub mod OneOutcome
 pub mod OneAnswer
 pub mod SharedGates
+pub mod FreshAccounts

@@ -2,6 +2,7 @@
 -- messages.
 pub mod Rules
 pub mod Gates
+pub mod Fresh
 pub mod Requests
 pub mod PlanBounds
 pub mod Grants

@@ -12,6 +12,7 @@ use Rattle.client_files.specs.declared.client.Client.{Client}
 use Rattle.replay_scripts.specs.Steps.{StepData}
 use Rattle.replay_scripts.specs.Scripts.{AreStepLines, IsScript}
 use Rattle.gateway_core.specs.Rules.{Rules, client_limit}
+use Rattle.gateway_core.proofs.FreshAccounts.{fresh_at}
 use Rattle.gateway_replay.specs.declared.replayed.Replayed.{Replayed}
 use Rattle.gateway_replay.specs.Replays.{all_calls, IsReportOf, Replays, AreFresh, ReplaysFresh, IsOverFresh}
 
@@ -32,12 +33,6 @@ goes_on_alone limit before now name made client calls unnamed unmade fresh g =
     mine : IsLegal limit (entries_for client name made calls)
     mine = subst (λ l. IsLegal l (entries_for client name made calls)) (g.limit ∙ ap (λ (v : View). v.limit) fresh) (subst (IsLegal now.limit) seen legal)
 
--- the first view of the client at a place
-fresh_at : (rules : Rules) (p : PassesView) (client : ℕ) (d : Client) → AreFresh rules p → client < length rules.clients → client_at p client ≡ first_view (client_limit (get_or rules.clients client d))
-fresh_at rules p client d fresh low = ap (λ views. get_or views client no_view) fresh.clients
-    ∙ (get_or-map first_view (map client_limit rules.clients) client (client_limit d) no_view (subst (λ n. client < n) (sym (length-map rules.clients client_limit)) low)
-    ∙ ap first_view (get_or-map client_limit rules.clients client d (client_limit d) low))
-
 pub over_fresh : (rules : Rules) (before now : PassesView) (script : List StepData) (report : Replayed) → AreFresh rules before → (replay : Replays rules before script report now) → IsOverFresh replay
 over_fresh rules before now script report fresh replay = (
   record {
@@ -48,10 +43,6 @@ over_fresh rules before now script report fresh replay = (
   },
   refl,
 )
-
-pub fresh_idle : (rules : Rules) (p : PassesView) → AreFresh rules p → IsIdle p
-fresh_idle rules p fresh client low = ap (λ (v : View). open_grants v.own) (ap (λ views. get_or views client no_view) fresh.clients
-    ∙ get_or-map first_view (map client_limit rules.clients) client no_limit no_view (subst (λ n. client < n) (ap length fresh.clients ∙ length-map (map client_limit rules.clients) first_view) low))
 
 -- lines that spell steps are as many as the steps
 pub as_many : (lines : List (List ℕ)) (steps : List StepData) → AreStepLines lines steps → length steps ≡ length lines

@@ -1,12 +1,12 @@
 -- Whole replays.
 use Rattle.std.specs.Prelude.{◌≡◌, ℕ, ◌<◌, List, [], ◌++◌, map, length, get_or, flat_map}
 use Rattle.account_core.specs.History.{IsLegal}
-use Rattle.account_cells.specs.Views.{first_view}
-use Rattle.account_shared.specs.Views.{PassesView, first_label}
+use Rattle.account_shared.specs.Views.{PassesView}
 use Rattle.account_shared.specs.Gains.{ClientCall, entries_for, Gains}
 use Rattle.client_files.specs.declared.client.Client.{Client}
 use Rattle.replay_scripts.specs.Steps.{StepData}
 use Rattle.gateway_core.specs.Rules.{Rules, client_limit}
+pub use Rattle.gateway_core.specs.Fresh.{AreFresh}
 use Rattle.gateway_replay.specs.declared.replayed.Replayed.{Replayed}
 use Rattle.gateway_replay.specs.Turns.{Turn, step_of, calls_of, Runs, opens_after, abandoning}
 use Rattle.gateway_replay.specs.Lines.{all_lines, Reports}
@@ -39,12 +39,6 @@ pub record Stops (rules : Rules) (before : PassesView) (script : List StepData) 
 -- whatever was called
 abbrev pub Called : PassesView → PassesView → Type 0
 Called before now = (calls : List ClientCall) × Gains before now calls
-
--- the first passes to fresh accounts of the clients: through them no call was made, and they were never split
-pub record AreFresh (rules : Rules) (p : PassesView) : Type 0 where
-  pub made : p.made ≡ 0
-  pub label : p.label ≡ first_label
-  pub clients : p.clients ≡ map first_view (map client_limit rules.clients)
 
 -- The report of a script over fresh accounts: the calls of its turns are, client by client, a legal history from its beginning
 -- on. So each request is granted or short just as its client's account tells.

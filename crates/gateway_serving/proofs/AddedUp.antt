@@ -3,7 +3,7 @@ use Rattle.std.proofs.Common.{◌≡◌, ℕ, ◌+◌, ◌*◌, Bool, true, fals
 use Rattle.std.proofs.lemmas.Bool.{lt-ltb}
 use Rattle.std.specs.List.{list_any}
 use Rattle.doors.specs.Starts.{Stopped}
-use Rattle.gateway_connections.specs.Exchanges.{Service}
+use Rattle.gateway_workers.specs.Decisions.{Service}
 use Rattle.gateway_workers.specs.Tours.{Tour, one_if, connections_of, faults_of}
 use Rattle.gateway_serving.specs.declared.ending.ServeEnd.{ServeEnd}
 use Rattle.gateway_serving.specs.StoppedTours.{HaveToured, given_by}

@@ -3,7 +3,7 @@ use Rattle.std.proofs.Common.{◌≡◌, ℕ, ◌<◌, List, ◌++◌, Option, S
 use Rattle.std.proofs.lemmas.List.{length-map}
 use Rattle.account_shared.specs.Views.{PassesView, AccountsView, ClosesTo, client_at, account_seen}
 use Rattle.doors.specs.Starts.{DoorMembers, IsNew, Asked, Stopped, connections_of, stopped_by}
-use Rattle.gateway_connections.specs.Exchanges.{Service}
+use Rattle.gateway_workers.specs.Decisions.{Service}
 use Rattle.gateway_workers.specs.Workers.{Serves}
 use Rattle.gateway_workers.proofs.Lists.{at_place, each_place}
 use Rattle.gateway_serving.specs.declared.asked.Serving.{Serving}

@@ -11,21 +11,13 @@ use Rattle.account_cells.specs.Outcomes.{SeesEnded, SeesCallers}
 use Rattle.account_shared.specs.Views.{Label, PassesView, AccountsView, Belongs, KnowsClient, IsIdle, ClosesTo, limit_of, client_at, account_seen}
 use Rattle.account_shared.specs.Gains.{entries_for}
 use Rattle.client_files.specs.declared.client.Client.{Client}
-use Rattle.gateway_core.specs.Rules.{Rules, client_limit}
-use Rattle.gateway_replay.specs.Replays.{AreFresh}
+use Rattle.gateway_workers.specs.Decisions.{Rules, client_limit, AreFresh}
+use Rattle.gateway_workers.proofs.FreshAccounts.{fresh_at, fresh_count}
 use Rattle.gateway_workers.specs.Tours.{Tour, calls_in}
 use Rattle.gateway_workers.specs.Joins.{ended_by, HasJoined, JoinTours}
 use Rattle.gateway_serving.specs.Histories.{IsHistoryOf, AreAccountsAfter}
 
 -- ---- fresh passes
-
-fresh_count : (rules : Rules) (p : PassesView) → AreFresh rules p → length p.clients ≡ length rules.clients
-fresh_count rules p fresh = ap length fresh.clients ∙ (length-map (map client_limit rules.clients) first_view ∙ length-map rules.clients client_limit)
-
-fresh_at : (rules : Rules) (p : PassesView) (client : ℕ) (c : Client) → AreFresh rules p → client < length rules.clients → client_at p client ≡ first_view (client_limit (get_or rules.clients client c))
-fresh_at rules p client c fresh low = ap (λ views. get_or views client no_view) fresh.clients
-    ∙ (get_or-map first_view (map client_limit rules.clients) client (client_limit c) no_view (subst (λ n. client < n) (sym (length-map rules.clients client_limit)) low)
-    ∙ ap first_view (get_or-map client_limit rules.clients client c (client_limit c) low))
 
 fresh_any : (rules : Rules) (p : PassesView) (client : ℕ) → AreFresh rules p → client < length rules.clients → client_at p client ≡ first_view (get_or (map client_limit rules.clients) client no_limit)
 fresh_any rules p client fresh low = ap (λ views. get_or views client no_view) fresh.clients

@@ -6,7 +6,7 @@ use Rattle.std.specs.List.{AllByRecursion}
 use Rattle.outside.specs.Faults.{Rose}
 use Rattle.doors.specs.Visits.{Visit, Gained, HasNoVisit}
 use Rattle.doors.specs.Starts.{DoorMembers, IsNew, stopped_by}
-use Rattle.gateway_connections.specs.Exchanges.{Service}
+use Rattle.gateway_workers.specs.Decisions.{Service}
 use Rattle.gateway_workers.specs.Tours.{Tour, visits_of, IsTour, AreTours}
 use Rattle.gateway_serving.specs.StoppedTours.{HasToured, HaveToured, IsUnused}
 

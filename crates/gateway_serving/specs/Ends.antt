@@ -2,7 +2,7 @@
 use Rattle.std.specs.Prelude.{◌≡◌, ◌⊎◌, ℕ, List, length, Result, Ok, Err, All}
 use Rattle.outside.specs.Faults.{Rose}
 use Rattle.doors.specs.Starts.{Stopped}
-use Rattle.gateway_connections.specs.Exchanges.{Service}
+use Rattle.gateway_workers.specs.Decisions.{Service}
 use Rattle.gateway_workers.specs.Tours.{Tour, connections_of, replies_of, faults_of}
 use Rattle.gateway_serving.specs.declared.asked.Serving.{Serving}
 use Rattle.gateway_serving.specs.declared.ending.ServeEnd.{ServeEnd}

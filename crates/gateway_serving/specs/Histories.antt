@@ -8,7 +8,7 @@ use Rattle.account_core.specs.History.{IsLegal, entries_by, state_after}
 use Rattle.account_core.specs.Sums.{KeepsAllowance}
 use Rattle.account_shared.specs.Gains.{entries_for}
 use Rattle.client_files.specs.declared.client.Client.{Client}
-use Rattle.gateway_core.specs.Rules.{client_limit}
+use Rattle.gateway_workers.specs.Decisions.{client_limit}
 use Rattle.gateway_workers.specs.Tours.{Tour, calls_in}
 
 -- It is legal, and keeps to the allowance at every moment and in every window. The callers are the doors, whose names count

@@ -3,3 +3,5 @@ pub mod Telling
 pub mod StoppedTours
 pub mod Histories
 pub mod Ends
+-- What is passed on.
+pub mod Decisions

@@ -1,7 +1,7 @@
 -- Doors that were stopped, and the connections that each of them gave.
 use Rattle.std.specs.Prelude.{◌≡◌, ℕ, ◌+◌, List, [], ◌∷◌, length, false, IfSome, ⊤}
 use Rattle.doors.specs.Starts.{Stopped}
-use Rattle.gateway_connections.specs.Exchanges.{Service}
+use Rattle.gateway_workers.specs.Decisions.{Service}
 use Rattle.gateway_workers.specs.Tours.{Tour, AreRuns, visits_of}
 
 -- A door that was to give so many connections, and gave those of this tour: it tells their visits, where it tells any, and their

@@ -1,7 +1,6 @@
 //! What serving comes to.
 
-use gateway_core::Totals;
-use gateway_workers::WorkDone;
+use gateway_workers::{Totals, WorkDone};
 use thiserror::Error;
 
 /// What the workers did, and the accounts after it.

@@ -3,7 +3,7 @@
 ghost use Rattle.std.specs.Prelude.{◌≡◌, ◌*◌, ℕ, List, nat_lt};
 ghost use Rattle.std.specs.List.{list_any};
 ghost use Rattle.doors.specs.Starts.{Stopped};
-ghost use Rattle.gateway_connections.specs.Exchanges.{Service};
+ghost use Rattle.gateway_workers.specs.Decisions.{Service};
 ghost use Rattle.gateway_serving.specs.declared.ending.ServeEnd as end_type;
 ghost use Rattle.gateway_serving.specs.StoppedTours.{given_by};
 ghost use Rattle.gateway_serving.specs.Ends.{EndsServing};

@@ -10,6 +10,7 @@ mod sharing;
 
 pub use asked::Serving;
 pub use ending::{ServeEnd, ServeFault};
+pub use gateway_workers::{Gate, Settings, Totals};
 pub use laws::{
     calm_ends_are_whole, connections_are_those_of_the_doors, faults_are_those_of_the_doors,
 };

@@ -4,4 +4,4 @@ pub mod Sums
 pub mod Splits
 pub mod Returns
 pub mod AllTours
-pub mod Shared
+pub mod FreshAccounts

@@ -3,3 +3,5 @@ pub mod Tours
 pub mod Joins
 pub mod Workers
 pub mod Whole
+-- What is passed on.
+pub mod Decisions

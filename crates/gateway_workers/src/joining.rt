@@ -5,7 +5,7 @@ ghost use Rattle.account_shared.specs.Views.{Belongs, IsIdle};
 ghost use Rattle.gateway_workers.specs.Joins.{SplitsTo, JoinsAll};
 
 use account_shared::Passes;
-use gateway_core::Gate;
+use gateway_connections::Gate;
 use std::alloc::{AllocError, Global};
 use std::sync::Wait;
 

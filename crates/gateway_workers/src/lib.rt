@@ -9,6 +9,7 @@ mod work_done;
 mod worker;
 mod working;
 
+pub use gateway_connections::{Gate, Settings, Totals, close};
 pub use laws::doors_that_do_not_fail_are_served_whole;
 pub use serving::{WORKER_LIMIT, serve_workers};
 pub use work_done::WorkDone;

@@ -13,7 +13,7 @@ use crate::worker::Worker;
 use crate::working::{CONNECTION_LIMIT, work};
 use account_shared::Passes;
 use doors::Door;
-use gateway_core::Gate;
+use gateway_connections::Gate;
 use std::alloc::{AllocError, Global};
 use std::sync::Wait;
 use std::thread::{Threads, for_each_mut};

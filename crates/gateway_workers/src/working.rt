@@ -7,8 +7,7 @@ ghost use Rattle.gateway_workers.specs.Workers.{members, TurnIs, Waits, Worked};
 
 use crate::worker::{Next, Worker};
 use doors::{Door, DoorFault};
-use gateway_connections::serve_connection;
-use gateway_core::Gate;
+use gateway_connections::{Gate, serve_connection};
 use std::alloc::Global;
 use std::sync::Wait;
 

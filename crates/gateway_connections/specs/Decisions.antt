@@ -1,0 +1,4 @@
+-- Words of the decision on requests, passed on to whoever stands on connections.
+pub use Rattle.gateway_core.specs.Rules.{Rules, rules_with, client_limit, HasWeights}
+pub use Rattle.gateway_core.specs.Gates.{rules_of}
+pub use Rattle.gateway_core.specs.Fresh.{AreFresh}

@@ -1,0 +1,3 @@
+-- Words of what is served and of the decision on requests, passed on to whoever stands on serving.
+pub use Rattle.gateway_workers.specs.Decisions.{Rules, rules_with, HasWeights, rules_of, AreFresh, Service, service_of}
+pub use Rattle.gateway_workers.specs.declared.work_done.WorkDone.{WorkDone}
