@@ -1,16 +1,2 @@
-mod Checks
 mod Statuses
-mod MisusedDirectives
-mod AskedFiles
-mod AskedRefusals
-mod Measured
-mod OnePrice
-mod OneMeasure
-mod Migrations
-mod Replays
-mod RuleRefusals
-mod ReplayRefusals
-mod OneRules
-mod OneReplay
-mod Services
 mod WordEnds

@@ -1,9 +1,9 @@
 -- What a run with a status says.
-use Rattle.std.proofs.Common.{◌≡◌, ◌≤◌, ◌⊎◌, inl, inr, refl, sym, ap, subst, ℕ, List, Option, None, Some, Bool, true, false, Result, Ok, Err, Vec, arith}
-use Rattle.gateway_run.specs.declared.limits.TheConstants.{SCHEMA_LIMIT, DOCUMENT_LIMIT, VARIABLES_LIMIT, CLIENTS_LIMIT, SCRIPT_LIMIT}
+use Rattle.std.proofs.Common.{◌≡◌, ◌≤◌, ◌⊎◌, inl, inr, refl, sym, subst, ℕ, List, Option, None, Some, Bool, true, false, Result, Ok, Err, Vec, arith}
+use Rattle.command_outcomes.specs.declared.limits.TheConstants.{SCHEMA_LIMIT, DOCUMENT_LIMIT, VARIABLES_LIMIT, CLIENTS_LIMIT, SCRIPT_LIMIT}
 use Rattle.std.specs.declared.alloc.Global.{Global}
 use Rattle.outside.specs.Faults.{Rose}
-use Rattle.gateway_run.specs.Texts.{line, too_large_text, meter_text}
+use Rattle.command_outcomes.specs.Texts.{line}
 use Rattle.response_meter.specs.declared.fault.MeterFault.{MeterFault}
 use Rattle.response_meter.specs.declared.fault.MeterFault.TheVariants.{NotResponse, SizeBroken, Memory as MeterMemory}
 use Rattle.command_words.specs.declared.command.Command.{Command}
@@ -14,30 +14,31 @@ use Rattle.command_words.specs.declared.command.AskedServe.{AskedServe}
 use Rattle.gateway_serving.specs.declared.ending.ServeEnd.{ServeEnd}
 use Rattle.gateway_serving.specs.declared.ending.ServeFault.{ServeFault}
 use Rattle.gateway_serving.specs.declared.ending.ServeFault.TheVariants.{NotStarted as NoDoors, Memory as NoMemory}
-use Rattle.gateway_run.specs.declared.rule_texts.RuleTexts.{RuleTexts}
+use Rattle.account_commands.specs.declared.rule_texts.RuleTexts.{RuleTexts}
 use Rattle.static_cost.specs.declared.part.Part.{Part}
 use Rattle.plan_table.specs.declared.table.Plan.{Plan}
-use Rattle.gateway_run.specs.declared.outcome.Outcome.{Outcome}
-use Rattle.gateway_run.specs.declared.outcome.Outcome.TheVariants.{Done, Refused, FileFailed, Faulty, Served, NotStarted, Usage, Memory}
-use Rattle.gateway_run.specs.declared.outcome.TheConstants.{DONE, REFUSED, USAGE, FILE_FAILED, STREAM_FAILED, NO_MEMORY, SIZE_BROKEN, NOT_RESPONSE, DOOR_FAILED}
+use Rattle.command_outcomes.specs.declared.outcome.Outcome.{Outcome}
+use Rattle.command_outcomes.specs.declared.outcome.Outcome.TheVariants.{Done, Refused, FileFailed, Faulty, Served, NotStarted, Usage, Memory}
+use Rattle.command_outcomes.specs.declared.outcome.TheConstants.{DONE, REFUSED, USAGE, FILE_FAILED, STREAM_FAILED, NO_MEMORY, SIZE_BROKEN, NOT_RESPONSE, DOOR_FAILED}
 use Rattle.command_words.specs.Words.{Asks, IsNoCommand}
-use Rattle.gateway_run.specs.Outcomes.{FilesTold, StreamTold, IsStopped, IsDone, IsRefusedAs, IsFaultyAs, IsKept, Writes, EndsServed, Ends}
-use Rattle.gateway_run.specs.Check.{CheckOf}
-use Rattle.gateway_run.specs.declared.asked.AskedTexts.{AskedTexts}
-use Rattle.gateway_run.specs.Reading.{IsNoText, HasNoText}
-use Rattle.gateway_run.specs.Asked.{HasNoVariables, HaveNoOperation, HaveNoTexts, request_in}
-use Rattle.gateway_run.specs.Price.{PriceOf}
+use Rattle.command_outcomes.specs.Outcomes.{FilesTold, IsStopped, IsDone, IsRefusedAs}
+use Rattle.gateway_run.specs.Endings.{StreamTold, IsKept, Writes, EndsServed, Ends}
+use Rattle.command_outcomes.specs.Check.{CheckOf}
+use Rattle.operation_commands.specs.declared.asked.AskedTexts.{AskedTexts}
+use Rattle.command_outcomes.specs.Reading.{IsNoText, HasNoText}
+use Rattle.operation_commands.specs.Asked.{HasNoVariables, HaveNoOperation, HaveNoTexts, request_in}
+use Rattle.operation_commands.specs.Price.{PriceOf}
 use Rattle.response_model.specs.Plan.{Plan as PlanTree}
 use Rattle.acceptance.specs.Requests.{plan_tree}
-use Rattle.gateway_run.specs.Worst.{WorstOfTree, WorstOf}
-use Rattle.gateway_run.specs.Forward.{ForwardOf}
-use Rattle.gateway_run.specs.Meter.{status_of, IsReplyFault, HasNoReply, HaveNoMetering, MeterOfPlan, MeterOf}
-use Rattle.gateway_run.specs.declared.replay_texts.ReplayTexts.{ReplayTexts}
-use Rattle.gateway_run.specs.RuleFiles.{HaveNoRules}
-use Rattle.gateway_run.specs.Replay.{HaveNoReplay, ReplayOf}
-use Rattle.gateway_run.specs.Serve.{DoorsCall, IsTold, ServeOf, ServeCameTo}
-use Rattle.gateway_run.specs.Exercise.{ExerciseCameTo}
-use Rattle.gateway_run.specs.Migrate.{MigrateOf}
+use Rattle.operation_commands.specs.Worst.{WorstOfTree, WorstOf}
+use Rattle.operation_commands.specs.Forward.{ForwardOf}
+use Rattle.operation_commands.specs.Meter.{status_of, IsReplyFault, HasNoReply, HaveNoMetering, MeterOfPlan, MeterOf}
+use Rattle.account_commands.specs.declared.replay_texts.ReplayTexts.{ReplayTexts}
+use Rattle.account_commands.specs.RuleFiles.{HaveNoRules}
+use Rattle.account_commands.specs.Replay.{HaveNoReplay, ReplayOf}
+use Rattle.serve_command.specs.Serve.{DoorsCall, IsTold, ServeOf, ServeCameTo}
+use Rattle.account_commands.specs.Exercise.{ExerciseCameTo}
+use Rattle.account_commands.specs.Migrate.{MigrateOf}
 use Rattle.gateway_run.specs.Program.{AnswerCameTo, CommandCameTo, IsCommandOf, ComeTo, IsAskedFile, IsReplayFile, IsServeFile, IsFileOf, NamesFile, OneFailed, PrintsOutput, PrintsRefusal, PrintsFault, TellsDoor, IsSilent}
 
 -- the statuses of faulty replies

@@ -3,9 +3,9 @@ use Rattle.std.proofs.Common.{◌≡◌, inl, inr, refl, ℕ, List}
 use Rattle.command_words.specs.declared.command.WordsFault.{WordsFault}
 use Rattle.command_words.specs.declared.command.WordsFault.TheVariants.{Usage, Memory}
 use Rattle.command_words.specs.Words.{IsNoCommand}
-use Rattle.gateway_run.specs.declared.outcome.Outcome.{Outcome}
-use Rattle.gateway_run.specs.Outcomes.{FilesTold}
-use Rattle.gateway_run.specs.Serve.{DoorsCall, AreUntouched}
+use Rattle.command_outcomes.specs.declared.outcome.Outcome.{Outcome}
+use Rattle.command_outcomes.specs.Outcomes.{FilesTold}
+use Rattle.serve_command.specs.Serve.{DoorsCall, AreUntouched}
 use Rattle.gateway_run.specs.Program.{no_command, ComeTo}
 
 pub unread : (words : List (List ℕ)) (files : FilesTold) (doors : DoorsCall) (fault : WordsFault) (outcome : Outcome) → (fault ≡ Usage → IsNoCommand words) → outcome ≡ no_command fault → AreUntouched doors → ComeTo words files doors outcome

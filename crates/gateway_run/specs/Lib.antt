@@ -1,16 +1,2 @@
-pub mod Reading
-pub mod Texts
-pub mod Outcomes
-pub mod SchemaTexts
-pub mod Check
-pub mod Asked
-pub mod Price
-pub mod Worst
-pub mod Forward
-pub mod Meter
-pub mod Migrate
-pub mod RuleFiles
-pub mod Replay
-pub mod Serve
-pub mod Exercise
+pub mod Endings
 pub mod Program

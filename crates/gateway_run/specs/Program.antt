@@ -8,22 +8,23 @@ use Rattle.command_words.specs.declared.command.AskedReplay.{AskedReplay}
 use Rattle.command_words.specs.declared.command.AskedServe.{AskedServe}
 use Rattle.command_words.specs.declared.command.WordsFault.{WordsFault}
 use Rattle.command_words.specs.declared.command.WordsFault.TheVariants.{Usage as NoCommand, Memory as NoMemory}
-use Rattle.gateway_run.specs.declared.outcome.Outcome.{Outcome}
-use Rattle.gateway_run.specs.declared.outcome.Outcome.TheVariants.{Done, Refused, Faulty, Served, NotStarted, Usage, Memory}
+use Rattle.command_outcomes.specs.declared.outcome.Outcome.{Outcome}
+use Rattle.command_outcomes.specs.declared.outcome.Outcome.TheVariants.{Done, Refused, Faulty, Served, NotStarted, Usage, Memory}
 use Rattle.command_words.specs.Words.{Asks, IsNoCommand}
 use Rattle.gateway_run.specs.declared.finish.TheConstants.{USAGE_TEXT, VERSION_TEXT, DOOR_TEXT}
 use Rattle.outside.specs.Faults.{Rose}
-use Rattle.gateway_run.specs.Texts.{line, file_text}
-use Rattle.gateway_run.specs.Outcomes.{FilesTold, StreamTold, Gains, IsKept, IsDone, HasFailed, FailsAmid, Ends}
-use Rattle.gateway_run.specs.Check.{CheckCameTo}
-use Rattle.gateway_run.specs.Price.{PriceCameTo}
-use Rattle.gateway_run.specs.Worst.{WorstCameTo}
-use Rattle.gateway_run.specs.Forward.{ForwardCameTo}
-use Rattle.gateway_run.specs.Meter.{MeterCameTo}
-use Rattle.gateway_run.specs.Replay.{ReplayCameTo}
-use Rattle.gateway_run.specs.Serve.{DoorsCall, AreUntouched, ServeCameTo}
-use Rattle.gateway_run.specs.Exercise.{ExerciseCameTo}
-use Rattle.gateway_run.specs.Migrate.{MigrateCameTo}
+use Rattle.command_outcomes.specs.Texts.{line, file_text}
+use Rattle.command_outcomes.specs.Outcomes.{FilesTold, IsDone}
+use Rattle.gateway_run.specs.Endings.{StreamTold, Gains, IsKept, HasFailed, FailsAmid, Ends}
+use Rattle.command_outcomes.specs.Check.{CheckCameTo}
+use Rattle.operation_commands.specs.Price.{PriceCameTo}
+use Rattle.operation_commands.specs.Worst.{WorstCameTo}
+use Rattle.operation_commands.specs.Forward.{ForwardCameTo}
+use Rattle.operation_commands.specs.Meter.{MeterCameTo}
+use Rattle.account_commands.specs.Replay.{ReplayCameTo}
+use Rattle.serve_command.specs.Serve.{DoorsCall, AreUntouched, ServeCameTo}
+use Rattle.account_commands.specs.Exercise.{ExerciseCameTo}
+use Rattle.account_commands.specs.Migrate.{MigrateCameTo}
 
 -- what a command that serves nothing came to
 abbrev pub AnswerCameTo : Command → FilesTold → Outcome → Type 0

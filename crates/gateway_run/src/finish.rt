@@ -4,10 +4,10 @@ ghost use Rattle.std.specs.Prelude.{◌≡◌, ◌≤◌, ◌⊎◌, OnOk, OnErr
 ghost use Rattle.std.specs.Io.KnownBytes.{Appends};
 ghost use Rattle.outside.specs.Faults.{Rose};
 ghost use Rattle.outside.specs.Contents.{AppendsFront};
-ghost use Rattle.gateway_run.specs.Texts.{line, file_text};
-ghost use Rattle.gateway_run.specs.Outcomes.{stream_told, Writes, Mentions, EndsServed, Ends};
+ghost use Rattle.command_outcomes.specs.Texts.{line, file_text};
+ghost use Rattle.gateway_run.specs.Endings.{stream_told, Writes, Mentions, EndsServed, Ends};
 
-use crate::outcome::{
+use command_outcomes::{
     DONE, DOOR_FAILED, FILE_FAILED, NO_MEMORY, Outcome, REFUSED, STREAM_FAILED, USAGE,
 };
 use gql_base::Text;

@@ -2,25 +2,20 @@
 
 ghost use Rattle.std.specs.Prelude.{◌≡◌};
 ghost use Rattle.command_words.specs.Words.{ServesWithinLimits};
-ghost use Rattle.gateway_run.specs.Outcomes.{files_told, stream_told, IsDone, Ends};
-ghost use Rattle.gateway_run.specs.Serve.{doors_call};
+ghost use Rattle.command_outcomes.specs.Outcomes.{files_told, IsDone};
+ghost use Rattle.gateway_run.specs.Endings.{stream_told, Ends};
+ghost use Rattle.serve_command.specs.Serve.{doors_call};
 ghost use Rattle.gateway_run.specs.Program.{no_command, CommandCameTo, ComeTo, Runs};
 
-use crate::check::check;
-use crate::exercise::exercise;
 use crate::finish::{USAGE_TEXT, VERSION_TEXT, finish};
-use crate::forward::forward;
-use crate::meter::meter;
-use crate::migrate::migrate;
-use crate::outcome::Outcome;
-use crate::price::price;
-use crate::replay::replay;
-use crate::serve::serve;
-use crate::worst::worst;
+use account_commands::{exercise, migrate, replay};
+use command_outcomes::{Outcome, check};
 use command_words::{Command, WordsFault, command_of};
 use doors::Doors;
 use gql_base::Text;
+use operation_commands::{forward, meter, price, worst};
 use outside::{Files, Sink};
+use serve_command::serve;
 use std::alloc::Global;
 use std::sync::Wait;
 use std::thread::Threads;

@@ -2,11 +2,12 @@
 
 ghost use Rattle.std.specs.Prelude.{◌≡◌, ◌≤◌, ◌⊎◌, ℕ, List};
 ghost use Rattle.command_words.specs.Words.{IsNoCommand};
-ghost use Rattle.gateway_run.specs.Outcomes.{FilesTold, StreamTold, IsKept};
-ghost use Rattle.gateway_run.specs.Serve.{DoorsCall};
+ghost use Rattle.command_outcomes.specs.Outcomes.{FilesTold};
+ghost use Rattle.gateway_run.specs.Endings.{StreamTold, IsKept};
+ghost use Rattle.serve_command.specs.Serve.{DoorsCall};
 ghost use Rattle.gateway_run.specs.Program.{Runs, NamesFile, OneFailed, PrintsOutput, PrintsRefusal, PrintsFault, TellsDoor, IsSilent};
 
-use crate::outcome::{
+use command_outcomes::{
     DONE, DOOR_FAILED, FILE_FAILED, NO_MEMORY, NOT_RESPONSE, REFUSED, SIZE_BROKEN, STREAM_FAILED,
     USAGE,
 };

@@ -1,0 +1,6 @@
+mod Migrations
+mod Replays
+mod RuleRefusals
+mod ReplayRefusals
+mod OneRules
+mod OneReplay

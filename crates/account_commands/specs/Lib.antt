@@ -1,0 +1,4 @@
+pub mod Migrate
+pub mod RuleFiles
+pub mod Replay
+pub mod Exercise

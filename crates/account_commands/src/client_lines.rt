@@ -1,0 +1,87 @@
+//! The lines of clients: what their accounts came to.
+
+ghost use Rattle.std.specs.Prelude.{◌≡◌, ◌≤◌, ◌++◌, OnOk, IfOk, length, string_bytes};
+ghost use Rattle.cost_num.specs.Within.{Within};
+ghost use Rattle.cost_num.specs.CostText.{cost_text};
+ghost use Rattle.client_files.specs.declared.client.TheConstants.{CLIENT_LIMIT};
+ghost use Rattle.gateway_core.specs.Rules.{greatest};
+ghost use Rattle.command_outcomes.specs.Texts.{line};
+ghost use Rattle.account_commands.specs.Replay.{carried_text, client_text, client_lines, end_text, IsPrintable};
+
+use crate::migrating::unended;
+use crate::replay_end::ReplayEnd;
+use account_core::Account;
+use client_files::Client;
+use cost_num::Cost;
+use gateway_core::{Totals, printed_cost};
+use gateway_replay::Replayed;
+use gql_base::Text;
+use std::alloc::{AllocError, Global};
+
+/// Writes a cost.
+pub fn write_cost(alloc: Global, cost: Cost, into: &mut String) -> Result<(), AllocError>
+    requires { Within greatest cost }
+    ensures { OnOk result (string_bytes into.new ≡ string_bytes into.old ++ cost_text cost) }
+{
+    let text = printed_cost(alloc, cost)?;
+    into.push_str(text.as_str())
+}
+
+// Writes what is carried, of a client that carries.
+fn write_carried(
+    alloc: Global,
+    carry: bool,
+    carried: Cost,
+    into: &mut String,
+) -> Result<(), AllocError>
+    requires { Within greatest carried }
+    ensures { OnOk result (string_bytes into.new ≡ string_bytes into.old ++ carried_text carry carried) }
+{
+    if carry {
+        into.push_str(" carried ")?;
+        write_cost(alloc, carried, into)?;
+    }
+    Ok(())
+}
+
+// Writes the line of a client.
+fn write_client(
+    alloc: Global,
+    client: &Client,
+    account: Account,
+    into: &mut String,
+) -> Result<(), AllocError>
+    requires settled { Within greatest account.settled }
+    requires carried { Within greatest account.carried }
+    ensures { OnOk result (string_bytes into.new ≡ string_bytes into.old ++ line (client_text client.now account)) }
+{
+    let window = account.window;
+    into.push_str(client.key.as_str())?;
+    write!(into, " window {window} settled ")?;
+    write_cost(alloc, account.settled, into)?;
+    write_carried(alloc, client.carry, account.carried, into)?;
+    into.push('\n')
+}
+
+/// Writes the lines of all clients.
+pub fn write_clients(alloc: Global, totals: &Totals, into: &mut String) -> Result<(), AllocError>
+    requires few { length totals.now.clients.items.items ≤ CLIENT_LIMIT }
+    ensures { OnOk result (string_bytes into.new ≡ string_bytes into.old ++ client_lines totals.now.clients.items.items totals.now.accounts) }
+{
+    let clients = totals.clients();
+    'clients: for at in 0..clients.len() {
+        write_client(alloc, &clients[at], totals.account(at as u32), into)?;
+    }
+    Ok(())
+}
+
+/// The lines of a replay and of its clients, without the last line end.
+pub fn lines_of_end(alloc: Global, end: ReplayEnd) -> Result<Vec<u8>, AllocError>
+    requires { IsPrintable end }
+    ensures { IfOk result (λ output. line output.items ≡ end_text end) }
+{
+    let ReplayEnd { report, totals } = end;
+    let Replayed { mut lines, .. } = report;
+    write_clients(alloc, &totals, &mut lines)?;
+    Ok(unended(Text::from(lines)))
+}

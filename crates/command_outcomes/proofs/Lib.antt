@@ -1,0 +1,4 @@
+pub mod ReadFiles
+pub mod WeighedSchemas
+mod MisusedDirectives
+mod Checks

@@ -1,0 +1,5 @@
+pub mod Reading
+pub mod Texts
+pub mod Outcomes
+pub mod SchemaTexts
+pub mod Check

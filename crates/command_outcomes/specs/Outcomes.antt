@@ -1,0 +1,42 @@
+-- What commands come to.
+use Rattle.std.specs.Prelude.{◌≡◌, ℕ, List, Option}
+use Rattle.outside.specs.Faults.{Rose}
+use Rattle.command_outcomes.specs.declared.outcome.Outcome.{Outcome}
+use Rattle.command_outcomes.specs.declared.outcome.Outcome.TheVariants.{Done, Refused, FileFailed, Faulty, Memory}
+
+-- What the files tell of a call: what the file of a name holds, and the count of its faults before and after.
+pub record FilesTold : Type 0 where
+  pub content : List ℕ → Option (List ℕ)
+  pub faults_before : List ℕ → ℕ
+  pub faults_after : List ℕ → ℕ
+
+abbrev pub files_told : (List ℕ → Option (List ℕ)) → (List ℕ → ℕ) → (List ℕ → ℕ) → FilesTold
+files_told content before after = record {
+  content = content;
+  faults_before = before;
+  faults_after = after;
+}
+
+-- The file of one of these names was not read, and the count of its faults rose; or there was no memory.
+abbrev pub IsStopped : (List ℕ → Type 0) → FilesTold → Outcome → Type 0
+IsStopped IsName files (FileFailed name) = IsName name × Rose (files.faults_before name) (files.faults_after name)
+IsStopped IsName files Memory = Unit {0}
+IsStopped IsName files other = ⊥
+
+-- It was done with this output, or there was no memory.
+abbrev pub IsDone : List ℕ → Outcome → Type 0
+IsDone output (Done bytes) = bytes.items ≡ output
+IsDone output Memory = Unit {0}
+IsDone output other = ⊥
+
+-- It was refused with this text, or there was no memory.
+abbrev pub IsRefusedAs : List ℕ → Outcome → Type 0
+IsRefusedAs text (Refused told) = told ≡ text
+IsRefusedAs text Memory = Unit {0}
+IsRefusedAs text other = ⊥
+
+-- It has this status and text of its own, or there was no memory.
+abbrev pub IsFaultyAs : ℕ → List ℕ → Outcome → Type 0
+IsFaultyAs status text (Faulty number told) = (number ≡ status) × (told ≡ text)
+IsFaultyAs status text Memory = Unit {0}
+IsFaultyAs status text other = ⊥

@@ -1,7 +1,0 @@
-use Rattle.std.proofs.Common.{inl, inr, ap₂, subst}
-use Rattle.gateway_run.specs.Outcomes.{IsDone}
-use Rattle.gateway_run.specs.SchemaTexts.{counts_text}
-use Rattle.gateway_run.proofs.check.check_bytes.Goals as goal
-
-pub returns-in-Ok : goal.returns-in-Ok
-returns-in-Ok c = inr (inl (c.in-Ok.schema, c.in-Ok.ensures.held, subst (λ text. IsDone text c.passed.result) (ap₂ counts_text c.counts-types.ensures.types c.counts-types.ensures.fields) c.passed.ensures))

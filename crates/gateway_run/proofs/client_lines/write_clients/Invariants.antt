@@ -1,7 +1,0 @@
-use Rattle.std.proofs.Common.{◌≡◌, ◌++◌, string_bytes, take}
-use Rattle.gateway_run.specs.Replay.{client_lines}
-use Rattle.gateway_run.proofs.client_lines.write_clients.Given as goal
-
--- What was added so far is the lines of the first clients.
-abbrev pub invariant-clients : goal.invariant-clients
-invariant-clients l = string_bytes l.into ≡ string_bytes l.fn.into ++ client_lines (take l.at l.totals.clients.items.items) (take l.at l.totals.accounts)

@@ -1,6 +1,0 @@
-use Rattle.std.proofs.Common.{inl, inr, ap, ℕ, Vec, string_bytes}
-use Rattle.std.specs.declared.alloc.Global.{Global}
-use Rattle.gateway_run.proofs.forward.forward_texts.Goals as goal
-
-pub returns-in-Ok : goal.returns-in-Ok
-returns-in-Ok c = inr (inl (string_bytes c.in-Ok.text, c.in-Ok.ensures.sent, ap (λ (v : Vec ℕ Global). v.items) c.into_bytes.ensures.value))

@@ -1,5 +1,0 @@
-use Rattle.gateway_run.proofs.Replays.{replay_told}
-use Rattle.gateway_run.proofs.replay.replay_of.Goals as goal
-
-pub returns-in-Ok : goal.returns-in-Ok
-returns-in-Ok g c = replay_told c.args.asked.now.schema c.args.texts.now c.args.asked.now.undeclared c.in-Ok.end c.replayed.result c.in-Ok.ensures.replayed c.replayed.ensures

@@ -1,6 +1,0 @@
--- The files hold no texts, and the doors are as before.
-use Rattle.std.proofs.Common.{inl, refl}
-use Rattle.gateway_run.proofs.serve.serve.Goals as goal
-
-pub returns-in-Err : goal.returns-in-Err
-returns-in-Err g c = inl (c.in-Err.ensures.none, refl)

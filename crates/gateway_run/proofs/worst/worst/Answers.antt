@@ -1,8 +1,0 @@
-use Rattle.std.proofs.Common.{inl, inr}
-use Rattle.gateway_run.proofs.worst.worst.Goals as goal
-
-pub returns-in-Ok : goal.returns-in-Ok
-returns-in-Ok g c = inr (c.in-Ok.texts, c.in-Ok.ensures.held, c.worst_texts.ensures)
-
-pub returns-in-Err : goal.returns-in-Err
-returns-in-Err g c = inl c.in-Err.ensures.none

@@ -1,0 +1,55 @@
+-- What is refused of an operation's texts.
+use Rattle.std.proofs.Common.{◌≡◌, inl, inr, ℕ, List, Option, None, Some, subst}
+use Rattle.schema_model.specs.declared.schema.Schema.{Schema}
+use Rattle.cost_directives.specs.declared.weights.Weights.{Weights}
+use Rattle.command_words.specs.declared.command.Asked.{Asked}
+use Rattle.acceptance.specs.Requests.{RequestData}
+use Rattle.acceptance.specs.Refusals.{IsUnread, IsRefusedFor}
+use Rattle.operation_commands.specs.declared.asking.Inputs.{Inputs}
+use Rattle.operation_commands.specs.declared.asked.AskedTexts.{AskedTexts}
+use Rattle.command_outcomes.specs.declared.checked.SchemaRefusal.{SchemaRefusal}
+use Rattle.operation_commands.specs.declared.asking.AskedRefusal.TheVariants.{NoSchema, NotJson, BadVariables, NoOperation}
+use Rattle.operation_commands.specs.declared.asking.AskedFault.{AskedFault}
+use Rattle.operation_commands.specs.declared.asking.AskedFault.TheVariants.{Refused, Memory}
+use Rattle.acceptance.specs.declared.fault.Refusal.{Refusal}
+use Rattle.command_outcomes.specs.Check.{HoldsWith, IsUnchecked}
+use Rattle.operation_commands.specs.Asked.{HoldInputs, request_in, HoldsSchema, HoldsGiven, IsUngiven, IsNoSchemaOf, IsUnreadIn, IsNoOperationOf, IsRefusalOf, IfAskedRefused}
+
+pub schema_held : (asked : Asked) (texts : AskedTexts) (text : List ℕ) (schema : Schema) (weights : Weights) → text ≡ texts.schema → HoldsWith text asked.undeclared schema weights → HoldsSchema asked texts
+schema_held asked texts text schema weights same held = subst (λ t. (s : Schema) × (w : Weights) × HoldsWith t asked.undeclared s w) same (schema, weights, held)
+
+pub no_schema : (asked : Asked) (texts : AskedTexts) (text : List ℕ) (fault : AskedFault) → text ≡ texts.schema → IfAskedRefused fault (IsNoSchemaOf text) → IfAskedRefused fault (IsRefusalOf asked texts)
+no_schema asked texts text (Refused (NoSchema refusal)) same refused = subst (λ t. IsUnchecked t refusal) same refused
+no_schema asked texts text (Refused NotJson) same refused = absurd refused
+no_schema asked texts text (Refused BadVariables) same refused = absurd refused
+no_schema asked texts text (Refused (NoOperation refusal)) same refused = absurd refused
+no_schema asked texts text Memory same refused = tt
+
+given_schema : (variables : Option (List ℕ)) (refusal : SchemaRefusal) → IsUngiven variables (NoSchema refusal) → ⊥
+given_schema None refusal ungiven = ungiven
+given_schema (Some text) refusal ungiven = ungiven
+
+given_operation : (variables : Option (List ℕ)) (refusal : Refusal) → IsUngiven variables (NoOperation refusal) → ⊥
+given_operation None refusal ungiven = ungiven
+given_operation (Some text) refusal ungiven = ungiven
+
+pub not_given : (asked : Asked) (texts : AskedTexts) (fault : AskedFault) → HoldsSchema asked texts → IfAskedRefused fault (IsUngiven texts.variables) → IfAskedRefused fault (IsRefusalOf asked texts)
+not_given asked texts (Refused (NoSchema refusal)) schema refused = absurd (given_schema texts.variables refusal refused)
+not_given asked texts (Refused NotJson) schema refused = (schema, refused)
+not_given asked texts (Refused BadVariables) schema refused = (schema, refused)
+not_given asked texts (Refused (NoOperation refusal)) schema refused = absurd (given_operation texts.variables refusal refused)
+not_given asked texts Memory schema refused = tt
+
+pub not_read : (asked : Asked) (texts : AskedTexts) (text : List ℕ) (fault : AskedFault) → HoldsSchema asked texts → HoldsGiven texts → text ≡ texts.document → IfAskedRefused fault (IsUnreadIn text) → IfAskedRefused fault (IsRefusalOf asked texts)
+not_read asked texts text (Refused (NoSchema refusal)) schema given same refused = absurd refused
+not_read asked texts text (Refused NotJson) schema given same refused = absurd refused
+not_read asked texts text (Refused BadVariables) schema given same refused = absurd refused
+not_read asked texts text (Refused (NoOperation refusal)) schema given same refused = inl (schema, given, subst (λ t. IsUnread t refusal) same refused)
+not_read asked texts text Memory schema given same refused = tt
+
+pub not_accepted : (asked : Asked) (texts : AskedTexts) (inputs : Inputs) (r : RequestData) (fault : AskedFault) → HoldInputs asked texts inputs → r ≡ request_in asked inputs → IfAskedRefused fault (IsNoOperationOf r) → IfAskedRefused fault (IsRefusalOf asked texts)
+not_accepted asked texts inputs r (Refused (NoSchema refusal)) held same refused = absurd refused
+not_accepted asked texts inputs r (Refused NotJson) held same refused = absurd refused
+not_accepted asked texts inputs r (Refused BadVariables) held same refused = absurd refused
+not_accepted asked texts inputs r (Refused (NoOperation refusal)) held same refused = inr (inputs, held, subst (λ q. IsRefusedFor q refusal) same refused)
+not_accepted asked texts inputs r Memory held same refused = tt

@@ -1,0 +1,5 @@
+mod AskedFiles
+mod AskedRefusals
+mod Measured
+mod OnePrice
+mod OneMeasure

@@ -1,0 +1,16 @@
+-- The schema was a text, and reading it changed none.
+use Rattle.std.proofs.Common.{inl, inr}
+use Rattle.command_outcomes.specs.declared.limits.TheConstants.{DOCUMENT_LIMIT}
+use Rattle.command_outcomes.proofs.ReadFiles.{no_text_sooner}
+use Rattle.operation_commands.proofs.asked.read_operation.Goals as goal
+
+pub returns-in-Err-clause-none : goal.returns-in-Err-clause-none
+returns-in-Err-clause-none g c = inl c.in-Err.ensures.none
+
+pub returns-in-Err-read_text-clause-none : goal.returns-in-Err-read_text-clause-none
+returns-in-Err-read_text-clause-none g c =
+    inr (
+      (c.in-Ok.schema, c.in-Ok.ensures.held),
+      no_text_sooner (g.F.Files.content c.args.files.now) (g.F.Files.content c.read_text.new.files) (g.F.Files.faults c.args.files.now) (g.F.Files.faults c.read_text.new.files) (g.F.Files.faults c.read_text-2.new.files)
+          c.in-Ok.ensures.same c.in-Ok.ensures.count DOCUMENT_LIMIT c.args.asked.now.document c.in-Err-read_text.outcome c.in-Err-read_text.ensures.none,
+    )

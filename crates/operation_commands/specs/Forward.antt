@@ -1,0 +1,30 @@
+-- What a forward command comes to.
+use Rattle.std.specs.Prelude.{◌≡◌, ◌⊎◌, ℕ, List}
+use Rattle.serde_json.specs.Written.{compact_text}
+use Rattle.cost_num.specs.declared.Cost.{Cost}
+use Rattle.plan_table.specs.declared.table.Plan.{Plan}
+use Rattle.command_words.specs.declared.command.Asked.{Asked}
+use Rattle.acceptance.specs.Bounds.{IsAccepted}
+use Rattle.acceptance.specs.Forwarding.{IsFreeIn, sent_body}
+use Rattle.operation_commands.specs.declared.asked.AskedTexts.{AskedTexts}
+use Rattle.operation_commands.specs.declared.asking.Inputs.{Inputs}
+use Rattle.command_outcomes.specs.declared.outcome.Outcome.{Outcome}
+use Rattle.command_outcomes.specs.declared.outcome.Outcome.TheVariants.{Memory}
+use Rattle.command_outcomes.specs.Outcomes.{FilesTold, IsDone}
+use Rattle.operation_commands.specs.Asked.{HoldTexts, HaveNoTexts, HoldInputs, request_in, IsAskedRefused}
+
+-- The operation is accepted, and this is the text of the body that is sent for it.
+abbrev pub IsSent : Asked → AskedTexts → List ℕ → Type 0
+IsSent asked texts text = (inputs : Inputs) × HoldInputs asked texts inputs
+    × ((plan : Plan) × (bound : Cost) × (accepted : IsAccepted (request_in asked inputs) plan bound)
+    × ((alias : List ℕ) × IsFreeIn (request_in asked inputs) alias × (text ≡ compact_text (sent_body (request_in asked inputs) accepted.is_planned.prepared alias))))
+
+-- By the texts: what is sent is the output, or the operation is refused, or there was no memory.
+abbrev pub ForwardOf : Asked → AskedTexts → Outcome → Type 0
+ForwardOf asked texts outcome = (outcome ≡ Memory)
+    ⊎ ((text : List ℕ) × IsSent asked texts text × IsDone text outcome)
+    ⊎ IsAskedRefused asked texts outcome
+
+-- The files hold no texts, or they do, and came to that.
+abbrev pub ForwardCameTo : Asked → FilesTold → Outcome → Type 0
+ForwardCameTo asked files outcome = HaveNoTexts asked files outcome ⊎ ((texts : AskedTexts) × HoldTexts asked files.content texts × ForwardOf asked texts outcome)

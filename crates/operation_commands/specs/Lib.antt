@@ -1,0 +1,6 @@
+pub mod Asked
+pub mod Price
+pub mod Worst
+pub mod Forward
+pub mod ReplyTexts
+pub mod Meter

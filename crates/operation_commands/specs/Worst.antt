@@ -1,0 +1,48 @@
+-- What a worst command comes to.
+use Rattle.std.specs.Prelude.{◌≡◌, ◌⊎◌, ◌≤◌, ◌<◌, [], Some, codes}
+use Rattle.cost_num.specs.declared.Cost.{Cost}
+use Rattle.response_model.specs.Plan.{Plan as PlanTree}
+use Rattle.response_model.specs.Response.{Tree}
+use Rattle.response_model.specs.Filled.{filled}
+use Rattle.response_model.specs.ResponseText.{response_text}
+use Rattle.plan_table.specs.declared.table.Plan.{Plan}
+use Rattle.static_cost.specs.declared.part.Part.{Part}
+use Rattle.static_cost.specs.declared.filling.TheConstants.{VALUE_LIMIT}
+use Rattle.static_cost.specs.Components.{part_of}
+use Rattle.static_cost.specs.Worst.{values}
+use Rattle.command_words.specs.declared.command.Asked.{Asked}
+use Rattle.acceptance.specs.Requests.{plan_tree}
+use Rattle.acceptance.specs.Bounds.{IsAccepted}
+use Rattle.operation_commands.specs.declared.asked.AskedTexts.{AskedTexts}
+use Rattle.operation_commands.specs.declared.asking.Inputs.{Inputs}
+use Rattle.command_outcomes.specs.declared.outcome.Outcome.{Outcome}
+use Rattle.command_outcomes.specs.declared.outcome.Outcome.TheVariants.{Memory}
+use Rattle.command_outcomes.specs.Outcomes.{FilesTold, IsDone, IsRefusedAs}
+use Rattle.operation_commands.specs.Asked.{HoldTexts, HaveNoTexts, HoldInputs, request_in, IsAskedRefused}
+
+-- The operation of the texts is accepted, and this holds of its plan.
+abbrev pub OfPlan : Asked → AskedTexts → (PlanTree → Type 0) → Type 0
+OfPlan asked texts P = (inputs : Inputs) × HoldInputs asked texts inputs
+    × ((plan : Plan) × (bound : Cost) × (accepted : IsAccepted (request_in asked inputs) plan bound) × P (plan_tree (request_in asked inputs) accepted.is_planned.prepared))
+
+-- the response that costs as much as any in this part of the cost
+abbrev pub worst_tree : Part → PlanTree → Tree
+worst_tree part tree = filled (part_of part) tree
+
+-- The response to this plan is the output, where it has no more values than the limit, or it is too large; or there was no memory.
+abbrev pub WorstOfTree : Part → PlanTree → Outcome → Type 0
+WorstOfTree part tree outcome = (outcome ≡ Memory)
+    ⊎ ((values (worst_tree part tree) ≤ VALUE_LIMIT) × IsDone (response_text (Some (worst_tree part tree)) []) outcome)
+    ⊎ ((VALUE_LIMIT < values (worst_tree part tree)) × IsRefusedAs (codes "worst 1 TooLarge") outcome)
+
+-- The operation is accepted, and came to that.
+abbrev pub WorstOfAccepted : Asked → Part → AskedTexts → Outcome → Type 0
+WorstOfAccepted asked part texts outcome = OfPlan asked texts (λ tree. WorstOfTree part tree outcome)
+
+-- By the texts: the operation is accepted, and its response told or too large; or it is refused, or there was no memory.
+abbrev pub WorstOf : Asked → Part → AskedTexts → Outcome → Type 0
+WorstOf asked part texts outcome = (outcome ≡ Memory) ⊎ WorstOfAccepted asked part texts outcome ⊎ IsAskedRefused asked texts outcome
+
+-- The files hold no texts, or they do, and came to that.
+abbrev pub WorstCameTo : Asked → Part → FilesTold → Outcome → Type 0
+WorstCameTo asked part files outcome = HaveNoTexts asked files outcome ⊎ ((texts : AskedTexts) × HoldTexts asked files.content texts × WorstOf asked part texts outcome)

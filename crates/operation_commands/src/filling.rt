@@ -1,0 +1,91 @@
+//! The command `worst SCHEMA DOCUMENT PART`.
+
+ghost use Rattle.std.specs.Prelude.{◌≡◌, IfOk, IfErr, Some, []};
+ghost use Rattle.response_model.specs.Plan.{Plan as PlanTree};
+ghost use Rattle.response_model.specs.Cost.{Part as PartOfCost};
+ghost use Rattle.response_model.specs.ResponseText.{response_text as text_of_response};
+ghost use Rattle.plan_table.specs.Trees.{tree_of};
+ghost use Rattle.plan_table.specs.Texts.{IsFloatless};
+ghost use Rattle.static_cost.specs.TableBound.{HoldsSound};
+ghost use Rattle.static_cost.specs.Worst.{IsCounted};
+ghost use Rattle.command_outcomes.specs.Reading.{IsText};
+ghost use Rattle.command_outcomes.specs.Outcomes.{files_told, IsDone};
+ghost use Rattle.operation_commands.specs.Asked.{IsRefusalOf, IfAskedRefused};
+ghost use Rattle.operation_commands.specs.Worst.{WorstOfTree, WorstOfAccepted, WorstOf, WorstCameTo};
+
+use crate::asked::{AskedTexts, read_asked};
+use crate::asking::{AskedFault, inputs_in, refused_asked};
+use crate::pricing::accepted;
+use acceptance::Accepted;
+use command_outcomes::{Outcome, SCHEMA_LIMIT, refused_as};
+use command_words::Asked;
+use outside::Files;
+use plan_table::{Tree, response_text};
+use static_cost::{Part, WorstFault};
+use std::alloc::Global;
+
+// The outcome of a response.
+fn written(alloc: Global, tree: &Tree) -> Outcome
+    requires floatless { IsFloatless (tree_of tree.now) }
+    ensures { IsDone (text_of_response (Some (tree_of tree.now)) []) result }
+{
+    match response_text(alloc, tree) {
+        Ok(text) => Outcome::Done(text.into_bytes()),
+        Err(_) => Outcome::Memory,
+    }
+}
+
+// What an operation that is accepted comes to.
+fn worst_of(alloc: Global, accepted: &Accepted, part: Part) -> Outcome
+    requires counted { (some : PartOfCost) → IsCounted accepted.now.plan some }
+    ensures { (tree : PlanTree) → HoldsSound accepted.now.plan tree → WorstOfTree part tree result }
+{
+    match static_cost::worst(alloc, &accepted.plan, part) {
+        Ok(tree) => written(alloc, &tree),
+        Err(WorstFault::TooLarge) => refused_as(alloc, "worst 1 TooLarge"),
+        Err(WorstFault::Memory) => Outcome::Memory,
+    }
+}
+
+// What the operation of these texts comes to, where it is accepted.
+fn worst_in(
+    alloc: Global,
+    asked: &Asked,
+    part: Part,
+    texts: &AskedTexts,
+) -> Result<Outcome, AskedFault>
+    requires text { IsText SCHEMA_LIMIT texts.now.schema }
+    ensures accepted { IfOk result (WorstOfAccepted asked.now part texts.now) }
+    ensures refused { IfErr result (λ fault. IfAskedRefused fault (IsRefusalOf asked.now texts.now)) }
+{
+    let inputs = match inputs_in(alloc, asked, texts) {
+        Ok(inputs) => inputs,
+        Err(fault) => return Err(fault),
+    };
+    match accepted(alloc, asked, texts, &inputs) {
+        Ok(accepted) => Ok(worst_of(alloc, &accepted, part)),
+        Err(fault) => Err(fault),
+    }
+}
+
+// What the texts of an operation's files come to.
+fn worst_texts(alloc: Global, asked: &Asked, part: Part, texts: &AskedTexts) -> Outcome
+    requires text { IsText SCHEMA_LIMIT texts.now.schema }
+    ensures { WorstOf asked.now part texts.now result }
+{
+    match worst_in(alloc, asked, part, texts) {
+        Ok(outcome) => outcome,
+        Err(AskedFault::Refused(refusal)) => refused_asked(alloc, asked, refusal),
+        Err(AskedFault::Memory) => Outcome::Memory,
+    }
+}
+
+/// Writes a response that costs as much as any to the operation that files hold.
+pub fn worst<F: Files>(alloc: Global, asked: &Asked, part: Part, files: &mut F) -> Outcome
+    ensures { WorstCameTo asked.now part (files_told (F.content files.old) (F.faults files.old) (F.faults files.new)) result }
+{
+    match read_asked(alloc, asked, files) {
+        Ok(texts) => worst_texts(alloc, asked, part, &texts),
+        Err(outcome) => outcome,
+    }
+}

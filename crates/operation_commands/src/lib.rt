@@ -1,0 +1,20 @@
+//! The commands over the files of one operation: what it costs at most, a response that costs as much, what is sent for it, and what
+//! a reply to it cost.
+#![tactic(auto)]
+
+mod asked;
+mod asking;
+mod filling;
+mod forwarding;
+mod meter_laws;
+mod metering;
+mod price_laws;
+mod pricing;
+mod reply_texts;
+
+pub use filling::worst;
+pub use forwarding::forward;
+pub use meter_laws::{a_refused_operation_has_no_reply, a_reply_has_one_measure, one_text_is_sent};
+pub use metering::meter;
+pub use price_laws::{a_refused_operation_has_no_price, two_files_have_one_price};
+pub use pricing::price;

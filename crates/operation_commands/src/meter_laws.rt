@@ -1,0 +1,58 @@
+//! What holds of what is sent for the operation of all texts, and of what its replies come to. These functions do nothing: their
+//! contracts are the laws.
+
+ghost use Rattle.std.specs.Prelude.{◌≡◌, ℕ, List};
+ghost use Rattle.command_words.specs.declared.command.Asked.{Asked};
+ghost use Rattle.response_meter.specs.declared.metered.Metered.{Metered};
+ghost use Rattle.response_meter.specs.declared.fault.MeterFault.{MeterFault};
+ghost use Rattle.operation_commands.specs.declared.asked.AskedTexts.{AskedTexts};
+ghost use Rattle.operation_commands.specs.declared.asking.AskedRefusal.{AskedRefusal};
+ghost use Rattle.operation_commands.specs.Asked.{IsRefusalOf};
+ghost use Rattle.operation_commands.specs.Forward.{IsSent};
+ghost use Rattle.operation_commands.specs.Meter.{HasMeasure, HasReplyFault};
+
+use crate::price_laws::a_refused_operation_has_no_price;
+use acceptance::alike_requests_are_answered_alike;
+use command_outcomes::a_schema_file_has_one_check;
+use document_reader::a_text_is_one_document;
+use response_meter::laws::{
+    fault_or_reading, named_tables, one_reply, types_of_built_schemas_differ,
+};
+
+/// For an operation that is refused nothing is sent, and a reply to it isn't measured and has no fault.
+pub fn a_refused_operation_has_no_reply()
+    ensures sent { (asked : Asked) (texts : AskedTexts) (text : List ℕ) (refusal : AskedRefusal) → IsRefusalOf asked texts refusal → IsSent asked texts text → ⊥ }
+    ensures measured { (asked : Asked) (texts : AskedTexts) (reply : List ℕ) (metered : Metered) (refusal : AskedRefusal) → IsRefusalOf asked texts refusal → HasMeasure asked texts reply metered → ⊥ }
+    ensures faulty { (asked : Asked) (texts : AskedTexts) (reply : List ℕ) (fault : MeterFault) (refusal : AskedRefusal) → IsRefusalOf asked texts refusal → HasReplyFault asked texts reply fault → ⊥ }
+{
+    a_refused_operation_has_no_price();
+}
+
+/// For an operation of texts one text is sent at most, however often the texts are read.
+pub fn one_text_is_sent()
+    ensures { (asked : Asked) (texts : AskedTexts) (text other : List ℕ) → IsSent asked texts text → IsSent asked texts other → text ≡ other }
+{
+    a_schema_file_has_one_check();
+    a_text_is_one_document();
+    alike_requests_are_answered_alike();
+    types_of_built_schemas_differ();
+    named_tables();
+    one_reply();
+    fault_or_reading();
+}
+
+/// A reply to an operation of texts is measured in one way at most, or has one fault at most, and not both, however often the
+/// texts are read.
+pub fn a_reply_has_one_measure()
+    ensures measure { (asked : Asked) (texts : AskedTexts) (reply : List ℕ) (metered other : Metered) → HasMeasure asked texts reply metered → HasMeasure asked texts reply other → metered ≡ other }
+    ensures fault { (asked : Asked) (texts : AskedTexts) (reply : List ℕ) (fault other : MeterFault) → HasReplyFault asked texts reply fault → HasReplyFault asked texts reply other → fault ≡ other }
+    ensures not_both { (asked : Asked) (texts : AskedTexts) (reply : List ℕ) (metered : Metered) (fault : MeterFault) → HasMeasure asked texts reply metered → HasReplyFault asked texts reply fault → ⊥ }
+{
+    a_schema_file_has_one_check();
+    a_text_is_one_document();
+    alike_requests_are_answered_alike();
+    types_of_built_schemas_differ();
+    named_tables();
+    one_reply();
+    fault_or_reading();
+}

@@ -1,0 +1,26 @@
+-- By what a gateway is served that is made of what files hold.
+use Rattle.std.proofs.Common.{◌≡◌, ◌∙◌, ap, ap₂, ℕ, List}
+use Rattle.schema_model.specs.SchemaViews.{schema_data}
+use Rattle.cost_directives.specs.WeightViews.{weights_data}
+use Rattle.gateway_core.specs.declared.gate.Gate.{Gate}
+use Rattle.gateway_core.specs.declared.gate.Settings.{Settings}
+use Rattle.gateway_core.specs.Rules.{Rules, rules_with}
+use Rattle.gateway_core.specs.Gates.{rules_of}
+use Rattle.gateway_connections.specs.Exchanges.{Service, service_of}
+use Rattle.command_words.specs.declared.command.AskedServe.{AskedServe}
+use Rattle.account_commands.specs.declared.rule_inputs.RuleInputs.{RuleInputs}
+use Rattle.account_commands.specs.RuleFiles.{rules_in}
+use Rattle.serve_command.specs.Serve.{service_by}
+
+with_parts : Rules → List ℕ → List ℕ → Service
+with_parts rules host target = record { rules = rules; host = host; target = target }
+
+pub same_service : (gate : Gate) (asked : AskedServe) (inputs : RuleInputs) (settings : Settings)
+    → rules_of gate ≡ rules_with (schema_data inputs.weighed.schema) (weights_data inputs.weighed.weights) inputs.clients.clients.items settings.window_seconds
+    → settings.window_seconds ≡ inputs.clients.window_seconds → gate.settings ≡ settings → settings.host ≡ asked.upstream → settings.target ≡ asked.target
+    → service_of gate ≡ service_by asked inputs
+unfolding with_parts
+same_service gate asked inputs settings rules window same host target =
+    let own = rules ∙ ap (λ seconds. rules_with (schema_data inputs.weighed.schema) (weights_data inputs.weighed.weights) inputs.clients.clients.items seconds) window in
+    ap (λ (r : Rules). with_parts r gate.settings.host gate.settings.target) own
+    ∙ ap₂ (λ h t. with_parts (rules_in inputs) h t) (ap (λ (s : Settings). s.host) same ∙ host) (ap (λ (s : Settings). s.target) same ∙ target)

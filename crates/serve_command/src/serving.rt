@@ -1,0 +1,156 @@
+//! The command `serve SCHEMA CLIENTS --listen ADDR --upstream ADDR`.
+
+ghost use Rattle.std.specs.Prelude.{◌≡◌, ◌≤◌, ◌<◌, IfOk, IfErr, length};
+ghost use Rattle.schema_model.specs.SchemaViews.{schema_data};
+ghost use Rattle.cost_directives.specs.WeightViews.{weights_data};
+ghost use Rattle.client_files.specs.ClientFiles.{MayBeServed};
+ghost use Rattle.client_files.specs.declared.client.TheConstants.{CLIENT_LIMIT};
+ghost use Rattle.gateway_core.specs.Rules.{HasWeights};
+ghost use Rattle.command_words.specs.declared.command.Command.TheVariants.{Serve};
+ghost use Rattle.command_words.specs.Words.{ServesWithinLimits};
+ghost use Rattle.command_outcomes.specs.Reading.{IsText};
+ghost use Rattle.command_outcomes.specs.Outcomes.{files_told};
+ghost use Rattle.serve_command.specs.Serve.{doors_call, ServesTo, IsTold, closing_text, ServeOf, ServeCameTo};
+
+use account_commands::{
+    RuleInputs, RuleTexts, RulesFault, read_rules, refused_rules, rule_inputs_in, write_clients,
+};
+use command_outcomes::{Outcome, SCHEMA_LIMIT};
+use command_words::AskedServe;
+use doors::Doors;
+use gateway_core::{Gate, Settings};
+use gateway_serving::{ServeEnd, ServeFault, Serving};
+use gql_base::Text;
+use outside::Files;
+use plan_model::laws::built_schemas_can_be_filled;
+use std::alloc::{AllocError, Global};
+use std::sync::Wait;
+use std::thread::Threads;
+
+// How long windows are, and where requests are forwarded to.
+fn settings_of(
+    alloc: Global,
+    asked: &AskedServe,
+    window_seconds: u32,
+) -> Result<Settings, AllocError>
+    ensures window { IfOk result (λ settings. settings.window_seconds ≡ window_seconds) }
+    ensures host { IfOk result (λ settings. settings.host ≡ asked.now.upstream) }
+    ensures target { IfOk result (λ settings. settings.target ≡ asked.now.target) }
+{
+    Ok(Settings {
+        window_seconds,
+        host: Text::copy_of(alloc, asked.upstream.as_str())?,
+        target: Text::copy_of(alloc, asked.target.as_str())?,
+    })
+}
+
+// Serves by these rules.
+fn serve_by<Rt: Threads + Wait + Sync, D: Doors>(
+    alloc: Global,
+    rt: &Rt,
+    asked: &AskedServe,
+    inputs: RuleInputs,
+    doors: &mut D,
+) -> Result<ServeEnd, ServeFault>
+    requires limits { ServesWithinLimits (Serve asked.now) }
+    requires weighed { HasWeights (schema_data inputs.weighed.schema) (weights_data inputs.weighed.weights) }
+    requires served { MayBeServed inputs.clients.window_seconds inputs.clients.clients.items }
+    requires idle { D.running doors.old ≡ 0 }
+    ensures { ServesTo asked.now inputs (doors_call D.faults D.asked D.running D.stopped doors.old doors.new) result }
+{
+    let serving = Serving {
+        listen: asked.listen.as_str(),
+        upstream: asked.upstream.as_str(),
+        workers: asked.workers,
+        connections: asked.connections,
+    };
+    let Ok(settings) = settings_of(alloc, asked, inputs.clients.window_seconds) else {
+        return Err(ServeFault::Memory);
+    };
+    let RuleInputs { weighed, clients } = inputs;
+    let made = Gate::make(
+        alloc,
+        weighed.schema,
+        weighed.weights,
+        clients.clients,
+        settings,
+    );
+    let Ok((gate, passes)) = made else {
+        return Err(ServeFault::Memory);
+    };
+    gateway_serving::serve(alloc, rt, gate, passes, doors, &serving)
+}
+
+// The closing lines, without the last line end.
+fn closing_lines(alloc: Global, end: &ServeEnd) -> Result<Vec<u8>, AllocError>
+    requires few { length end.now.totals.clients.items.items ≤ CLIENT_LIMIT }
+    ensures { IfOk result (λ lines. lines.items ≡ closing_text end.now) }
+{
+    let connections = end.done.connections;
+    let exchanges = end.done.exchanges;
+    let mut lines = String::new(alloc);
+    write_clients(alloc, &end.totals, &mut lines)?;
+    write!(lines, "connections {connections} exchanges {exchanges}")?;
+    Ok(lines.into_bytes())
+}
+
+// The outcome of what serving came to.
+fn told(alloc: Global, came_to: Result<ServeEnd, ServeFault>) -> Outcome
+    requires few { IfOk came_to (λ end. length end.totals.clients.items.items ≤ CLIENT_LIMIT) }
+    ensures { IsTold came_to result }
+{
+    match came_to {
+        Ok(end) => match closing_lines(alloc, &end) {
+            Ok(lines) => Outcome::Served {
+                lines,
+                failed: end.done.faults > 0,
+            },
+            Err(_) => Outcome::Memory,
+        },
+        Err(ServeFault::NotStarted) => Outcome::NotStarted,
+        Err(ServeFault::Memory) => Outcome::Memory,
+    }
+}
+
+// What the texts of the rules come to.
+fn serve_of<Rt: Threads + Wait + Sync, D: Doors>(
+    alloc: Global,
+    rt: &Rt,
+    asked: &AskedServe,
+    texts: &RuleTexts,
+    doors: &mut D,
+) -> Outcome
+    requires limits { ServesWithinLimits (Serve asked.now) }
+    requires text { IsText SCHEMA_LIMIT texts.now.schema }
+    requires idle { D.running doors.old ≡ 0 }
+    ensures { ServeOf asked.now texts.now (doors_call D.faults D.asked D.running D.stopped doors.old doors.new) result }
+{
+    built_schemas_can_be_filled();
+    match rule_inputs_in(alloc, texts, asked.undeclared) {
+        Ok(inputs) => told(alloc, serve_by(alloc, rt, asked, inputs, doors)),
+        Err(RulesFault::Refused(refusal)) => refused_rules(alloc, &asked.schema, refusal),
+        Err(RulesFault::Memory) => Outcome::Memory,
+    }
+}
+
+/// Serves clients over HTTP, by the schema and the clients of files, until each door has given all its connections or failed.
+///
+/// It asks that no doors run, that there are 1 to 16 workers, and that each serves at most 1,000,000 connections. All doors that
+/// were started are stopped at the end.
+pub fn serve<Rt: Threads + Wait + Sync, F: Files, D: Doors>(
+    alloc: Global,
+    rt: &Rt,
+    asked: &AskedServe,
+    files: &mut F,
+    doors: &mut D,
+) -> Outcome
+    requires limits { ServesWithinLimits (Serve asked.now) }
+    requires idle { D.running doors.old ≡ 0 }
+    ensures { ServeCameTo asked.now (files_told (F.content files.old) (F.faults files.old) (F.faults files.new))
+        (doors_call D.faults D.asked D.running D.stopped doors.old doors.new) result }
+{
+    match read_rules(alloc, &asked.schema, &asked.clients, files) {
+        Ok(texts) => serve_of(alloc, rt, asked, &texts, doors),
+        Err(outcome) => outcome,
+    }
+}
