@@ -1,6 +1,6 @@
 -- Replays over fresh accounts: what their clients' accounts come to, and how that is written.
 use Rattle.std.proofs.Common.{◌≡◌, ◌≤◌, ◌<◌, ◌⊎◌, inl, inr, ◌∙◌, refl, sym, ap, ap₂, subst, ℕ, zero, suc, ◌+◌, List, [], ◌∷◌, ◌++◌, length, map, get_or, take, append_assoc, arith}
-use Rattle.std.proofs.lemmas.List.{append-nil, length-map, get_or-map}
+use Rattle.std.proofs.lemmas.List.{append-nil, length-map}
 use Rattle.std.proofs.Math.Nat.{min-le_left}
 use Rattle.cost_num.specs.declared.Cost.{Cost}
 use Rattle.cost_num.specs.Within.{Within}
@@ -8,9 +8,8 @@ use Rattle.account_core.specs.declared.Account.{Account}
 use Rattle.account_core.specs.Costs.{smaller}
 use Rattle.account_core.specs.Machine.{first, account_of}
 use Rattle.account_core.specs.History.{IsLegal, state_after}
-use Rattle.account_core.specs.Sums.{open_grants}
-use Rattle.account_cells.specs.Views.{View, no_view, no_limit, first_view}
-use Rattle.account_shared.specs.Views.{PassesView, first_label, IsIdle, KnowsClients, limit_of, client_at, account_seen}
+use Rattle.account_cells.specs.Views.{View, no_view}
+use Rattle.account_shared.specs.Views.{PassesView, KnowsClients, limit_of, client_at, account_seen}
 use Rattle.account_shared.specs.Gains.{entries_for, Gains}
 use Rattle.client_files.specs.declared.client.Client.{Client}
 use Rattle.client_files.specs.ClientFiles.{MayBeServed}
@@ -19,6 +18,7 @@ use Rattle.gateway_core.specs.Rules.{Rules, client_limit, greatest}
 use Rattle.gateway_replay.specs.Turns.{Turn}
 use Rattle.gateway_replay.specs.Lines.{Line, charge_of, total, all_charged, all_lines}
 use Rattle.gateway_replay.specs.Replays.{all_calls, IsReportOf, Replays, AreFresh}
+use Rattle.gateway_replay.proofs.FreshAccounts.{fresh_at, fresh_count}
 use Rattle.account_commands.specs.declared.replay_texts.ReplayTexts.{ReplayTexts}
 use Rattle.account_commands.specs.declared.replay_end.ReplayEnd.{ReplayEnd}
 use Rattle.command_outcomes.specs.declared.outcome.Outcome.{Outcome}
@@ -26,20 +26,6 @@ use Rattle.command_outcomes.specs.declared.outcome.Outcome.TheVariants.{Memory}
 use Rattle.command_outcomes.specs.Texts.{line}
 use Rattle.account_commands.specs.Migrate.{IsLine}
 use Rattle.account_commands.specs.Replay.{account_after, accounts_from, EndsAs, IsReplayed, IsWritten, ReplayOf, client_text, client_lines, IsPrintable}
-
--- ---- fresh accounts
-
-fresh_at : (rules : Rules) (p : PassesView) (client : ℕ) (d : Client) → AreFresh rules p → client < length rules.clients → client_at p client ≡ first_view (client_limit (get_or rules.clients client d))
-fresh_at rules p client d fresh low = ap (λ views. get_or views client no_view) fresh.clients
-    ∙ (get_or-map first_view (map client_limit rules.clients) client (client_limit d) no_view (subst (λ n. client < n) (sym (length-map rules.clients client_limit)) low)
-    ∙ ap first_view (get_or-map client_limit rules.clients client d (client_limit d) low))
-
-fresh_count : (rules : Rules) (p : PassesView) → AreFresh rules p → length p.clients ≡ length rules.clients
-fresh_count rules p fresh = ap length fresh.clients ∙ (length-map (map client_limit rules.clients) first_view ∙ length-map rules.clients client_limit)
-
-pub fresh_idle : (rules : Rules) (p : PassesView) → AreFresh rules p → IsIdle p
-fresh_idle rules p fresh client low = ap (λ (v : View). open_grants v.own) (ap (λ views. get_or views client no_view) fresh.clients
-    ∙ get_or-map first_view (map client_limit rules.clients) client no_limit no_view (subst (λ n. client < n) (sym (length-map rules.clients client_limit) ∙ refl) (subst (λ n. client < n) (fresh_count rules p fresh) low)))
 
 -- ---- the accounts after a replay
 
@@ -145,10 +131,3 @@ pub replay_told : (name : List ℕ) (texts : ReplayTexts) (undeclared : ℕ) (en
     → (outcome ≡ Memory) ⊎ IsWritten end outcome → ReplayOf name texts undeclared outcome
 replay_told name texts undeclared end outcome replayed (inl memory) = inl memory
 replay_told name texts undeclared end outcome replayed (inr written) = inr (inl (replayed_that texts undeclared end (λ other. IsWritten other outcome) replayed written))
-
-pub fresh_made : (rules want : Rules) (p : PassesView) → rules ≡ want → p.clients ≡ map first_view (map client_limit want.clients) → p.made ≡ 0 → p.label ≡ first_label → AreFresh rules p
-fresh_made rules want p same clients made label = record {
-  made = made;
-  label = label;
-  clients = clients ∙ ap (λ (r : Rules). map first_view (map client_limit r.clients)) (sym same);
-}

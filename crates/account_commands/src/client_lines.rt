@@ -2,7 +2,6 @@
 
 ghost use Rattle.std.specs.Prelude.{◌≡◌, ◌≤◌, ◌++◌, OnOk, IfOk, length, string_bytes};
 ghost use Rattle.cost_num.specs.Within.{Within};
-ghost use Rattle.cost_num.specs.CostText.{cost_text};
 ghost use Rattle.client_files.specs.declared.client.TheConstants.{CLIENT_LIMIT};
 ghost use Rattle.gateway_core.specs.Rules.{greatest};
 ghost use Rattle.command_outcomes.specs.Texts.{line};
@@ -13,19 +12,10 @@ use crate::replay_end::ReplayEnd;
 use account_core::Account;
 use client_files::Client;
 use cost_num::Cost;
-use gateway_core::{Totals, printed_cost};
-use gateway_replay::Replayed;
+use gateway_core::Totals;
+use gateway_replay::{Replayed, write_cost};
 use gql_base::Text;
 use std::alloc::{AllocError, Global};
-
-/// Writes a cost.
-pub fn write_cost(alloc: Global, cost: Cost, into: &mut String) -> Result<(), AllocError>
-    requires { Within greatest cost }
-    ensures { OnOk result (string_bytes into.new ≡ string_bytes into.old ++ cost_text cost) }
-{
-    let text = printed_cost(alloc, cost)?;
-    into.push_str(text.as_str())
-}
 
 // Writes what is carried, of a client that carries.
 fn write_carried(
@@ -38,8 +28,7 @@ fn write_carried(
     ensures { OnOk result (string_bytes into.new ≡ string_bytes into.old ++ carried_text carry carried) }
 {
     if carry {
-        into.push_str(" carried ")?;
-        write_cost(alloc, carried, into)?;
+        write_cost(alloc, " carried ", carried, into)?;
     }
     Ok(())
 }
@@ -57,8 +46,8 @@ fn write_client(
 {
     let window = account.window;
     into.push_str(client.key.as_str())?;
-    write!(into, " window {window} settled ")?;
-    write_cost(alloc, account.settled, into)?;
+    write!(into, " window {window}")?;
+    write_cost(alloc, " settled ", account.settled, into)?;
     write_carried(alloc, client.carry, account.carried, into)?;
     into.push('\n')
 }

@@ -7,7 +7,6 @@ ghost use Rattle.command_outcomes.specs.Outcomes.{IsDone, IsRefusedAs};
 ghost use Rattle.account_commands.specs.Replay.{IsPrintable, replay_refusal_text};
 ghost use Rattle.account_commands.specs.Exercise.{exercise_texts, summary_text, ExerciseCameTo};
 
-use crate::client_lines::write_cost;
 use crate::replay_end::replay_texts;
 use crate::replay_inputs::{ReplayFault, ReplayRefusal, refused_replay};
 use crate::replay_texts::ReplayTexts;
@@ -15,7 +14,7 @@ use crate::rule_texts::RuleTexts;
 use command_outcomes::Outcome;
 use command_words::UNDECLARED;
 use cost_vectors::generated;
-use gateway_replay::Replayed;
+use gateway_replay::{Replayed, write_cost};
 use gql_base::Text;
 use std::alloc::{AllocError, Global};
 use std::sync::Wait;
@@ -44,9 +43,9 @@ fn summary_of(alloc: Global, report: &Replayed) -> Result<String, AllocError>
     let short = report.short;
     let refused = report.refused;
     let mut text = format!(in alloc;
-        "steps {steps} granted {granted} short {short} refused {refused} charged "
+        "steps {steps} granted {granted} short {short} refused {refused}"
     )?;
-    write_cost(alloc, report.charged, &mut text)?;
+    write_cost(alloc, " charged ", report.charged, &mut text)?;
     Ok(text)
 }
 

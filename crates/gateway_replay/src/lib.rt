@@ -16,3 +16,4 @@ pub use laws::{fresh_accounts_are_idle, over_fresh_accounts, scripts_are_short};
 pub use replayed::Replayed;
 pub use replaying::replay;
 pub use sharing::replays_are_shared;
+pub use writing::write_cost;

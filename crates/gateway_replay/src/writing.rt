@@ -18,7 +18,16 @@ use gateway_core::{Denial, Finished, denial_message, denial_status, printed_cost
 use std::alloc::{AllocError, Global};
 
 /// Writes a cost behind what is said of it.
-fn write_cost(alloc: Global, what: &str, cost: Cost, into: &mut String) -> Result<(), AllocError>
+///
+/// # Errors
+///
+/// `AllocError` where there was not enough memory.
+pub fn write_cost(
+    alloc: Global,
+    what: &str,
+    cost: Cost,
+    into: &mut String,
+) -> Result<(), AllocError>
     requires { Within greatest cost }
     ensures { OnOk result (string_bytes into.new ≡ string_bytes into.old ++ (what.now ++ cost_text cost)) }
 {

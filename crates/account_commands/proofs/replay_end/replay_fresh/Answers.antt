@@ -1,7 +1,8 @@
 -- Nothing was open before, and the accounts are those of the calls.
 use Rattle.replay_scripts.specs.Answers.{steps_of}
 use Rattle.gateway_core.specs.Gates.{rules_of}
-use Rattle.account_commands.proofs.Replays.{fresh_idle, ends_as}
+use Rattle.gateway_replay.proofs.FreshAccounts.{fresh_idle}
+use Rattle.account_commands.proofs.Replays.{ends_as}
 use Rattle.account_commands.proofs.replay_end.replay_fresh.Goals as goal
 
 pub replay-requires-clause-idle : goal.replay-requires-clause-idle
