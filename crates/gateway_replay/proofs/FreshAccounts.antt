@@ -12,7 +12,7 @@ use Rattle.client_files.specs.declared.client.Client.{Client}
 use Rattle.replay_scripts.specs.Steps.{StepData}
 use Rattle.replay_scripts.specs.Scripts.{AreStepLines, IsScript}
 use Rattle.gateway_core.specs.Rules.{Rules, client_limit}
-use Rattle.gateway_core.proofs.FreshAccounts.{fresh_at}
+pub use Rattle.gateway_core.proofs.FreshAccounts.{fresh_at, fresh_count, fresh_idle}
 use Rattle.gateway_replay.specs.declared.replayed.Replayed.{Replayed}
 use Rattle.gateway_replay.specs.Replays.{all_calls, IsReportOf, Replays, AreFresh, ReplaysFresh, IsOverFresh}
 

@@ -1,2 +1,3 @@
 mod Statuses
 mod WordEnds
+mod Services

@@ -4,8 +4,6 @@ use Rattle.command_outcomes.specs.declared.limits.TheConstants.{SCHEMA_LIMIT, DO
 use Rattle.std.specs.declared.alloc.Global.{Global}
 use Rattle.outside.specs.Faults.{Rose}
 use Rattle.command_outcomes.specs.Texts.{line}
-use Rattle.response_meter.specs.declared.fault.MeterFault.{MeterFault}
-use Rattle.response_meter.specs.declared.fault.MeterFault.TheVariants.{NotResponse, SizeBroken, Memory as MeterMemory}
 use Rattle.command_words.specs.declared.command.Command.{Command}
 use Rattle.command_words.specs.declared.command.Command.TheVariants.{Help, Version, Check, Price, Worst, Forward, Meter, Replay, Serve, Exercise, Migrate}
 use Rattle.command_words.specs.declared.command.Asked.{Asked}
@@ -15,8 +13,6 @@ use Rattle.gateway_serving.specs.declared.ending.ServeEnd.{ServeEnd}
 use Rattle.gateway_serving.specs.declared.ending.ServeFault.{ServeFault}
 use Rattle.gateway_serving.specs.declared.ending.ServeFault.TheVariants.{NotStarted as NoDoors, Memory as NoMemory}
 use Rattle.account_commands.specs.declared.rule_texts.RuleTexts.{RuleTexts}
-use Rattle.static_cost.specs.declared.part.Part.{Part}
-use Rattle.plan_table.specs.declared.table.Plan.{Plan}
 use Rattle.command_outcomes.specs.declared.outcome.Outcome.{Outcome}
 use Rattle.command_outcomes.specs.declared.outcome.Outcome.TheVariants.{Done, Refused, FileFailed, Faulty, Served, NotStarted, Usage, Memory}
 use Rattle.command_outcomes.specs.declared.outcome.TheConstants.{DONE, REFUSED, USAGE, FILE_FAILED, STREAM_FAILED, NO_MEMORY, SIZE_BROKEN, NOT_RESPONSE, DOOR_FAILED}
@@ -28,15 +24,14 @@ use Rattle.operation_commands.specs.declared.asked.AskedTexts.{AskedTexts}
 use Rattle.command_outcomes.specs.Reading.{IsNoText, HasNoText}
 use Rattle.operation_commands.specs.Asked.{HasNoVariables, HaveNoOperation, HaveNoTexts, request_in}
 use Rattle.operation_commands.specs.Price.{PriceOf}
-use Rattle.response_model.specs.Plan.{Plan as PlanTree}
-use Rattle.acceptance.specs.Requests.{plan_tree}
+use Rattle.operation_commands.specs.Subjects.{MeterFault, NotResponse, SizeBroken, MeterMemory, Part, Plan, PlanTree, plan_tree}
 use Rattle.operation_commands.specs.Worst.{WorstOfTree, WorstOf}
 use Rattle.operation_commands.specs.Forward.{ForwardOf}
 use Rattle.operation_commands.specs.Meter.{status_of, IsReplyFault, HasNoReply, HaveNoMetering, MeterOfPlan, MeterOf}
 use Rattle.account_commands.specs.declared.replay_texts.ReplayTexts.{ReplayTexts}
 use Rattle.account_commands.specs.RuleFiles.{HaveNoRules}
 use Rattle.account_commands.specs.Replay.{HaveNoReplay, ReplayOf}
-use Rattle.serve_command.specs.Serve.{DoorsCall, IsTold, ServeOf, ServeCameTo}
+use Rattle.gateway_run.specs.Serve.{DoorsCall, IsTold, ServeOf, ServeCameTo}
 use Rattle.account_commands.specs.Exercise.{ExerciseCameTo}
 use Rattle.account_commands.specs.Migrate.{MigrateOf}
 use Rattle.gateway_run.specs.Program.{AnswerCameTo, CommandCameTo, IsCommandOf, ComeTo, IsAskedFile, IsReplayFile, IsServeFile, IsFileOf, NamesFile, OneFailed, PrintsOutput, PrintsRefusal, PrintsFault, TellsDoor, IsSilent}

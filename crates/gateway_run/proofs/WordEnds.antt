@@ -5,7 +5,7 @@ use Rattle.command_words.specs.declared.command.WordsFault.TheVariants.{Usage, M
 use Rattle.command_words.specs.Words.{IsNoCommand}
 use Rattle.command_outcomes.specs.declared.outcome.Outcome.{Outcome}
 use Rattle.command_outcomes.specs.Outcomes.{FilesTold}
-use Rattle.serve_command.specs.Serve.{DoorsCall, AreUntouched}
+use Rattle.gateway_run.specs.Serve.{DoorsCall, AreUntouched}
 use Rattle.gateway_run.specs.Program.{no_command, ComeTo}
 
 pub unread : (words : List (List ℕ)) (files : FilesTold) (doors : DoorsCall) (fault : WordsFault) (outcome : Outcome) → (fault ≡ Usage → IsNoCommand words) → outcome ≡ no_command fault → AreUntouched doors → ComeTo words files doors outcome

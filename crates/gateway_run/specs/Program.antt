@@ -22,7 +22,7 @@ use Rattle.operation_commands.specs.Worst.{WorstCameTo}
 use Rattle.operation_commands.specs.Forward.{ForwardCameTo}
 use Rattle.operation_commands.specs.Meter.{MeterCameTo}
 use Rattle.account_commands.specs.Replay.{ReplayCameTo}
-use Rattle.serve_command.specs.Serve.{DoorsCall, AreUntouched, ServeCameTo}
+use Rattle.gateway_run.specs.Serve.{DoorsCall, AreUntouched, ServeCameTo}
 use Rattle.account_commands.specs.Exercise.{ExerciseCameTo}
 use Rattle.account_commands.specs.Migrate.{MigrateCameTo}
 

@@ -5,6 +5,7 @@
 
 mod finish;
 mod program;
+mod serving;
 mod status_laws;
 
 pub use command_outcomes::{

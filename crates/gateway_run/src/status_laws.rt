@@ -4,7 +4,7 @@ ghost use Rattle.std.specs.Prelude.{◌≡◌, ◌≤◌, ◌⊎◌, ℕ, List};
 ghost use Rattle.command_words.specs.Words.{IsNoCommand};
 ghost use Rattle.command_outcomes.specs.Outcomes.{FilesTold};
 ghost use Rattle.gateway_run.specs.Endings.{StreamTold, IsKept};
-ghost use Rattle.serve_command.specs.Serve.{DoorsCall};
+ghost use Rattle.gateway_run.specs.Serve.{DoorsCall};
 ghost use Rattle.gateway_run.specs.Program.{Runs, NamesFile, OneFailed, PrintsOutput, PrintsRefusal, PrintsFault, TellsDoor, IsSilent};
 
 use command_outcomes::{

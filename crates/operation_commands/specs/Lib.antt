@@ -4,3 +4,5 @@ pub mod Worst
 pub mod Forward
 pub mod ReplyTexts
 pub mod Meter
+-- What is passed on.
+pub mod Subjects

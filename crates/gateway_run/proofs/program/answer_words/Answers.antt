@@ -1,7 +1,7 @@
 -- The words were not read into a command, and the doors are as before.
 use Rattle.std.proofs.Common.{ap, refl, Err}
 use Rattle.command_outcomes.specs.Outcomes.{files_told}
-use Rattle.serve_command.specs.Serve.{doors_call}
+use Rattle.gateway_run.specs.Serve.{doors_call}
 use Rattle.gateway_run.proofs.WordEnds.{unread}
 use Rattle.gateway_run.proofs.program.answer_words.Goals as goal
 

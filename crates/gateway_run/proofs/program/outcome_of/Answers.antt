@@ -1,7 +1,7 @@
 -- By the command: what it came to, and that the doors are as before.
 use Rattle.std.proofs.Common.{sym, subst, refl}
 use Rattle.command_outcomes.specs.Outcomes.{files_told}
-use Rattle.serve_command.specs.Serve.{doors_call}
+use Rattle.gateway_run.specs.Serve.{doors_call}
 use Rattle.gateway_run.specs.Program.{CommandCameTo}
 use Rattle.gateway_run.proofs.program.outcome_of.Goals as goal
 

@@ -3,8 +3,8 @@ use Rattle.std.proofs.Common.{inl, refl, subst}
 use Rattle.gateway_serving.specs.declared.asked.Serving.{Serving}
 use Rattle.gateway_serving.specs.Telling.{doors_told}
 use Rattle.gateway_serving.specs.Ends.{ComesTo}
-use Rattle.serve_command.proofs.Services.{same_service}
-use Rattle.serve_command.proofs.serving.serve_by.Goals as goal
+use Rattle.gateway_run.proofs.Services.{same_service}
+use Rattle.gateway_run.proofs.serving.serve_by.Goals as goal
 
 pub returns-in_default : goal.returns-in_default
 returns-in_default g c = (

@@ -5,12 +5,12 @@ ghost use Rattle.schema_model.specs.SchemaViews.{schema_data};
 ghost use Rattle.cost_directives.specs.WeightViews.{weights_data};
 ghost use Rattle.client_files.specs.ClientFiles.{MayBeServed};
 ghost use Rattle.client_files.specs.declared.client.TheConstants.{CLIENT_LIMIT};
-ghost use Rattle.gateway_core.specs.Rules.{HasWeights};
+ghost use Rattle.gateway_serving.specs.Decisions.{HasWeights};
 ghost use Rattle.command_words.specs.declared.command.Command.TheVariants.{Serve};
 ghost use Rattle.command_words.specs.Words.{ServesWithinLimits};
 ghost use Rattle.command_outcomes.specs.Reading.{IsText};
 ghost use Rattle.command_outcomes.specs.Outcomes.{files_told};
-ghost use Rattle.serve_command.specs.Serve.{doors_call, ServesTo, IsTold, closing_text, ServeOf, ServeCameTo};
+ghost use Rattle.gateway_run.specs.Serve.{doors_call, ServesTo, IsTold, closing_text, ServeOf, ServeCameTo};
 
 use account_commands::{
     RuleInputs, RuleTexts, RulesFault, read_rules, refused_rules, rule_inputs_in, write_clients,
@@ -18,8 +18,7 @@ use account_commands::{
 use command_outcomes::{Outcome, SCHEMA_LIMIT};
 use command_words::AskedServe;
 use doors::Doors;
-use gateway_core::{Gate, Settings};
-use gateway_serving::{ServeEnd, ServeFault, Serving};
+use gateway_serving::{Gate, ServeEnd, ServeFault, Serving, Settings};
 use gql_base::Text;
 use outside::Files;
 use plan_model::laws::built_schemas_can_be_filled;

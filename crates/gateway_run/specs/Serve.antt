@@ -2,8 +2,7 @@
 use Rattle.std.specs.Prelude.{◌≡◌, ◌⊎◌, ◌++◌, ℕ, List, Option, Result, Ok, Err, codes, nat_lt}
 use Rattle.std.specs.Fmt.{decimal}
 use Rattle.doors.specs.Starts.{Asked, Stopped}
-use Rattle.gateway_connections.specs.Exchanges.{Service}
-use Rattle.gateway_workers.specs.declared.work_done.WorkDone.{WorkDone}
+use Rattle.gateway_serving.specs.Decisions.{Service, WorkDone}
 use Rattle.gateway_serving.specs.declared.asked.Serving.{Serving}
 use Rattle.gateway_serving.specs.declared.ending.ServeEnd.{ServeEnd}
 use Rattle.gateway_serving.specs.declared.ending.ServeFault.{ServeFault}

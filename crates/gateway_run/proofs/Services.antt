@@ -4,13 +4,11 @@ use Rattle.schema_model.specs.SchemaViews.{schema_data}
 use Rattle.cost_directives.specs.WeightViews.{weights_data}
 use Rattle.gateway_core.specs.declared.gate.Gate.{Gate}
 use Rattle.gateway_core.specs.declared.gate.Settings.{Settings}
-use Rattle.gateway_core.specs.Rules.{Rules, rules_with}
-use Rattle.gateway_core.specs.Gates.{rules_of}
-use Rattle.gateway_connections.specs.Exchanges.{Service, service_of}
+use Rattle.gateway_serving.specs.Decisions.{Rules, rules_with, rules_of, Service, service_of}
 use Rattle.command_words.specs.declared.command.AskedServe.{AskedServe}
 use Rattle.account_commands.specs.declared.rule_inputs.RuleInputs.{RuleInputs}
 use Rattle.account_commands.specs.RuleFiles.{rules_in}
-use Rattle.serve_command.specs.Serve.{service_by}
+use Rattle.gateway_run.specs.Serve.{service_by}
 
 with_parts : Rules → List ℕ → List ℕ → Service
 with_parts rules host target = record { rules = rules; host = host; target = target }
