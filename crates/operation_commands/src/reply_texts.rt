@@ -2,37 +2,19 @@
 
 ghost use Rattle.std.specs.Prelude.{◌≡◌, ◌++◌, ◌∷◌, IfOk, codes, string_bytes};
 ghost use Rattle.std.specs.Fmt.{decimal};
-ghost use Rattle.operation_commands.specs.ReplyTexts.{why_text, meter_text};
+ghost use Rattle.response_meter.specs.Faults.{why_name};
+ghost use Rattle.operation_commands.specs.ReplyTexts.{meter_text};
 ghost use Rattle.command_outcomes.specs.Texts.{too_large_text};
 ghost use Rattle.command_outcomes.specs.Outcomes.{IsRefusedAs, IsFaultyAs};
 
 use command_outcomes::{NOT_RESPONSE, Outcome, SIZE_BROKEN, refused_naming};
 use gql_base::Text;
-use response_meter::{MeterFault, Why};
+use response_meter::{MeterFault, Why, why_name};
 use std::alloc::{AllocError, Global};
-
-// The name of a test that a reply does not pass.
-fn why_name(why: Why) -> &'static str
-    ensures { result.now ≡ why_text why }
-{
-    match why {
-        Why::NotJson => "NotJson",
-        Why::NotObject => "NotObject",
-        Why::NoData => "NoData",
-        Why::BadErrors => "BadErrors",
-        Why::MissingKey => "MissingKey",
-        Why::ExtraKey => "ExtraKey",
-        Why::NullHere => "NullHere",
-        Why::NotList => "NotList",
-        Why::BadLeaf => "BadLeaf",
-        Why::BadType => "BadType",
-        Why::BadObject => "BadObject",
-    }
-}
 
 // The text of a reply that is no response.
 fn not_response_text(alloc: Global, path: &Text, why: Why) -> Result<String, AllocError>
-    ensures { IfOk result (λ text. string_bytes text ≡ codes "meter 1 NotResponse " ++ path.now ++ (32 ∷ why_text why)) }
+    ensures { IfOk result (λ text. string_bytes text ≡ codes "meter 1 NotResponse " ++ path.now ++ (32 ∷ why_name why)) }
 {
     let path = path.as_str();
     let name = why_name(why);
