@@ -4,6 +4,7 @@ use Rattle.std.specs.Prelude.{◌&&◌, ◌||◌, not}
 use Rattle.std.specs.List.{list_any}
 use Rattle.std.specs.Str.{bytes_eq}
 use Rattle.std.specs.Cmp.Lexicographic.{nat_list_eq_equiv}
+use Rattle.std.proofs.lemmas.Bool.{and_parts}
 use Rattle.std.proofs.lemmas.List.Folds.{list_any-append}
 use Rattle.gql_base.specs.names.Names.{are_distinct}
 
@@ -24,10 +25,6 @@ distinct_push (other ∷ names) name =
     ∙ (ap (λ b. not (list_any (bytes_eq other) names || (b || false)) && (are_distinct names && not (list_any (bytes_eq name) names))) (nat_list_eq_equiv.symm other name)
     ∙ ordered (list_any (bytes_eq other) names) (bytes_eq name other) (are_distinct names) (list_any (bytes_eq name) names)))
 
-both : (a b : Bool) → (a && b) ≡ true → (a ≡ true) × (b ≡ true)
-both true b h = (refl, h)
-both false b h = cc
-
 not_either : (a b : Bool) → not (a || b) ≡ true → not a ≡ true
 not_either true b h = h
 not_either false b h = refl
@@ -36,7 +33,7 @@ not_either false b h = refl
 pub distinct_front : (front left : List (List ℕ)) → are_distinct (front ++ left) ≡ true → are_distinct front ≡ true
 distinct_front [] left h = refl
 distinct_front (name ∷ names) left h =
-    let parts = both (not (list_any (bytes_eq name) (names ++ left))) (are_distinct (names ++ left)) h in
+    let parts = and_parts (not (list_any (bytes_eq name) (names ++ left))) (are_distinct (names ++ left)) h in
     let new = not_either (list_any (bytes_eq name) names) (list_any (bytes_eq name) left) (sym (ap not (list_any-append (bytes_eq name) names left)) ∙ parts.0) in
     rw (new, distinct_front names left parts.1) refl
 

@@ -4,7 +4,7 @@ use Rattle.std.specs.Prelude.{◌==◌, ◌&&◌, not, IsUtf8, nat_lt, nat_le, c
 use Rattle.std.specs.Fmt.{decimal}
 use Rattle.std.specs.List.{All, AllByRecursion, list_all, slice_split, flat_map}
 use Rattle.std.specs.Str.Parse.{AllDigits}
-use Rattle.std.proofs.lemmas.Bool.{eqb-true, cases_Bool}
+use Rattle.std.proofs.lemmas.Bool.{eqb-true, cases_Bool, not-true, and_from}
 use Rattle.std.proofs.lemmas.Grind.{flat_map-append}
 use Rattle.std.proofs.Math.Seq.{take-append_seam}
 use Rattle.std.proofs.lemmas.List.{append-nil, map-append, take_all, take_more}
@@ -36,24 +36,17 @@ use Rattle.client_files.proofs.Lines.{last_empty}
 abbrev pub Lacks : (ℕ → Bool) → List ℕ → Type 0
 Lacks test bytes = list_all (λ byte. not (test byte)) bytes ≡ true
 
-not_true : (b : Bool) → not b ≡ true → b ≡ false
-not_true true h = cc
-not_true false h = refl
-
 lacks_all : (test : ℕ → Bool) (bytes : List ℕ) → Lacks test bytes → All (λ byte. test byte ≡ false) bytes
-lacks_all test bytes lacks k d low = not_true (test (slice_index_or bytes k d)) (AllPass-from_list_all (λ byte. not (test byte)) bytes lacks k d low)
-
-both_true : (a b : Bool) → a ≡ true → b ≡ true → (a && b) ≡ true
-both_true a b x y = rw (x, y) refl
+lacks_all test bytes lacks k d low = not-true (test (slice_index_or bytes k d)) (AllPass-from_list_all (λ byte. not (test byte)) bytes lacks k d low)
 
 lacks_append : (test : ℕ → Bool) (xs ys : List ℕ) → Lacks test xs → Lacks test ys → Lacks test (xs ++ ys)
-lacks_append test xs ys x y = list_all-append (λ byte. not (test byte)) xs ys ∙ both_true (list_all (λ byte. not (test byte)) xs) (list_all (λ byte. not (test byte)) ys) x y
+lacks_append test xs ys x y = list_all-append (λ byte. not (test byte)) xs ys ∙ and_from (list_all (λ byte. not (test byte)) xs) (list_all (λ byte. not (test byte)) ys) x y
 
 -- from a fact on each byte
 
 lacks_each : (test : ℕ → Bool) (P : ℕ → Type 0) → ((byte : ℕ) → P byte → test byte ≡ false) → (bytes : List ℕ) → AllByRecursion P bytes → Lacks test bytes
 lacks_each test P no_test [] each = refl
-lacks_each test P no_test (b ∷ bs) each = both_true (not (test b)) (list_all (λ byte. not (test byte)) bs) (ap not (no_test b each.0)) (lacks_each test P no_test bs each.1)
+lacks_each test P no_test (b ∷ bs) each = and_from (not (test b)) (list_all (λ byte. not (test byte)) bs) (ap not (no_test b each.0)) (lacks_each test P no_test bs each.1)
 
 -- the bytes of amounts: digits and the dot
 
