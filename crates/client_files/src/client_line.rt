@@ -119,10 +119,17 @@ fn allows(version: Version, allowance: Cost, carry: bool) -> bool
 }
 
 /// Whether a text has the form of a key.
-fn is_key(text: &str) -> bool
+pub fn is_key(text: &str) -> bool
     ensures { result ≡ is_key text.now }
 {
-    !text.is_empty() && text.len() <= KEY_LIMIT && are_key_bytes(text.as_bytes())
+    bytes_are_key(text.as_bytes())
+}
+
+/// Whether the bytes of a text have the form of a key.
+pub fn bytes_are_key(text: &[u8]) -> bool
+    ensures { result ≡ is_key text.now }
+{
+    !text.is_empty() && text.len() <= KEY_LIMIT && are_key_bytes(text)
 }
 
 /// Whether each byte may stand in a key.

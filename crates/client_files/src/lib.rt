@@ -14,6 +14,7 @@ mod migration;
 mod reading;
 
 pub use client::{CARRY_LIMIT, CLIENT_LIMIT, Client, Clients, KEY_LIMIT, WINDOW_LIMIT};
+pub use client_line::{bytes_are_key, is_key};
 pub use fault::{ClientsFault, fault_text};
 pub use heading::Version;
 pub use migration::{client_file, migrate_clients};

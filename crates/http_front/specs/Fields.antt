@@ -1,11 +1,11 @@
 -- What the fields of a head say, from their names and values (RFC 9110, section 5).
-use Rattle.std.specs.Prelude.{ℕ, Bool, false, ◌&&◌, ◌||◌, List, [], ◌∷◌, map, length, Option, Some, None, Result, Ok, Err, if◌then◌else◌, nat_lt, nat_le, ◌==◌, codes}
-use Rattle.std.specs.List.{list_all, list_any}
-use Rattle.std.specs.Char.{is_ascii_alphanumeric}
+use Rattle.std.specs.Prelude.{ℕ, Bool, false, List, [], ◌∷◌, map, length, Option, Some, None, Result, Ok, Err, if◌then◌else◌, ◌==◌, codes}
+use Rattle.std.specs.List.{list_any}
 use Rattle.std.specs.Borrow.{Bor}
 use Rattle.httparse.specs.Grammar.{trim_ows}
 use Rattle.http_fields.specs.declared.lengths.BadLength.{BadLength}
 use Rattle.http_fields.specs.Fields.{NameAndValue, same_in_any_case, values_of, length_in}
+use Rattle.client_files.specs.ClientLines.{is_key}
 use Rattle.http_front.specs.declared.fault.FrontFault.{FrontFault}
 use Rattle.http_front.specs.declared.fault.FrontFault.TheVariants as fault
 use Rattle.http_front.specs.declared.values.Elements.{Elements}
@@ -14,14 +14,6 @@ use Rattle.http_front.specs.declared.values.Elements.{Elements}
 abbrev pub single : List (List ℕ) → Option (List ℕ)
 single (value ∷ []) = Some value
 single _ = None
-
--- a character of a client's key: a letter, a digit, `_` or `-`
-abbrev pub is_key_byte : ℕ → Bool
-is_key_byte byte = is_ascii_alphanumeric byte || (byte == 95 || byte == 45)
-
--- the form of a client's key: 1 to 64 of these
-abbrev pub is_key : List ℕ → Bool
-is_key value = nat_lt 0 (length value) && (nat_le (length value) 64 && list_all is_key_byte value)
 
 abbrev pub if_key : Option (List ℕ) → Option (List ℕ)
 if_key None = None

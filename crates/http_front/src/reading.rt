@@ -1,13 +1,13 @@
 //! What the fields of the head of a request say.
 
 ghost use Rattle.std.specs.Prelude.{◌≡◌};
-ghost use Rattle.std.specs.List.{list_all};
 ghost use Rattle.std.specs.Option.{option_map};
 ghost use Rattle.http_fields.specs.Fields.{pairs_of, values_of, values_left};
-ghost use Rattle.http_front.specs.Fields.{single, key_in, is_key_byte, is_key, is_json_type, is_json, says_close, body_length};
+ghost use Rattle.http_front.specs.Fields.{single, key_in, is_json_type, is_json, says_close, body_length};
 
 use crate::fault::FrontFault;
 use crate::values::{Elements, has_element};
+use client_files::bytes_are_key;
 use http_fields::{BadLength, Fields, is_same};
 
 /// The value of the field with this name, where there is just one.
@@ -28,7 +28,11 @@ pub(crate) fn key<'a>(fields: Fields<'a>) -> Option<&'a [u8]>
     ensures { option_map (λ value. value.now) result ≡ key_in (pairs_of fields.entry) }
 {
     let value = single(fields, b"x-client-key")?;
-    if is_key(value) { Some(value) } else { None }
+    if bytes_are_key(value) {
+        Some(value)
+    } else {
+        None
+    }
 }
 
 /// Whether the body is JSON by its type.
@@ -69,22 +73,4 @@ fn is_json_type(value: &[u8]) -> bool
         Some(kind) => is_same(kind, b"application/json"),
         None => false,
     }
-}
-
-fn is_key_byte(byte: u8) -> bool
-    ensures { result ≡ is_key_byte byte }
-{
-    byte.is_ascii_alphanumeric() || byte == b'_' || byte == b'-'
-}
-
-fn are_key_bytes(value: &[u8]) -> bool
-    ensures { result ≡ list_all is_key_byte value.now }
-{
-    value.iter().all(|byte| is_key_byte(*byte))
-}
-
-fn is_key(value: &[u8]) -> bool
-    ensures { result ≡ is_key value.now }
-{
-    value.len() > 0 && value.len() <= 64 && are_key_bytes(value)
 }

@@ -2,7 +2,8 @@
 use Rattle.std.proofs.Common.{◌≡◌, ℕ, List, [], ◌∷◌, None, Some, true, false, true≢false, arith, refl, sym, ap, ◌∙◌, codes}
 use Rattle.std.specs.Fmt.{decimal}
 use Rattle.std.proofs.lemmas.Option.{same_Some}
-use Rattle.replay_scripts.specs.Steps.{ReturnedData, reply, down, failed, StepData, begins, ends, spaced, is_id, is_key, IsStep, returned_word}
+use Rattle.client_files.specs.ClientLines.{is_key}
+use Rattle.replay_scripts.specs.Steps.{ReturnedData, reply, down, failed, StepData, begins, ends, spaced, is_id, IsStep, returned_word}
 use Rattle.replay_scripts.specs.Words.{first_word, IsMoment, IsSpelled, IsBodiless}
 use Rattle.replay_scripts.proofs.Words.{only_word, found_word, id_word, key_word, moment_word}
 

@@ -1,17 +1,18 @@
 -- The words of a line.
-use Rattle.std.proofs.Common.{◌≡◌, ℕ, ◌+◌, ◌<◌, ◌&&◌, List, [], ◌∷◌, length, take, drop, Bool, true, false, cond, not, nat_eq, nat_lt, Option, None, Some, refl, sym, ap, ◌∙◌, arith, true≢false, if◌then◌else◌}
+use Rattle.std.proofs.Common.{◌≡◌, ℕ, ◌+◌, ◌<◌, List, [], ◌∷◌, length, take, drop, Bool, true, false, cond, not, nat_eq, nat_lt, Option, None, Some, refl, sym, ap, ◌∙◌, arith, true≢false, if◌then◌else◌}
 use Rattle.std.specs.Prelude.{⊤}
 use Rattle.std.specs.Char.{is_ascii_alphanumeric}
 use Rattle.std.specs.Fmt.{decimal}
 use Rattle.std.specs.List.{list_all, before_first, after_first, position_or_len}
 use Rattle.std.specs.Str.Parse.{AllDigits}
-use Rattle.std.proofs.lemmas.Bool.{eqb-true, lt-ltb, ltb-true}
+use Rattle.std.proofs.lemmas.Bool.{eqb-true, lt-ltb, ltb-true, and_parts}
 use Rattle.std.proofs.lemmas.Option.{same_Some}
 use Rattle.std.proofs.lemmas.Str.Parse.{digit_from_value}
 use Rattle.std.proofs.lemmas.Fmt.{decimal_is_IsNumeral}
 use Rattle.replay_scripts.specs.Words.{is_space, first_word}
 use Rattle.replay_scripts.proofs.Cuts.{take_one_more, drop_one_more, drop_two_more}
-use Rattle.replay_scripts.specs.Steps.{spaced, is_id, is_key_byte, is_key}
+use Rattle.client_files.specs.ClientLines.{is_key_byte, is_key}
+use Rattle.replay_scripts.specs.Steps.{spaced, is_id}
 
 -- a word holds no space
 abbrev pub HasNoSpace : List ℕ → Type 0
@@ -80,15 +81,11 @@ same_words word other rest left none free same =
     let e = same_Some _ _ (sym (only_word word rest none) ∙ ap first_word same ∙ only_word other left free) in
     (ap (λ cut. cut.0) e, ap (λ cut. cut.1) e)
 
-both : (a b : Bool) → (a && b) ≡ true → (a ≡ true) × (b ≡ true)
-both true b is = (refl, is)
-both false b is = absurd (true≢false (sym is))
-
 -- of characters among which a space isn't
 of_these : (these : ℕ → Bool) (bytes : List ℕ) → these 32 ≡ false → list_all these bytes ≡ true → HasNoSpace bytes
 of_these these [] none all = tt
 of_these these (byte ∷ bytes) none all =
-    let parts = both (these byte) (list_all these bytes) all in
+    let parts = and_parts (these byte) (list_all these bytes) all in
     (by_test (nat_eq byte 32) refl parts.0, of_these these bytes none parts.1)
   where
     by_test : (test : Bool) → nat_eq byte 32 ≡ test → these byte ≡ true → test ≡ false
@@ -96,10 +93,10 @@ of_these these (byte ∷ bytes) none all =
     by_test false is h = refl
 
 pub id_word : (id : List ℕ) → is_id id ≡ true → HasNoSpace id
-id_word id is = of_these is_ascii_alphanumeric id refl (both _ _ (both _ _ is).1).1
+id_word id is = of_these is_ascii_alphanumeric id refl (and_parts _ _ (and_parts _ _ is).1).1
 
 pub key_word : (key : List ℕ) → is_key key ≡ true → HasNoSpace key
-key_word key is = of_these is_key_byte key refl (both _ _ (both _ _ is).1).1
+key_word key is = of_these is_key_byte key refl (and_parts _ _ (and_parts _ _ is).1).1
 
 digits_word : (digits : List ℕ) → AllDigits 10 digits → HasNoSpace digits
 digits_word [] all = tt

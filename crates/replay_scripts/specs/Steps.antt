@@ -1,9 +1,10 @@
 -- Steps, and how each of them is spelled in a line.
-use Rattle.std.specs.Prelude.{◌≡◌, ℕ, ◌<◌, ◌^◌, Bool, true, ◌==◌, ◌&&◌, ◌||◌, nat_lt, nat_le, List, ◌∷◌, ◌++◌, length, codes}
+use Rattle.std.specs.Prelude.{◌≡◌, ℕ, ◌<◌, ◌^◌, Bool, true, ◌&&◌, nat_lt, nat_le, List, ◌∷◌, ◌++◌, length, codes}
 use Rattle.std.specs.Char.{is_ascii_alphanumeric}
 use Rattle.std.specs.Fmt.{decimal}
 use Rattle.std.specs.List.{list_all}
-use Rattle.replay_scripts.specs.declared.step.TheConstants.{ID_LIMIT, KEY_LIMIT}
+use Rattle.client_files.specs.ClientLines.{is_key}
+use Rattle.replay_scripts.specs.declared.step.TheConstants.{ID_LIMIT}
 use Rattle.replay_scripts.specs.declared.step.Step.{Step}
 use Rattle.replay_scripts.specs.declared.step.Step.TheVariants.{Begin, End}
 use Rattle.replay_scripts.specs.declared.step.Returned.{Returned}
@@ -32,14 +33,6 @@ step_data (End id returned) = ends id.now (returned_data returned)
 -- a request's id has 1 to 16 ASCII letters and digits
 abbrev pub is_id : List ℕ → Bool
 is_id id = nat_lt 0 (length id) && (nat_le (length id) ID_LIMIT && list_all is_ascii_alphanumeric id)
-
--- an ASCII letter or digit, `_` or `-`
-abbrev pub is_key_byte : ℕ → Bool
-is_key_byte byte = is_ascii_alphanumeric byte || (byte == 95 || byte == 45)
-
--- a client's key has 1 to 64 of these
-abbrev pub is_key : List ℕ → Bool
-is_key key = nat_lt 0 (length key) && (nat_le (length key) KEY_LIMIT && list_all is_key_byte key)
 
 -- a step that a script may have
 abbrev pub IsStep : StepData → Type 0

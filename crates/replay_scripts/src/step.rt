@@ -3,9 +3,6 @@
 /// The greatest length of the id of a request, in characters.
 pub const ID_LIMIT: usize = 16;
 
-/// The greatest length of a client's key, in characters.
-pub const KEY_LIMIT: usize = 64;
-
 /// How many lines a script may have.
 pub const LINE_LIMIT: usize = 10_000;
 

@@ -3,12 +3,13 @@
 ghost use Rattle.std.specs.Prelude.{◌≡◌, IfSome, IfNone, codes};
 ghost use Rattle.std.specs.Char.{is_ascii_alphanumeric};
 ghost use Rattle.std.specs.List.{list_all};
-ghost use Rattle.replay_scripts.specs.Steps.{StepData, step_data, returned_word, returned_data, is_id, is_key_byte, is_key, IsStepLine};
+ghost use Rattle.replay_scripts.specs.Steps.{StepData, step_data, returned_word, returned_data, is_id, IsStepLine};
 ghost use Rattle.replay_scripts.specs.Words.{IsBodiless, IsSpelled};
 
 use crate::line::first_word;
 use crate::moment::moment_in;
-use crate::step::{ID_LIMIT, KEY_LIMIT, Returned, Step};
+use crate::step::{ID_LIMIT, Returned, Step};
+use client_files::is_key;
 
 /// The step that a line spells.
 pub fn step_in(line: &str) -> Option<Step<'_>>
@@ -101,25 +102,4 @@ fn are_alphanumeric(bytes: &[u8]) -> bool
     ensures { result ≡ list_all is_ascii_alphanumeric bytes.now }
 {
     bytes.iter().all(|byte| byte.is_ascii_alphanumeric())
-}
-
-/// Whether a text has the form of a key.
-fn is_key(text: &str) -> bool
-    ensures { result ≡ is_key text.now }
-{
-    !text.is_empty() && text.len() <= KEY_LIMIT && are_key_bytes(text.as_bytes())
-}
-
-/// Whether each byte may stand in a key.
-fn are_key_bytes(bytes: &[u8]) -> bool
-    ensures { result ≡ list_all is_key_byte bytes.now }
-{
-    bytes.iter().all(|byte| is_key_byte(*byte))
-}
-
-/// Whether a byte may stand in a key.
-fn is_key_byte(byte: u8) -> bool
-    ensures { result ≡ is_key_byte byte }
-{
-    byte.is_ascii_alphanumeric() || byte == b'_' || byte == b'-'
 }
