@@ -61,13 +61,16 @@ def owner_of(text):
 
 
 def function_at(path, text, place):
-    """The path below the crate of the function that this place of a source file stands in; none outside of functions."""
+    """The name of the function that this place of a source file stands in, or the end of it; none outside of functions."""
     before = [it for it in FUNCTION.finditer(text) if it.start() <= place]
     if not before or re.search(rf"(?m)^{before[-1][1]}\}}", text[before[-1].start() : place]):
         return None
     indent, name = before[-1].groups()
+    if indent:
+        # (a method's name has the module of its type, which may be another than that of the text)
+        return f"{owner_of(text[: before[-1].start()])}::{name}"
     modules = [it for it in path.removeprefix("src/").removesuffix(".rt").split("/") if it not in ("lib", "main", "mod")]
-    return "::".join([*modules, *([owner_of(text[: before[-1].start()])] if indent else []), name])
+    return "::".join([*modules, name])
 
 
 def functions_of(edit, folder):
