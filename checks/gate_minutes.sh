@@ -1,11 +1,12 @@
 #!/usr/bin/env bash
-# Runs the whole gate from nothing, and notes what it cost: in docs/working.md, in the one line that begins with 'Measured:'.
+# Runs the whole gate from nothing, and says what it cost, in a line that begins with 'Measured:'; ends with the gate's status.
 #
-#     checks/gate_minutes.sh          at least an hour on four processors; ends with the gate's status
+#     checks/gate_minutes.sh          at least an hour on four processors
+#     checks/gate_minutes.sh --note   the same, and where the gate passed the line takes the place of the last one in docs/working.md
 #
 # The whole is what the shell's `time` tells of the gate and of all that it started, in user and system time. What each crate took in
 # it is seen from outside, by noting every second how much processor time each process of the prover has had; so a crate's share is a
-# second or so too small for each of its checks. The line is written only where the gate passed.
+# second or so too small for each of its checks.
 set -u
 cd "$(dirname -- "$0")/.." || exit 1
 room=$(mktemp -d) || exit 1
@@ -56,10 +57,9 @@ dearest() {
 watch &
 watcher=$!
 TIMEFORMAT='%U %S %R'
-{ time rt ci >"$room/said" 2>&1; } 2>"$room/times"
+{ time rt ci 2>&1; } 2>"$room/times"
 status=$?
 kill "$watcher" 2>/dev/null
-cat "$room/said"
 shares >"$room/shares"
 line=$(awk -v kit="$(rt version)" -v processors="$(nproc)" -v proofs="$(minutes_of proofs)" -v tests="$(minutes_of tests)" \
     -v edits="$(minutes_of edits)" -v dearest="$(dearest)" '{
@@ -68,7 +68,7 @@ line=$(awk -v kit="$(rt version)" -v processors="$(nproc)" -v proofs="$(minutes_
     printf "The dearest crates, in minutes: %s.", dearest
 }' "$room/times")
 echo "$line"
-if [ "$status" -eq 0 ]; then
+if [ "$status" -eq 0 ] && [ "${1-}" = --note ]; then
     awk -v line="$line" '/^Measured: / { print line; next } { print }' docs/working.md >"$room/page" && cat "$room/page" >docs/working.md
 fi
 exit "$status"
