@@ -1,13 +1,14 @@
 #!/usr/bin/env bash
-# Runs the whole gate from nothing, and says what it cost, in a line that begins with 'Measured:'; ends with the gate's status.
+# Runs the whole gate, and says what it cost, in a line that begins with 'Measured:'; ends with the gate's last line and its status.
 #
 #     checks/gate_minutes.sh          at least an hour on four processors
 #     checks/gate_minutes.sh --note   the same, and where the gate passed the line takes the place of the last one in docs/working.md
 #
 # The whole is what the shell's `time` tells of the gate and of all that it started, in user and system time. What each crate took in
 # it is seen from outside, by noting every second how much processor time each process of the prover has had; so a crate's share is a
-# second or so too small for each of its checks.
+# second or so too small for each of its checks. With a kit that keeps what earlier runs passed, the figure is that of what this run did.
 set -u
+set -o pipefail
 cd "$(dirname -- "$0")/.." || exit 1
 room=$(mktemp -d) || exit 1
 trap 'kill "$watcher" 2>/dev/null; rm -rf "$room"' EXIT
@@ -57,17 +58,18 @@ dearest() {
 watch &
 watcher=$!
 TIMEFORMAT='%U %S %R'
-{ time rt ci 2>&1; } 2>"$room/times"
+{ time { rt ci 2>&1 | tee "$room/said"; }; } 2>"$room/times"
 status=$?
 kill "$watcher" 2>/dev/null
 shares >"$room/shares"
 line=$(awk -v kit="$(rt version)" -v processors="$(nproc)" -v proofs="$(minutes_of proofs)" -v tests="$(minutes_of tests)" \
     -v edits="$(minutes_of edits)" -v dearest="$(dearest)" '{
-    printf "Measured: %.0f processor minutes from nothing (proofs %s, tests %s, edits %s), in %.0f minutes of clock on %s processors, by `%s`. ", \
+    printf "Measured: %.0f processor minutes (proofs %s, tests %s, edits %s), in %.0f minutes of clock on %s processors, by `%s`. ", \
         ($1 + $2) / 60, proofs, tests, edits, $3 / 60, processors, kit
     printf "The dearest crates, in minutes: %s.", dearest
 }' "$room/times")
 echo "$line"
+tail -n 1 "$room/said"
 if [ "$status" -eq 0 ] && [ "${1-}" = --note ]; then
     awk -v line="$line" '/^Measured: / { print line; next } { print }' docs/working.md >"$room/page" && cat "$room/page" >docs/working.md
 fi
