@@ -1,19 +1,21 @@
 """Tries the must-fail edits that stand outside the gate: the prover must refuse each.
 
-    python3 checks/edits.py [--whole] [NAME..]
+    python3 checks/edits.py [--built] [--whole] [NAME..]
 
-`checks/edits/NAME` holds edits of the crate NAME in the form of its `must-fail`; without names those of every crate are tried. The judge is
-the kit's `rt must-fail`, over copies of the crate; the libraries below it are built into `crates/*/out`, if they aren't there. An edit of a
-function's body is tried by a check of that function alone, which takes the contracts of all others as they stand: what it refuses, a check
-of the whole crate refuses too. The function must be proved where nothing is edited. What isn't refused so, and with --whole every edit, is
-tried by whole checks. No source may change meanwhile. Each edit prints a line; the last line is `N refused, M not`, and the status is 1
-unless M is 0."""
+`checks/edits/NAME` holds edits of the crate NAME in the form of its `must-fail`; without names those of every crate are tried, over copies of
+the crate. The libraries below it are built into `crates/*/out`, if they aren't there; with --built they are taken as a gate left them there, and
+no source may have changed since. Edits of functions' bodies are tried by checks of these functions alone, which take the contracts of all others
+as they stand: what such a check refuses, a check of the whole crate refuses too. One check tries edits of several functions, and an edit counts as
+refused by it only where a goal of its own function is left; the others are tried one by one. What isn't refused so, and with --whole every edit, is
+tried by whole checks. Functions must be proved where nothing is edited. No source may change meanwhile. Each edit prints a line; the last line is
+`N refused, M not`, and the status is 1 unless M is 0."""
 
 import functools
 import importlib.machinery
 import importlib.util
 import os
 import re
+import shutil
 import subprocess
 import sys
 import tempfile
@@ -21,12 +23,18 @@ import tempfile
 HERE = os.path.dirname(os.path.abspath(__file__))
 TOP = os.path.dirname(HERE)
 ONE_JOB = ["--jobs", "1"]
+# How many edits one check tries at most.
+TOGETHER = 8
 FUNCTION = re.compile(r"(?m)^( *)(?:pub(?:\(\w+\))? )?(?:const )?fn (\w+)")
 OWNER = re.compile(r"(?m)^(?:pub(?:\(\w+\))? )?(impl|trait)\b(.*?)\{", re.S)
+# What the kit says of an edit that the prover refuses, also where it does so by a limit of its own.
+REFUSED = (True, "refused", "limit")
+# What a check says where a proof names what an edit took away, which says little of a contract.
+NAMES_ALONE = re.compile(r"has no field|is not in scope|has no `|was not admitted")
 
 
 def kit():
-    """The kit's rt as a module, which tells a check of some functions as it tells a whole one."""
+    """The kit's rt as a module, which reports a check of some functions as it reports a whole one."""
     page = subprocess.run(["rt", "doc"], capture_output=True, text=True, check=True).stdout.strip()
     sys.dont_write_bytecode = True
     loader = importlib.machinery.SourceFileLoader("rt", os.path.join(os.path.dirname(page), "bin", "rt"))
@@ -45,6 +53,11 @@ def kit():
     # (a crate's sum is otherwise taken once for each way down to it, 50,000 times for the uppermost)
     rt.rtlib.Crate.stamp = functools.lru_cache(None)(rt.rtlib.Crate.stamp)
     return rt
+
+
+def read(path):
+    with open(path, encoding="utf-8") as file:
+        return file.read()
 
 
 def owner_of(text):
@@ -73,22 +86,28 @@ def function_at(path, text, place):
     return "::".join([*modules, name])
 
 
-def functions_of(edit, folder):
-    """The functions that the edit changes; none where it changes anything else."""
-    path, found = "", set()
-    with open(edit, encoding="utf-8") as file:
-        lines = file.read().split("\n")
-    for line in lines:
+def pairs_of(edit):
+    """The edit's changes: of each the file, the old text and the new one."""
+    path, old, found = "", "", []
+    for line in read(edit).split("\n"):
         if line.startswith("file: "):
             path = line.removeprefix("file: ").strip()
-        if line.startswith("old: "):
-            if not path.endswith(".rt") or not os.path.isfile(f"{folder}/{path}"):
-                return []
-            with open(f"{folder}/{path}", encoding="utf-8") as file:
-                text = file.read()
+        elif line.startswith("old: "):
             old = line.removeprefix("old: ")
-            place = text.find(old) + len(old) - len(old.lstrip())
-            found.add(function_at(path, text, place) if old in text else None)
+        elif line.startswith("new:"):
+            found.append((path, old, line.removeprefix("new:").removeprefix(" ")))
+    return found
+
+
+def functions_of(edit, folder):
+    """The functions that the edit changes; none where it changes anything else."""
+    found = set()
+    for path, old, _ in pairs_of(edit):
+        if not path.endswith(".rt") or not os.path.isfile(f"{folder}/{path}"):
+            return []
+        text = read(f"{folder}/{path}")
+        place = text.find(old) + len(old) - len(old.lstrip())
+        found.add(function_at(path, text, place) if text.count(old) == 1 else None)
     return [] if None in found else sorted(found)
 
 
@@ -96,14 +115,69 @@ def only(names):
     return [*ONE_JOB, *[it for name in names for it in ("--only", name)]]
 
 
+def groups_of(edits, folder):
+    """Groups of edits, each of functions that no other edit of its group changes, with those functions; and the edits that change anything else."""
+    groups, left = [], []
+    for edit in edits:
+        changed = functions_of(edit, folder)
+        if len(changed) != 1:
+            left.append(edit)
+            continue
+        fits = next((it for it in groups if len(it) < TOGETHER and changed[0] not in it.values()), None)
+        if fits is None:
+            groups.append(fits := {})
+        fits[edit] = changed[0]
+    return groups, left
+
+
+def texts_of(edits, folder):
+    """The files that these edits change, as they are with all of them; none where they don't go together."""
+    texts = {}
+    for path, old, new in [pair for edit in edits for pair in pairs_of(edit)]:
+        text = texts.get(path) or read(f"{folder}/{path}")
+        if text.count(old) != 1:
+            return None
+        texts[path] = text.replace(old, new)
+    return texts
+
+
+def goal_left(crate, name, lines):
+    """What a check says of a goal of this function itself that is left; none where the function is proved, or isn't for another reason."""
+    # (the name of a method lacks the module of its type)
+    of_function = re.compile(rf"fn {crate.name}::(?:\w+::)*{name}: (?:no proof|not proved).* did not prove ")
+    of_answer = re.compile(rf"(?:note: )?(?:\./)?proofs/(?:\w+/)*{'/'.join(name.split('::'))}/\w+\.antt:\d+:\d+: error")
+    for line in lines:
+        if of_function.match(line) or of_answer.match(line) and not NAMES_ALONE.search(line):
+            return line
+    return None
+
+
+def refused_together(rt, crate, groups, kept):
+    """What to say of each edit that the check of its group refuses."""
+    found = {}
+    for group in groups:
+        texts = texts_of(group, crate.folder)
+        ran = texts and rt.checked(crate, texts, only(sorted({*group.values()})), kept)
+        if not ran or ran.returncode != 1:
+            continue
+        lines = ran.stdout.split("\n")
+        for edit, name in group.items():
+            line = goal_left(crate, name, lines)
+            if line:
+                found[edit] = f"must-fail {crate.name}/{os.path.basename(edit)}: refused, as it must be: {line[:160]}"
+    return found
+
+
 def refused_alone(rt, crate, edits):
     """What to say of each edit that the check of its functions alone refuses."""
-    found, names = {}, set()
+    groups, _ = groups_of(edits, crate.folder)
     with tempfile.TemporaryDirectory(prefix="edits-") as kept:
-        for edit in edits:
+        found = refused_together(rt, crate, [it for it in groups if len(it) > 1], kept)
+        names = {name for group in groups for edit, name in group.items() if edit in found}
+        for edit in [it for it in edits if it not in found]:
             changed = functions_of(edit, crate.folder)
-            is_refused, told = rt.must_fail(crate, edit, only(changed), kept) if changed else (False, "")
-            if is_refused:
+            kind, told = rt.must_fail(crate, edit, only(changed), kept) if changed else (False, "")
+            if kind in REFUSED:
                 found[edit] = told
                 names.update(changed)
         if names and rt.checked(crate, {}, only(sorted(names)), kept).returncode:
@@ -111,13 +185,28 @@ def refused_alone(rt, crate, edits):
     return found
 
 
-def try_all(rt, crate, edits, is_whole):
+def refused_whole(rt, crate, edits):
+    """What whole checks say of each edit, and whether they refuse it, begun with what one of the crate as it stands proved."""
+    if not edits:
+        return {}
+    with tempfile.TemporaryDirectory(prefix="edits-") as room:
+        if rt.checked(crate, {}, ONE_JOB, f"{room}/seed").returncode:
+            sys.exit(f"{crate.name} isn't proved where nothing is edited")
+        found = {}
+        for edit in edits:
+            shutil.copytree(f"{room}/seed", f"{room}/edit", symlinks=True)
+            kind, told = rt.must_fail(crate, edit, ONE_JOB, f"{room}/edit")
+            shutil.rmtree(f"{room}/edit")
+            found[edit] = kind in REFUSED, told
+        return found
+
+
+def try_all(rt, crate, edits, words):
     """Tries a crate's edits, and gives how many aren't refused."""
-    if any(it.build_rlib(ONE_JOB, anew=False) for it in crate.below()):
+    if "--built" not in words and any(it.build_rlib(ONE_JOB, anew=False) for it in crate.below()):
         sys.exit(f"a library below {crate.name} isn't proved")
-    alone = {} if is_whole else refused_alone(rt, crate, edits)
-    left = [it for it in edits if it not in alone]
-    whole = dict(zip(left, rt.must_fail_all(crate, left, ONE_JOB)))
+    alone = {} if "--whole" in words else refused_alone(rt, crate, edits)
+    whole = refused_whole(rt, crate, [it for it in edits if it not in alone])
     for edit in edits:
         print(alone[edit] if edit in alone else whole[edit][1], flush=True)
     return sum(not is_refused for is_refused, _ in whole.values())
@@ -130,7 +219,7 @@ def edits_of(name):
 
 
 def main(words):
-    names = [it for it in words if it != "--whole"] or sorted(os.listdir(os.path.join(HERE, "edits")))
+    names = [it for it in words if not it.startswith("--")] or sorted(os.listdir(os.path.join(HERE, "edits")))
     rt = kit()
     crates = [it for it in rt.rtlib.crates_below(TOP) if it.name in names]
     nameless = {*names} - {it.name for it in crates}
@@ -138,7 +227,7 @@ def main(words):
         sys.exit(f"crates.txt names no crate {', '.join(sorted(nameless))}")
     rt.rtlib.guarded()
     count = sum(len(edits_of(it.name)) for it in crates)
-    missed = sum(try_all(rt, it, edits_of(it.name), "--whole" in words) for it in crates)
+    missed = sum(try_all(rt, it, edits_of(it.name), words) for it in crates)
     print(f"{count - missed} refused, {missed} not")
     return 1 if missed else 0
 
