@@ -1,5 +1,6 @@
 #!/usr/bin/env bash
-# Runs the whole gate, and says what it cost, in a line that begins with 'Measured:'; ends with the gate's last line and its status.
+# Runs the whole gate, says what it cost, in a line that begins with 'Measured:', and holds the released program to the one that was built;
+# ends with the gate's last line and its status, or with status 1 where the release isn't the program of the sources that it names.
 #
 #     checks/gate_minutes.sh          at least an hour on four processors
 #     checks/gate_minutes.sh --note   the same, and where the gate passed the line takes the place of the last one in docs/working.md
@@ -69,8 +70,11 @@ line=$(awk -v kit="$(rt version)" -v processors="$(nproc)" -v proofs="$(minutes_
     printf "The dearest crates, in minutes: %s.", dearest
 }' "$room/times")
 echo "$line"
-tail -n 1 "$room/said"
 if [ "$status" -eq 0 ] && [ "${1-}" = --note ]; then
     awk -v line="$line" '/^Measured: / { print line; next } { print }' docs/working.md >"$room/page" && cat "$room/page" >docs/working.md
 fi
+if [ "$status" -eq 0 ]; then
+    python3 checks/release.py || status=1
+fi
+tail -n 1 "$room/said"
 exit "$status"

@@ -1,0 +1,97 @@
+"""Compares how `tellcrock` looks at arguments with how the released program reads them, by made-up lists of arguments.
+
+    python3 checks/arguments.py [COUNT [SEED]]       2000 lists unless said otherwise
+
+Where the script refuses a list, the program has to end with status 2 on it, and where it doesn't, the two have to print the same with the same
+status. The lists are made of names of commands and options, of files of `examples/`, and of numbers inside and outside of what an option takes;
+addresses are such that no door is started. The status is 1 where a list is found that the two take differently."""
+
+import os
+import random
+import subprocess
+import sys
+
+TOP = os.path.dirname(os.path.dirname(os.path.abspath(__file__)))
+RELEASED = f"{TOP}/release/tellcrock"
+OPTIONS = ["variables", "operation", "unsized", "listen", "upstream", "target", "workers", "connections", "help", "limit"]
+NUMBERS = ["0", "1", "00010", "16", "17", "5000", "5001", "1000000", "1000001", "99999999999999999999", "+4", "-1", "1.0", "", "ten"]
+FILES = ["books.graphql", "titles.graphql", "search.json", "reply.json", "day.clients", "minute.script", "not_there", "-", ""]
+# What an option takes, so that most lists are nearly right.
+VALUES = {
+    "variables": FILES,
+    "operation": ["", "A", "é", "-"],
+    "unsized": NUMBERS,
+    "listen": ["x.invalid:1", "1.2.3.4:0", ""],
+    "upstream": ["127.0.0.1:4000", "[::1]:80"],
+    "target": ["/", "/graphql", ""],
+    "workers": NUMBERS,
+    "connections": NUMBERS,
+}
+# The usual arguments of each command.
+USUAL = {
+    "check": ["books.graphql"],
+    "price": ["books.graphql", "titles.graphql"],
+    "worst": ["books.graphql", "titles.graphql", "types"],
+    "forward": ["books.graphql", "titles.graphql"],
+    "meter": ["books.graphql", "titles.graphql", "reply.json"],
+    "replay": ["books.graphql", "budgets.clients", "minute.script"],
+    "serve": ["books.graphql", "day.clients", "--listen", "x.invalid:1", "--upstream", "127.0.0.1:4000"],
+    "exercise": ["8"],
+    "migrate": ["day.clients"],
+}
+
+
+def option(chance):
+    name = chance.choice(OPTIONS)
+    value = chance.choice(VALUES.get(name, FILES))
+    return chance.choice([[f"--{name}", value], [f"--{name}={value}"], [f"--{name}"]])
+
+
+def made_up(chance):
+    """A list of arguments that is right, or nearly so."""
+    command = chance.choice([*USUAL, chance.choice(["prices", "-x", "--", "", "Check"])])
+    words = [*USUAL.get(command, FILES[:2])]
+    for _ in range(chance.choice([0, 0, 1, 1, 2, 3])):
+        at, kind = chance.randrange(len(words) + 1), chance.random()
+        if kind < 0.55:
+            words[at:at] = option(chance)
+        elif kind < 0.7:
+            words[at:at] = [chance.choice(["--", "-x", "-", "fields", *NUMBERS, *FILES])]
+        elif kind < 0.85 and words:
+            del words[at - 1]
+        else:
+            chance.shuffle(words)
+    # (the script writes the usage of one command for this)
+    return [command, *words] if words != ["--help"] else [command]
+
+
+def ran(*words):
+    how = {"cwd": f"{TOP}/examples", "stdin": subprocess.DEVNULL, "capture_output": True, "timeout": 60}
+    found = subprocess.run(words, **how)
+    return found.returncode, found.stdout, found.stderr
+
+
+def agree(words):
+    script, program = ran(f"{TOP}/tellcrock", "released", *words), ran(RELEASED, *words)
+    if script[0] == 2 or program[0] == 2:
+        # (an address that can't be one is refused by the script alone)
+        return script[0] == program[0] or script[0] == 2 and b"--upstream is HOST:PORT" in script[2]
+    if program[0] == 8:
+        return script[:2] == program[:2] and script[2].startswith(program[2])
+    return script == program
+
+
+def main(words):
+    count, seed = [*map(int, words), *[2000, 1][len(words) :]]
+    chance, missed = random.Random(seed), 0
+    for _ in range(count):
+        made = made_up(chance)
+        if not agree(made):
+            missed += 1
+            print("taken differently:", made)
+    print(f"{count - missed} lists are taken alike, {missed} not")
+    return 1 if missed else 0
+
+
+if __name__ == "__main__":
+    sys.exit(main(sys.argv[1:]))
