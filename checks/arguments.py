@@ -39,22 +39,28 @@ USUAL = {
     "exercise": ["8"],
     "migrate": ["day.clients"],
 }
+# The options of each command, each of which comes as often as all others together.
+OWN = {
+    **dict.fromkeys(["price", "worst", "forward", "meter"], ["variables", "operation", "unsized"]),
+    "replay": ["unsized"],
+    "serve": ["target", "workers", "connections", "unsized"],
+}
 
 
-def option(chance):
-    name = chance.choice(OPTIONS)
+def option(chance, command):
+    name = chance.choice([chance.choice(OPTIONS), *OWN.get(command, OPTIONS)])
     value = chance.choice(VALUES.get(name, FILES))
     return chance.choice([[f"--{name}", value], [f"--{name}={value}"], [f"--{name}"]])
 
 
 def made_up(chance):
     """A list of arguments that is right, or nearly so."""
-    command = chance.choice([*USUAL, chance.choice(["prices", "-x", "--", "", "Check"])])
+    command = chance.choice([*USUAL, "serve", "serve", chance.choice(["prices", "-x", "--", "", "Check"])])
     words = [*USUAL.get(command, FILES[:2])]
     for _ in range(chance.choice([0, 0, 1, 1, 2, 3])):
         at, kind = chance.randrange(len(words) + 1), chance.random()
         if kind < 0.55:
-            words[at:at] = option(chance)
+            words[at:at] = option(chance, command)
         elif kind < 0.7:
             words[at:at] = [chance.choice(["--", "-x", "-", "fields", *NUMBERS, *FILES])]
         elif kind < 0.85 and words:
@@ -73,9 +79,12 @@ def ran(*words):
 
 def agree(words):
     script, program = ran(f"{TOP}/tellcrock", "released", *words), ran(RELEASED, *words)
-    if script[0] == 2 or program[0] == 2:
+    if program[0] == 2:
+        # (what the script refuses it reports in a line of its own)
+        return script[0] == 2 and script[2].startswith(b"tellcrock: ")
+    if script[0] == 2:
         # (an address that can't be one is refused by the script alone)
-        return script[0] == program[0] or script[0] == 2 and b"--upstream is HOST:PORT" in script[2]
+        return b"--upstream is HOST:PORT" in script[2]
     if program[0] == 8:
         return script[:2] == program[:2] and script[2].startswith(program[2])
     return script == program
