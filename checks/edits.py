@@ -26,6 +26,8 @@ ONE_JOB = ["--jobs", "1"]
 # How many edits one check tries at most.
 TOGETHER = 8
 FUNCTION = re.compile(r"(?m)^( *)(?:pub(?:\(\w+\))? )?(?:const )?fn (\w+)")
+# The cycle that a function is in, at the end of the text before it.
+CYCLE = re.compile(r"#\[cycle\((\w+)\)\]\s*(?:#\[[^\n]*\]\s*)*\Z")
 OWNER = re.compile(r"(?m)^(?:pub(?:\(\w+\))? )?(impl|trait)\b(.*?)\{", re.S)
 # What the kit says of an edit that the prover refuses, also where it does so by a limit of its own.
 REFUSED = (True, "refused", "limit")
@@ -111,23 +113,31 @@ def functions_of(edit, folder):
     return [] if None in found else sorted(found)
 
 
+def proof_of(edit, name, folder):
+    """What one proof is of: the function that the edit changes, or the cycle of calls that it is in."""
+    path, old, _ = pairs_of(edit)[0]
+    text = read(f"{folder}/{path}")
+    start = [it.start() for it in FUNCTION.finditer(text) if it.start() <= text.find(old) + len(old) - len(old.lstrip())][-1]
+    cycle = CYCLE.search(text[:start])
+    return f"the cycle {cycle[1]} of {path}" if cycle else name
+
+
 def only(names):
     return [*ONE_JOB, *[it for name in names for it in ("--only", name)]]
 
 
 def groups_of(edits, folder):
-    """Groups of edits, each of functions that no other edit of its group changes, with those functions; and the edits that change anything else."""
-    groups, left = [], []
+    """Groups of edits, each of one function whose proof is of nothing that another edit of the group changes, with that function."""
+    groups = []
     for edit in edits:
         changed = functions_of(edit, folder)
-        if len(changed) != 1:
-            left.append(edit)
-            continue
-        fits = next((it for it in groups if len(it) < TOGETHER and changed[0] not in it.values()), None)
-        if fits is None:
-            groups.append(fits := {})
-        fits[edit] = changed[0]
-    return groups, left
+        if len(changed) == 1:
+            proof = proof_of(edit, changed[0], folder)
+            fits = next((it for it in groups if len(it) < TOGETHER and proof not in it.values()), None)
+            if fits is None:
+                groups.append(fits := {})
+            fits[edit] = proof
+    return [{edit: functions_of(edit, folder)[0] for edit in group} for group in groups]
 
 
 def texts_of(edits, folder):
@@ -170,7 +180,7 @@ def refused_together(rt, crate, groups, kept):
 
 def refused_alone(rt, crate, edits):
     """What to say of each edit that the check of its functions alone refuses."""
-    groups, _ = groups_of(edits, crate.folder)
+    groups = groups_of(edits, crate.folder)
     with tempfile.TemporaryDirectory(prefix="edits-") as kept:
         found = refused_together(rt, crate, [it for it in groups if len(it) > 1], kept)
         names = {name for group in groups for edit, name in group.items() if edit in found}
