@@ -1,0 +1,7 @@
+-- Keys on one line; the entries of lists; the bodies that stand for a client's; and that each body is read.
+pub mod ShownKeys
+pub mod OneLine
+pub mod Entries
+pub mod FilledObjects
+pub mod StandingBodies
+pub mod ReadBodies
