@@ -53,6 +53,7 @@ abbrev pub without_hash : Listing → Data → Result (Option (List ℕ)) Expand
 without_hash l (string query) = with_own_query l query
 without_hash l other = Ok None
 
+-- an object by what stands as its query, and by the hash that it gives; a fault of the extension comes first
 abbrev pub by_hash : Listing → Data → Result (Option (List ℕ)) ExpandFault → Result (Option (List ℕ)) ExpandFault
 by_hash l query (Err fault) = Err fault
 by_hash l query (Ok None) = without_hash l query

@@ -6,6 +6,7 @@ use Rattle.request_bodies.specs.Bodies.{entry}
 use Rattle.trusted_documents.specs.declared.fault.ExpandFault.{ExpandFault}
 use Rattle.trusted_documents.specs.declared.fault.ExpandFault.TheVariants.{BadExtension}
 
+-- whether a whole number that may be none is 1
 abbrev pub is_one : Option ℕ → Bool
 is_one None = false
 is_one (Some number) = number == 1

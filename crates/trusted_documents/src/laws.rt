@@ -17,7 +17,7 @@ use crate::expanding::Expanded;
 use crate::fault::{ExpandFault, TrustedFault};
 use crate::listing::{DOCUMENT_LIMIT, LIST_LIMIT, Trusted};
 use crate::requests::Unread;
-use request_bodies::{a_body_is_one_request_or_has_one_fault, variables_are_an_object};
+use request_bodies::a_body_is_one_request_or_has_one_fault;
 
 /// The limits of the code are those of the definitions.
 pub fn limits_are_those_of_the_definitions()
@@ -55,9 +55,7 @@ pub fn a_body_is_one_request_by_a_list()
 pub fn variables_are_the_clients()
     ensures object { (list : Option Listing) (body : List ℕ) (asked : RequestData) → IsRequestBy list body asked → is_some (as_object asked.variables) ≡ true }
     ensures source { (list : Option Listing) (body : List ℕ) (asked : RequestData) → IsRequestBy list body asked → AreGivenIn body asked.variables }
-{
-    variables_are_an_object();
-}
+{}
 
 /// A key is shown on one line: no control character of ASCII is in what is shown of it.
 pub fn a_key_is_shown_on_one_line()
