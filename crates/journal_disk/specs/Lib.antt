@@ -1,0 +1,4 @@
+pub mod Images
+pub mod Shutting
+pub mod Calls
+pub mod Recorded
