@@ -1,0 +1,12 @@
+pub mod OpenSlots
+pub mod Crash
+pub mod Spelling
+pub mod Longer
+pub mod Following
+pub mod Opening
+pub mod Taking
+pub mod Present
+pub mod Going
+pub mod Ready
+pub mod Recovered
+pub mod Unspelled
