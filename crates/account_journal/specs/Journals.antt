@@ -106,6 +106,12 @@ pub record MaySettle {D : Type 0} (j : Journal D) (ticket : KeptTicket) (measure
   pub window : ticket.window ≤ (account_in j ticket.client).window
   pub held : ticket.window ≡ (account_in j ticket.client).window → Within (account_in j ticket.client).held ticket.bound
 
+-- a journal follows entries that leave open the grant of a ticket of one of its clients
+pub record IsOpenIn {D : Type 0} (j : Journal D) (entries : List Entry) (ticket : KeptTicket) : Type 0 where
+  pub follows : Follows j entries
+  pub holds : HoldsTicket entries ticket
+  pub client : ticket.client < length j.limits.items
+
 -- where a reply is a grant, these entries leave it open
 abbrev pub HoldsReply : List Entry → KeptReply → Type 0
 HoldsReply entries (Granted ticket) = HoldsTicket entries ticket

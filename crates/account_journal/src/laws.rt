@@ -11,7 +11,7 @@ ghost use Rattle.account_core.specs.Costs.{nothing};
 ghost use Rattle.account_core.specs.History.{entries_by};
 ghost use Rattle.account_core.specs.Sums.{open_grants, KeepsAllowance};
 ghost use Rattle.account_journal.specs.Records.{Record, record_of, spelling_of};
-ghost use Rattle.account_journal.specs.Journals.{Follows, HoldsTicket, MaySettle, account_in, limit_in};
+ghost use Rattle.account_journal.specs.Journals.{Follows, IsOpenIn, MaySettle, account_in, limit_in};
 ghost use Rattle.account_journal.specs.Reading.{IsIntact, IsDamaged, HasOtherMark};
 
 use journal_disk::Disk;
@@ -39,8 +39,8 @@ pub fn keeps_allowances<D: Disk>()
 
 /// A ticket whose grant is open in entries that a journal follows may be settled at any cost within its bound.
 pub fn open_tickets_may_be_settled<D: Disk>()
-    ensures { (j : journal_type.Journal D) (hs : List Entry) (ticket : ticket_type.KeptTicket) (measured : cost_type.Cost) → Follows j hs
-        → HoldsTicket hs ticket → ticket.client < length j.limits.items → Within ticket.bound measured → MaySettle j ticket measured }
+    ensures { (j : journal_type.Journal D) (hs : List Entry) (ticket : ticket_type.KeptTicket) (measured : cost_type.Cost)
+        → IsOpenIn j hs ticket → Within ticket.bound measured → MaySettle j ticket measured }
 {}
 
 /// A body that reads as a record is spelled just as that record is written.
