@@ -210,6 +210,8 @@ impl<D: Disk> Journal<D> {
 
     /// Settles a granted reservation at its measured cost. `Ok` is answered once the settlement is on the disk. It is never
     /// full, since a slot was kept free. Where it fails, the numbers are as before, and the disk has the settlement or not.
+    /// The ticket has to be an open one of this journal. That can't be seen by the numbers alone: of a ticket from before an
+    /// opening a settlement may be written which a later opening finds to be damage.
     pub fn settle_mut(&mut self, ticket: KeptTicket, measured: Cost) -> Result<(), JournalFault>
         requires sound { IsSound self.old }
         requires rest { Rests D.reads self.old }

@@ -132,7 +132,7 @@ fn settle(
     }
 }
 
-// Opens the journal on a disk that reads as this one.
+// Opens the journal on a disk that reads as this one. Tickets from before are given up with their journal.
 fn open_again(
     alloc: Global,
     desk: &mut Desk,
@@ -141,6 +141,7 @@ fn open_again(
 ) -> Result<State, AllocError>
     ensures { IfOk result (λ state. IsFit ⟦<MemDisk as Disk>⟧.reads state) }
 {
+    desk.tickets.clear();
     let failing = match failing {
         Some(number) => Vec::from_slice(alloc, &[number])?,
         None => Vec::new(alloc),
