@@ -47,6 +47,16 @@ fn opened(
     }
 }
 
+// Shuts the disk of a journal. A journal with open grants is given up; the next opening settles them.
+fn shut(disks: &mut StdDisks<HostRuntime>, journal: Journal<StdDisk>) {
+    let disk = if journal.opened() == 0 {
+        journal.close()
+    } else {
+        journal.into_disk()
+    };
+    disks.shut(disk);
+}
+
 fn main(rt: HostRuntime) -> io::Result<()> {
     let alloc = rt.alloc();
     let mut words = env::args(&rt)?.skip(1);
@@ -62,11 +72,11 @@ fn main(rt: HostRuntime) -> io::Result<()> {
     say_accounts(alloc, &mut to, &journal)?;
     load(alloc, &mut to, &mut journal, rounds)?;
     say_accounts(alloc, &mut to, &journal)?;
-    disks.shut(journal.into_disk());
+    shut(&mut disks, journal);
     if rounds > 0 {
         let journal = opened(alloc, &mut disks, name.as_str())?;
         say_accounts(alloc, &mut to, &journal)?;
-        disks.shut(journal.into_disk());
+        shut(&mut disks, journal);
     }
     Ok(())
 }
