@@ -154,8 +154,9 @@ def texts_of(edits, folder):
 def goal_left(crate, name, lines):
     """What a check says of a goal of this function itself that is left; none where the function is proved, or isn't for another reason."""
     # (the name of a method lacks the module of its type)
-    of_function = re.compile(rf"fn {crate.name}::(?:\w+::)*{name}: (?:no proof|not proved).* did not prove ")
-    of_answer = re.compile(rf"(?:note: )?(?:\./)?proofs/(?:\w+/)*{'/'.join(name.split('::'))}/\w+\.antt:\d+:\d+: error")
+    modules, folders = (r"(?:\w+::)*", r"(?:\w+/)*") if name[0].isupper() else ("", "")
+    of_function = re.compile(rf"fn {crate.name}::{modules}{name}: (?:no proof|not proved).* did not prove ")
+    of_answer = re.compile(rf"(?:note: )?(?:\./)?proofs/{folders}{'/'.join(name.split('::'))}/\w+\.antt:\d+:\d+: error")
     for line in lines:
         if of_function.match(line) or of_answer.match(line) and not NAMES_ALONE.search(line):
             return line
