@@ -250,6 +250,8 @@ def measure_opening(program, folder):
         write_slots(name, SLOTS - 3)
         took, lines = timed([program, name, "3"])
         answers = [line for line in lines if not line.startswith("account")]
+        if [line.split()[0] for line in answers] != ["granted", "settled", "full", "full"]:
+            sys.exit(f"a journal with three slots left answers {answers}")
         print(f"one of {SLOTS - 3} slots in {took:.2f} s; three rounds on it: {answers}")
 
 

@@ -264,6 +264,7 @@ impl<D: Disk> Journal<D> {
         ensures any_moment { IfOk result (λ r. (hs : List Entry) → KeepsHistory D.reads D.image D.moment D.image_since self r.0.disk (entry_in self client window bound) hs) }
         ensures any_moment_err { IfErr result (λ e. (hs : List Entry) → KeepsHistory D.reads D.image D.moment D.image_since self e.0 (entry_in self client window bound) hs) }
         ensures tells { IfOk result (λ r. is_some (D.reads r.0.disk) ≡ is_some (D.reads self.disk)) }
+        ensures tells_err { IfErr result (λ e. is_some (D.reads e.0) ≡ is_some (D.reads self.disk)) }
         ensures count { IfOk result (λ r. D.faults self.disk ≤ D.faults r.0.disk) }
         ensures cause { IfErr result (λ e. Rose (D.faults self.disk) (D.faults e.0)) }
     {
@@ -295,6 +296,7 @@ impl<D: Disk> Journal<D> {
         ensures any_moment_err { IfErr result (λ e. (hs : List Entry) → HoldsTicket hs ticket
             → KeepsHistory D.reads D.image D.moment D.image_since self e.0 (ticket_settlement self.used ticket measured) hs) }
         ensures tells { IfOk result (λ j. is_some (D.reads j.disk) ≡ is_some (D.reads self.disk)) }
+        ensures tells_err { IfErr result (λ e. is_some (D.reads e.0) ≡ is_some (D.reads self.disk)) }
         ensures count { IfOk result (λ j. D.faults self.disk ≤ D.faults j.disk) }
         ensures cause { IfErr result (λ e. Rose (D.faults self.disk) (D.faults e.0)) }
     {

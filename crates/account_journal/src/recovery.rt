@@ -30,6 +30,7 @@ fn settle_first<D: Disk>(
     ensures limits { IfOk result (λ j. j.limits ≡ journal.limits) }
     ensures used { IfOk result (λ j. j.used ≡ journal.used + 1) }
     ensures tells { IfOk result (λ j. is_some (D.reads j.disk) ≡ is_some (D.reads journal.disk)) }
+    ensures tells_err { IfErr result (λ e. is_some (D.reads e.0) ≡ is_some (D.reads journal.disk)) }
     ensures ready { IfOk result (λ j. (rest : List OpenGrant) (hs : List Entry) → IsReady D.reads D.image journal (first ∷ rest) hs
         → IsReady D.reads D.image j rest (hs ++ bound_settlement journal.used first ∷ [])) }
     ensures any_moment { IfOk result (λ j. (rest : List OpenGrant) (hs : List Entry)
@@ -66,6 +67,8 @@ fn settle_all<D: Disk>(
     requires ready { IsReadyForAll D.reads D.image journal opens.now }
     ensures sound { IfOk result (λ j. IsSound j) }
     ensures limits { IfOk result (λ j. j.limits ≡ journal.limits) }
+    ensures tells { IfOk result (λ j. is_some (D.reads j.disk) ≡ is_some (D.reads journal.disk)) }
+    ensures tells_err { IfErr result (λ e. is_some (D.reads e.0) ≡ is_some (D.reads journal.disk)) }
     ensures all { IfOk result (λ j. (hs : List Entry) → IsReady D.reads D.image journal opens.now hs
         → IsReady D.reads D.image j [] (hs ++ settlements journal.used opens.now)) }
     ensures any_moment { IfOk result (λ j. (hs : List Entry) → LeavesSettlements D.reads D.image D.moment D.image_since journal j.disk opens.now hs) }
@@ -96,6 +99,8 @@ fn open_synced<D: Disk>(
     requires durable { (b : List ℕ) → D.reads disk ≡ Some b → IsDurable b (D.image disk) }
     ensures sound { IfOk result (λ j. IsSound j) }
     ensures limits { IfOk result (λ j. j.limits ≡ limits) }
+    ensures tells { IfOk result (λ j. is_some (D.reads j.disk) ≡ is_some (D.reads disk)) }
+    ensures tells_err { IfErr result (λ e. is_some (D.reads e.0) ≡ is_some (D.reads disk)) }
     ensures closed { IfOk result (λ j. HasNoneOpen D.reads D.image j) }
     ensures intact { IfOk result (λ j. (b : List ℕ) → D.reads disk ≡ Some b → IsIntact limits.items mark (bodies b)) }
     ensures recovered { IfOk result (λ j. (b : List ℕ) → D.reads disk ≡ Some b → IsRecoveredFrom D.reads D.image j b) }
@@ -143,6 +148,8 @@ impl<D: Disk> Journal<D> {
         ensures limits { IfOk result (λ j. j.limits ≡ limits) }
         ensures rest { IfOk result (λ j. Rests D.reads j) }
         ensures none { IfOk result (λ j. j.opened ≡ 0) }
+        ensures tells { IfOk result (λ j. is_some (D.reads j.disk) ≡ is_some (D.reads disk)) }
+        ensures tells_err { IfErr result (λ e. is_some (D.reads e.0) ≡ is_some (D.reads disk)) }
         ensures closed { IfOk result (λ j. HasNoneOpen D.reads D.image j) }
         ensures intact { IfOk result (λ j. (b : List ℕ) → D.reads disk ≡ Some b → IsIntact limits.items mark (bodies b)) }
         ensures recovered { IfOk result (λ j. (b : List ℕ) → D.reads disk ≡ Some b → IsRecoveredFrom D.reads D.image j b) }
