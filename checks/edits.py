@@ -157,8 +157,9 @@ def goal_left(crate, name, lines):
     modules, folders = (r"(?:\w+::)*", r"(?:\w+/)*") if name[0].isupper() else ("", "")
     of_function = re.compile(rf"fn {crate.name}::{modules}{name}: (?:no proof|not proved).* did not prove ")
     of_answer = re.compile(rf"(?:note: )?(?:\./)?proofs/{folders}{'/'.join(name.split('::'))}/\w+\.antt:\d+:\d+: error")
-    for line in lines:
-        if of_function.match(line) or of_answer.match(line) and not NAMES_ALONE.search(line):
+    for line, following in zip(lines, [*lines[1:], ""]):
+        # (a long message goes on in the next line)
+        if of_function.match(line) or of_answer.match(line) and not NAMES_ALONE.search(f"{line} {following}"):
             return line
     return None
 
