@@ -5,7 +5,8 @@
 
 PROGRAM is that of `crates/journal_load`. It says each reservation and each settlement once the journal has acknowledged it, and is ended by
 SIGKILL while it works. Then it opens the journal again. Each step that it said has to be in the file, every slot has to continue the history of
-those before it, and the accounts that it says have to be those of the file's history with each open grant settled at its bound. The file is read
+those before it, and the accounts that it says have to be those of the file's history with each open grant settled at its bound. Further files have up to 1,500
+open grants, and the program is ended while it opens them: some first ones have to be settled then, each at its bound. The file is read
 here by the rules of `crates/account_journal/README.md`, not by the program. Such an end leaves what the system has taken, so that this shows nothing
 of a loss of power.
 
@@ -200,6 +201,34 @@ def kill_often(program, folder, kills, seed):
     print(f"{kills} kills: each of {said} steps that were said was in the file ({steps} at the last), and each opening gave the file's accounts")
 
 
+def kill_openings(program, folder, kills, seed):
+    chance = random.Random(seed)
+    name = os.path.join(folder, "opened")
+    cut = 0
+    for number in range(kills):
+        count = chance.randint(1, 1500)
+        with open(name, "wb") as file:
+            file.write(b"\1\0" + MARK + bytes(30))
+            for slot in range(1, count + 1):
+                file.write(b"\1" + RECORD.pack(1, slot % len(CLIENTS), slot // 500, slot, 1))
+            file.write(b"\0")
+        before = History(read(name))
+        bounds = {slot: grant[2] for slot, grant in before.open.items()}
+        wanted = before.recover()
+        process = subprocess.Popen([program, name, "0"], stdout=subprocess.DEVNULL, stderr=subprocess.DEVNULL)
+        time.sleep(chance.uniform(0.001, 0.2))
+        process.kill()
+        process.wait()
+        left = History(read(name))
+        if left.settled != {slot: bounds[slot] for slot in sorted(bounds)[: len(left.settled)]}:
+            sys.exit(f"opening {number}: what is settled aren't the first grants at their bounds")
+        cut += 0 < len(left.settled) < count
+        if open_again(program, name) != wanted or History(read(name)).open:
+            sys.exit(f"opening {number}: the file isn't recovered")
+        os.remove(name)
+    print(f"{kills} openings were ended, {cut} of them amid their settlements: each left first grants settled at their bounds, and opened again")
+
+
 def locked(program, folder):
     """A journal that another process has open is refused."""
     import fcntl
@@ -271,6 +300,7 @@ def main():
         return
     with tempfile.TemporaryDirectory(dir=given.folder) as folder:
         locked(program, folder)
+        kill_openings(program, folder, given.kills // 10, given.seed)
         kill_often(program, folder, given.kills, given.seed)
 
 
