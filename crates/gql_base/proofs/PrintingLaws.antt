@@ -8,3 +8,4 @@ pub mod ReadAgain
 pub mod PrintedAgain
 pub mod Rewriting
 pub mod BareWays
+pub mod OneLine

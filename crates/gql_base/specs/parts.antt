@@ -7,4 +7,5 @@ pub mod TypeReferences
 pub mod Arguments
 pub mod OperationKinds
 pub mod Trees
+pub mod Ints
 pub mod Answers

@@ -25,6 +25,7 @@ pub use names::owned_index::{Indexed, index_owned};
 pub use names::repeated::first_repeated;
 pub use parts::arguments::{directives, maybe_arguments, maybe_default, operation_kind};
 pub use parts::fault_laws::{a_read_value_has_no_fault, a_value_has_one_fault};
+pub use parts::ints::is_int;
 pub use parts::readers::{LEVEL_LIMIT, ValueFault, read_type_ref, read_value};
 pub use parts::tree_laws::{
     a_text_is_one_value, offsets_change_no_nesting, offsets_change_no_tree,
@@ -33,6 +34,7 @@ pub use parts::tree_laws::{
 pub use parts::trees::{Argument, Directive, Name, OperationKind, TypeRef, Value};
 pub use parts::types::type_reference;
 pub use parts::values::{argument, value};
+pub use printing::lines::{push_shown, shown_in_line, what_is_shown_is_one_line};
 pub use printing::printed_parts::{
     print_type_ref, print_value, write_arguments, write_type, write_value,
 };

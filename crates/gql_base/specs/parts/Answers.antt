@@ -29,6 +29,14 @@ NoneIsRead S text tokens from = (a : _) (rest : Symbols) → IsWritten S level_l
 abbrev pub IsFault : {A : Type 0} → (A → Nested → Type 0) → List ℕ → List Token → ℕ → ValueFault → Type 0
 IsFault S text tokens from fault = IsFaultFrom S text tokens from (told_of_value fault) × ((fault ≡ Memory → ⊥) → NoneIsRead S text tokens from)
 
+-- From a token on, the reading of such a thing has one fault at most. Want of memory is no such fault.
+abbrev pub HasOneFault : {A : Type 0} → (A → Nested → Type 0) → Type 0
+HasOneFault S = (text : List ℕ) (tokens : List Token) (from : ℕ) (fault other : ValueFault) → IsFault S text tokens from fault → IsFault S text tokens from other → (fault ≡ Memory → ⊥) → (other ≡ Memory → ⊥) → fault ≡ other
+
+-- Where such a thing is read from a token on, its reading has no fault. Want of memory is no such fault.
+abbrev pub HasNoFaultWhereRead : {A : Type 0} → (A → Nested → Type 0) → Type 0
+HasNoFaultWhereRead S = (text : List ℕ) (tokens : List Token) (from : ℕ) (a : _) (rest : Symbols) (fault : ValueFault) → IsWritten S level_limit (symbols_from text tokens from) a rest → IsFault S text tokens from fault → fault ≡ Memory
+
 -- no `!` follows a type to which it would belong
 abbrev pub EndsBefore : TypeTree → Symbols → Type 0
 EndsBefore (non_null_type t) rest = Unit {0}

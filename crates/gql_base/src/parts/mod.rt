@@ -2,6 +2,7 @@
 
 pub mod arguments;
 pub mod fault_laws;
+pub mod ints;
 pub mod readers;
 pub mod tree_laws;
 pub mod trees;

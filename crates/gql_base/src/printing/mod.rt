@@ -1,5 +1,6 @@
-//! The printed forms of values and types.
+//! The printed forms of values and types, and texts within a line.
 
+pub mod lines;
 pub mod printed_parts;
 pub mod printed_texts;
 pub mod printer;
