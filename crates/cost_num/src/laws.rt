@@ -5,7 +5,7 @@ ghost use Rattle.cost_num.specs.declared.weights.WeightFault.{WeightFault};
 ghost use Rattle.cost_num.specs.Amount.{IsAmount, Reads, Spells, amount_in};
 ghost use Rattle.cost_num.specs.CostText.{amount_text};
 
-use crate::{CAP, Cost, WeightFault};
+use crate::{CAP, Cost, GREATEST_WEIGHT, LEAST_PLACES, PLACES, UNIT, WeightFault};
 
 /// Each text is read in exactly one way: as one amount in range, or as one first fault with its
 /// place, whatever the greatest amount is.
@@ -32,6 +32,16 @@ pub fn worked_amounts()
     ensures fourth { amount_text 1234500 ≡ codes "1.2345" }
     ensures fifth { amount_text 7000010 ≡ codes "7.00001" }
     ensures sixth { amount_text 1 ≡ codes "0.000001" }
+{}
+
+/// The numbers that definitions take from the code: costs are counted in millionths, a weight is at most a million
+/// and a cost a million millions; a cost shows at least three of its six decimal places.
+pub fn numbers_of_costs()
+    ensures unit { UNIT ≡ 1000000 }
+    ensures cap { CAP ≡ 1000000000000000000 }
+    ensures greatest_weight { GREATEST_WEIGHT ≡ 1000000000000 }
+    ensures places { PLACES ≡ 6 }
+    ensures least_places { LEAST_PLACES ≡ 3 }
 {}
 
 /// Threads may share costs and the faults of weights.
