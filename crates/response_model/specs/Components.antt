@@ -1,7 +1,7 @@
--- The parts of a cost.
+-- The parts of a cost, as programs name them.
 use Rattle.response_model.specs.Cost.{Part as CostPart, types, fields}
-use Rattle.static_cost.specs.declared.part.Part.{Part}
-use Rattle.static_cost.specs.declared.part.Part.TheVariants.{Types, Fields}
+use Rattle.response_model.specs.declared.part.Part.{Part}
+use Rattle.response_model.specs.declared.part.Part.TheVariants.{Types, Fields}
 
 -- the part of the cost that a component is
 abbrev pub part_of : Part → CostPart

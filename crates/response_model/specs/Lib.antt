@@ -1,6 +1,7 @@
 pub mod Plan
 pub mod Response
 pub mod Cost
+pub mod Components
 pub mod Bound
 pub mod Filled
 pub mod Reading

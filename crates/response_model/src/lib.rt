@@ -8,11 +8,13 @@
 //! answered with it (`ResponseText`). Costs are whole numbers of one unit, which is nowhere named here.
 //!
 //! The functions of `laws` and `examples` have no body: each carries a law about these words as its contract. Those of
-//! `writing` write the pieces of a response's text.
+//! `writing` write the pieces of a response's text. `Part` names the two parts of a cost.
 #![tactic(auto)]
 
 pub mod examples;
 pub mod laws;
+mod part;
 mod writing;
 
+pub use part::Part;
 pub use writing::{write_error_response, write_key, write_string, write_value};
