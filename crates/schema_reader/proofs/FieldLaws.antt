@@ -13,7 +13,7 @@ use Rattle.gql_base.proofs.WayLaws.WordLaws.{left_false, right_false, heads_stri
 use Rattle.gql_base.proofs.PartLaws.ArgumentLaws.{goes_directives, heads_directive, directives_law, goes_default, goes_variable, heads_default, default_law}
 use Rattle.gql_base.proofs.PartLaws.TypeLaws.{type_law}
 use Rattle.schema_reader.specs.Schemas.{NameText, name_of, IsName, IsDescription, IsOtherName, AreNames, Between, input_of, IsInput, AreArgumentDefinitions, field_of, IsField, unless, enum_name, IsEnumValue}
-use Rattle.schema_reader.specs.SchemaReading.{name_at, description_at, other_name_at, names_at, between, input_at, maybe_arguments_at, field_at, enum_value_at}
+use Rattle.schema_reader.specs.SchemaReading.{name_at, description_at, other_name_at, names_at, between, input_at, maybe_arguments_at, field_definition_at, enum_value_at}
 
 -- names and descriptions
 
@@ -83,7 +83,7 @@ goes_field w = takes (exact Bang) w || goes_directives w
 pub heads_field : {b : Bool} {test : Test} (d : ℕ) → SaysOfStrings b test → SaysOfNames b test → Heads b test (IsField d)
 heads_field d strings names = heads_image (heads_described strings (heads_pair _ (heads_plain_name names)))
 
-pub field_law : (left more d n : ℕ) → left ≤ more → n ≡ d + left → Law (IsField d) n goes_field (field_at left) (field_at more)
+pub field_law : (left more d n : ℕ) → left ≤ more → n ≡ d + left → Law (IsField d) n goes_field (field_definition_at left) (field_definition_at more)
 field_law left more d n le e = let inner : d ≤ n = omega (arith, e) in
     image_law field_of (then_law (description_law inner) (after (plain_name_law inner)
     (then_law (maybe_arguments_law left more d n le e)

@@ -5,7 +5,7 @@ use Rattle.gql_base.specs.declared.lexical.token.TokenKind.TheVariants.{CloseBra
 use Rattle.gql_base.specs.ways.Reading.{takes, exact, up_to, is_there}
 use Rattle.gql_base.proofs.WayLaws.RepeatingLaws.{Repeats, repeats}
 use Rattle.gql_base.proofs.WayLaws.WordLaws.{takes_mark}
-use Rattle.schema_reader.specs.SchemaReading.{other_name_at, input_at, field_at, enum_value_at, root_at, definition_at, begins_definition}
+use Rattle.schema_reader.specs.SchemaReading.{other_name_at, input_at, field_definition_at, enum_value_at, root_at, definition_at, begins_definition}
 use Rattle.schema_reader.proofs.FieldLaws.{heads_other_name, other_name_law, heads_input, input_law, heads_field, field_law, heads_enum_value, enum_value_law}
 use Rattle.schema_reader.proofs.DefinitionLaws.{root_begins, root_law, heads_definition, definition_law, definition_begins}
 
@@ -16,7 +16,7 @@ names_repeat mark = repeats {n = 0} (takes (exact mark)) (other_name_law {d = 0}
 pub inputs_repeat : (close : TokenKind) (n : ℕ) → Repeats (up_to close) (input_at n)
 inputs_repeat close n = record { at_end = refl; less = (repeats is_there (input_law n n 0 n (omega arith) (omega arith)) (heads_input 0 (λ v. refl) (λ b at. refl)) refl).less }
 
-pub fields_repeat : (n : ℕ) → Repeats (up_to CloseBrace) (field_at n)
+pub fields_repeat : (n : ℕ) → Repeats (up_to CloseBrace) (field_definition_at n)
 fields_repeat n = repeats (up_to CloseBrace) (field_law n n 0 n (omega arith) (omega arith)) (heads_field 0 (λ v. refl) (λ b at. refl)) refl
 
 pub enum_values_repeat : (n : ℕ) → Repeats (up_to CloseBrace) (enum_value_at n)

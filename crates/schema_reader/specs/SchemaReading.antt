@@ -45,11 +45,11 @@ input_fields_at left = between OpenBrace CloseBrace (input_at left)
 abbrev pub maybe_input_fields_at : ℕ → Reader (List InputDefTree)
 maybe_input_fields_at left = optional (takes (exact OpenBrace)) [] (input_fields_at left)
 
-abbrev pub field_at : ℕ → Reader FieldDefTree
-field_at left = image field_of (pair description_at (pair name_at (pair (maybe_arguments_at left) (pair (single (exact Colon)) (pair (type_at left) (directives_at true left))))))
+abbrev pub field_definition_at : ℕ → Reader FieldDefTree
+field_definition_at left = image field_of (pair description_at (pair name_at (pair (maybe_arguments_at left) (pair (single (exact Colon)) (pair (type_at left) (directives_at true left))))))
 
 abbrev pub fields_at : ℕ → Reader (List FieldDefTree)
-fields_at left = between OpenBrace CloseBrace (field_at left)
+fields_at left = between OpenBrace CloseBrace (field_definition_at left)
 
 abbrev pub maybe_fields_at : ℕ → Reader (List FieldDefTree)
 maybe_fields_at left = optional (takes (exact OpenBrace)) [] (fields_at left)

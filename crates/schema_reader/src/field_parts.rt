@@ -4,7 +4,7 @@ ghost use Rattle.std.specs.Prelude.{◌<◌, ◌≤◌, length, map, IfOk};
 ghost use Rattle.gql_base.specs.declared.lexical.token.TokenKind.TheVariants.{CloseBrace};
 ghost use Rattle.gql_base.specs.ways.Reading.{one_or_more, up_to};
 ghost use Rattle.gql_base.specs.ways.Sources.{ahead, Reads};
-ghost use Rattle.schema_reader.specs.SchemaReading.{input_at, arguments_at, maybe_arguments_at, input_fields_at, maybe_input_fields_at, field_at, fields_at, maybe_fields_at};
+ghost use Rattle.schema_reader.specs.SchemaReading.{input_at, arguments_at, maybe_arguments_at, input_fields_at, maybe_input_fields_at, field_definition_at, fields_at, maybe_fields_at};
 ghost use Rattle.schema_reader.specs.Trees.{input_tree, field_tree};
 
 use crate::parts::{description, name};
@@ -132,7 +132,7 @@ fn field(
     at: usize,
     levels: usize,
 ) -> Result<(FieldDef, usize), Halt>
-    ensures read { Reads source.now (λ x. (field_tree x.0, x.1)) result (field_at levels (ahead source.now at)) }
+    ensures read { Reads source.now (λ x. (field_tree x.0, x.1)) result (field_definition_at levels (ahead source.now at)) }
     ensures within { IfOk result (λ x. (at < x.1) × (x.1 ≤ length source.now.tokens.now)) }
 {
     let (description, end) = description(alloc, source, at)?;
@@ -160,7 +160,7 @@ fn some_fields(
     start: usize,
     levels: usize,
 ) -> Result<(Vec<FieldDef>, usize), Halt>
-    ensures read { Reads source.now (λ x. (map field_tree x.0.items, x.1)) result (one_or_more (up_to CloseBrace) (field_at levels) (ahead source.now start)) }
+    ensures read { Reads source.now (λ x. (map field_tree x.0.items, x.1)) result (one_or_more (up_to CloseBrace) (field_definition_at levels) (ahead source.now start)) }
     ensures within { IfOk result (λ x. start < x.1) }
 {
     let mut fields = Vec::new(alloc);
