@@ -10,7 +10,7 @@ use Rattle.cost_num.specs.declared.weights.WeightFault.{WeightFault}
 use Rattle.cost_num.specs.Amount.{IsAmount, Reads}
 use Rattle.cost_num.proofs.AmountTexts.{spelled_amount}
 use Rattle.cost_num.proofs.OneReading.{reads_some, reads_same}
-use Rattle.client_files.specs.declared.client.TheConstants.{WINDOW_LIMIT, CARRY_LIMIT, THOUSANDTH}
+use Rattle.client_files.specs.Limits.{window_limit, carry_limit, thousandth}
 use Rattle.client_files.specs.declared.client.Client.{Client}
 use Rattle.client_files.specs.declared.heading.Version.{Version}
 use Rattle.client_files.specs.declared.heading.Version.TheVariants.{One, Two}
@@ -46,7 +46,7 @@ version_decided line = elim (same_text line (version_line One)) [
 
 -- the second line
 
-window_within : (line : List ℕ) (most : ℕ) → most ≤ WINDOW_LIMIT → ((seconds : ℕ) × IsWindowLine line seconds) ⊎ ((seconds : ℕ) → seconds ≤ most → ¬ (IsWindowLine line seconds))
+window_within : (line : List ℕ) (most : ℕ) → most ≤ window_limit → ((seconds : ℕ) × IsWindowLine line seconds) ⊎ ((seconds : ℕ) → seconds ≤ most → ¬ (IsWindowLine line seconds))
 window_within line zero within = inr (λ seconds few is. absurd (omega (arith, few, is.window.0)))
 window_within line (suc most) within = elim (window_within line most (omega (arith, within))) [
   | inl found ↦ inl found
@@ -60,7 +60,7 @@ window_within line (suc most) within = elim (window_within line most (omega (ari
 ]
 
 pub window_decided : (line : List ℕ) → Decided (IsWindowLine line)
-window_decided line = elim (window_within line WINDOW_LIMIT (omega arith)) [
+window_decided line = elim (window_within line window_limit (omega arith)) [
   | inl found ↦ inl found
   | inr none ↦ inr (λ seconds is. none seconds is.window.1 is)
 ]
@@ -76,17 +76,17 @@ amount_decided text = let read = reads_some CAP text in by_reading text read.0 r
 
 allows_decided : (version : Version) (allowance : Cost) (carry : Bool) → Allows version allowance carry ⊎ ¬ (Allows version allowance carry)
 allows_decided One allowance true = inr (λ allowed. let never = allowed.0 in cc)
-allows_decided One allowance false = elim (cases_eq (allowance.types % THOUSANDTH) 0) [
+allows_decided One allowance false = elim (cases_eq (allowance.types % thousandth) 0) [
   | inr finer ↦ inr (λ allowed. finer allowed.1)
-  | inl types ↦ elim (cases_eq (allowance.fields % THOUSANDTH) 0) [
+  | inl types ↦ elim (cases_eq (allowance.fields % thousandth) 0) [
     | inr finer ↦ inr (λ allowed. finer allowed.2)
     | inl fields ↦ inl (refl, types, fields)
   ]
 ]
 allows_decided Two allowance false = inl (λ carries. cc)
-allows_decided Two allowance true = elim (cases_lt CARRY_LIMIT allowance.types) [
+allows_decided Two allowance true = elim (cases_lt carry_limit allowance.types) [
   | inl above ↦ inr (λ allowed. let within = allowed refl in omega (arith, above, within.0))
-  | inr types ↦ elim (cases_lt CARRY_LIMIT allowance.fields) [
+  | inr types ↦ elim (cases_lt carry_limit allowance.fields) [
     | inl above ↦ inr (λ allowed. let within = allowed refl in omega (arith, above, within.1))
     | inr fields ↦ inl (λ carries. (types, fields))
   ]

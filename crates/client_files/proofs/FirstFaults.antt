@@ -2,7 +2,7 @@
 use Rattle.std.proofs.Common.{◌≡◌, ℕ, ◌+◌, ◌*◌, ◌<◌, ◌≤◌, List, [], ◌∷◌, length, refl, sym, ap, ◌∙◌, subst, arith}
 use Rattle.std.specs.Prelude.{slice_index}
 use Rattle.std.proofs.lemmas.List.{length-append}
-use Rattle.client_files.specs.declared.client.TheConstants.{CLIENT_LIMIT}
+use Rattle.client_files.specs.Limits.{client_limit}
 use Rattle.client_files.specs.declared.fault.ClientsFault.{ClientsFault}
 use Rattle.client_files.specs.declared.fault.ClientsFault.TheVariants.{BadLine, Repeated, TooMany, NoClient, Memory}
 use Rattle.client_files.specs.declared.heading.Version.{Version}
@@ -22,47 +22,47 @@ AreNew lines number = (before : List (List ℕ)) (line : List ℕ) (at : ℕ) �
 pub comes_within : (lines before : List (List ℕ)) (line : List ℕ) (at : ℕ) → Comes lines before line at → at ≤ length lines
 comes_within lines before line at comes = omega (arith, comes.counted, ap length comes.cut, length-append before (line ∷ comes.after))
 
-bad_before : (lines : List (List ℕ)) (number : ℕ) → ArePlaced lines number → AreNew lines number → number ≤ CLIENT_LIMIT + 2 → number + 1 ≤ length lines → (earlier : ClientsFault) → turn lines earlier < 4 * (number + 1) + 1 → Shows lines earlier → ⊥
+bad_before : (lines : List (List ℕ)) (number : ℕ) → ArePlaced lines number → AreNew lines number → number ≤ client_limit + 2 → number + 1 ≤ length lines → (earlier : ClientsFault) → turn lines earlier < 4 * (number + 1) + 1 → Shows lines earlier → ⊥
 bad_before lines number placed new few there (BadLine at) lt s = s.3 (placed s.0 s.1 at s.2 (omega (arith, lt)))
 bad_before lines number placed new few there (Repeated at) lt s = new s.0 s.1 at s.2 (omega (arith, lt)) s.3
 bad_before lines number placed new few there (TooMany at) lt s = absurd (omega (arith, lt, s.2.counted, s.3, few))
 bad_before lines number placed new few there NoClient lt s = absurd (omega (arith, lt, there))
 bad_before lines number placed new few there Memory lt s = s
 
-pub bad_line : (lines : List (List ℕ)) (number : ℕ) → ArePlaced lines number → AreNew lines number → number ≤ CLIENT_LIMIT + 2 → Shows lines (BadLine (number + 1)) → IsFirstFault lines (BadLine (number + 1))
+pub bad_line : (lines : List (List ℕ)) (number : ℕ) → ArePlaced lines number → AreNew lines number → number ≤ client_limit + 2 → Shows lines (BadLine (number + 1)) → IsFirstFault lines (BadLine (number + 1))
 bad_line lines number placed new few shown = record {
   shows = shown;
   first = bad_before lines number placed new few (comes_within lines shown.0 shown.1 (number + 1) shown.2);
 }
 
-repeated_before : (lines : List (List ℕ)) (number : ℕ) → ArePlaced lines (number + 1) → AreNew lines number → number ≤ CLIENT_LIMIT + 2 → number + 1 ≤ length lines → (earlier : ClientsFault) → turn lines earlier < 4 * (number + 1) + 2 → Shows lines earlier → ⊥
+repeated_before : (lines : List (List ℕ)) (number : ℕ) → ArePlaced lines (number + 1) → AreNew lines number → number ≤ client_limit + 2 → number + 1 ≤ length lines → (earlier : ClientsFault) → turn lines earlier < 4 * (number + 1) + 2 → Shows lines earlier → ⊥
 repeated_before lines number placed new few there (BadLine at) lt s = s.3 (placed s.0 s.1 at s.2 (omega (arith, lt)))
 repeated_before lines number placed new few there (Repeated at) lt s = new s.0 s.1 at s.2 (omega (arith, lt)) s.3
 repeated_before lines number placed new few there (TooMany at) lt s = absurd (omega (arith, lt, s.2.counted, s.3, few))
 repeated_before lines number placed new few there NoClient lt s = absurd (omega (arith, lt, there))
 repeated_before lines number placed new few there Memory lt s = s
 
-pub repeated_line : (lines : List (List ℕ)) (number : ℕ) → ArePlaced lines (number + 1) → AreNew lines number → number ≤ CLIENT_LIMIT + 2 → Shows lines (Repeated (number + 1)) → IsFirstFault lines (Repeated (number + 1))
+pub repeated_line : (lines : List (List ℕ)) (number : ℕ) → ArePlaced lines (number + 1) → AreNew lines number → number ≤ client_limit + 2 → Shows lines (Repeated (number + 1)) → IsFirstFault lines (Repeated (number + 1))
 repeated_line lines number placed new few shown = record {
   shows = shown;
   first = repeated_before lines number placed new few (comes_within lines shown.0 shown.1 (number + 1) shown.2);
 }
 
-too_many_before : (lines : List (List ℕ)) → ArePlaced lines (CLIENT_LIMIT + 3) → AreNew lines (CLIENT_LIMIT + 3) → CLIENT_LIMIT + 3 ≤ length lines → (earlier : ClientsFault) → turn lines earlier < 4 * (CLIENT_LIMIT + 3) + 3 → Shows lines earlier → ⊥
+too_many_before : (lines : List (List ℕ)) → ArePlaced lines (client_limit + 3) → AreNew lines (client_limit + 3) → client_limit + 3 ≤ length lines → (earlier : ClientsFault) → turn lines earlier < 4 * (client_limit + 3) + 3 → Shows lines earlier → ⊥
 too_many_before lines placed new there (BadLine at) lt s = s.3 (placed s.0 s.1 at s.2 (omega (arith, lt)))
 too_many_before lines placed new there (Repeated at) lt s = new s.0 s.1 at s.2 (omega (arith, lt)) s.3
 too_many_before lines placed new there (TooMany at) lt s = absurd (omega (arith, lt, s.2.counted, s.3))
 too_many_before lines placed new there NoClient lt s = absurd (omega (arith, lt, there))
 too_many_before lines placed new there Memory lt s = s
 
-pub too_many_line : (lines : List (List ℕ)) → ArePlaced lines (CLIENT_LIMIT + 3) → AreNew lines (CLIENT_LIMIT + 3) → Shows lines (TooMany (CLIENT_LIMIT + 3)) → IsFirstFault lines (TooMany (CLIENT_LIMIT + 3))
+pub too_many_line : (lines : List (List ℕ)) → ArePlaced lines (client_limit + 3) → AreNew lines (client_limit + 3) → Shows lines (TooMany (client_limit + 3)) → IsFirstFault lines (TooMany (client_limit + 3))
 too_many_line lines placed new shown = record {
   shows = shown;
-  first = too_many_before lines placed new (comes_within lines shown.0 shown.1 (CLIENT_LIMIT + 3) shown.2);
+  first = too_many_before lines placed new (comes_within lines shown.0 shown.1 (client_limit + 3) shown.2);
 }
 
 -- lines that are in their places, name no client again and are few show no fault but that they may name no client
-pub no_fault : (lines : List (List ℕ)) → ArePlaced lines (length lines) → AreNew lines (length lines) → length lines ≤ CLIENT_LIMIT + 2 → (fault : ClientsFault) → Shows lines fault → fault ≡ NoClient
+pub no_fault : (lines : List (List ℕ)) → ArePlaced lines (length lines) → AreNew lines (length lines) → length lines ≤ client_limit + 2 → (fault : ClientsFault) → Shows lines fault → fault ≡ NoClient
 no_fault lines placed new few (BadLine at) s = absurd (s.3 (placed s.0 s.1 at s.2 (comes_within lines s.0 s.1 at s.2)))
 no_fault lines placed new few (Repeated at) s = absurd (new s.0 s.1 at s.2 (comes_within lines s.0 s.1 at s.2) s.3)
 no_fault lines placed new few (TooMany at) s = absurd (omega (arith, comes_within lines s.0 s.1 at s.2, s.2.counted, s.3, few))

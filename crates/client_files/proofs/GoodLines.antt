@@ -5,7 +5,7 @@ use Rattle.std.specs.Str.{bytes_eq}
 use Rattle.std.proofs.lemmas.List.{map-append, length-map, take_all}
 use Rattle.std.proofs.Math.Seq.{take-append_seam, take-append-add}
 use Rattle.gql_base.specs.names.Names.{are_distinct}
-use Rattle.client_files.specs.declared.client.TheConstants.{CLIENT_LIMIT}
+use Rattle.client_files.specs.Limits.{client_limit}
 use Rattle.client_files.specs.declared.client.Client.{Client}
 use Rattle.client_files.specs.declared.fault.ClientsFault.TheVariants.{BadLine, Repeated, TooMany, NoClient}
 use Rattle.client_files.specs.declared.heading.Version.{Version}
@@ -81,7 +81,7 @@ module _ (version : Version) (second : List ℕ) (seconds : ℕ) (window : IsWin
   comes_at : (at : ℕ) (there : At front at) → (version_line version ∷ second ∷ lines) ≡ (version_line version ∷ second ∷ there.further) ++ (there.line ∷ (there.more ++ left))
   comes_at at there = ap (λ ls. version_line version ∷ second ∷ ls) (cut ∙ (ap (λ f. f ++ left) there.cut ∙ append_assoc there.further (there.line ∷ there.more) left))
 
-  pub repeats : (at : ℕ) → at < length front → length front ≤ CLIENT_LIMIT + 1 → are_distinct (take at (keys_of clients)) ≡ true → are_distinct (take (at + 1) (keys_of clients)) ≡ false → IsFirstFault (version_line version ∷ second ∷ lines) (Repeated (at + 2 + 1))
+  pub repeats : (at : ℕ) → at < length front → length front ≤ client_limit + 1 → are_distinct (take at (keys_of clients)) ≡ true → are_distinct (take (at + 1) (keys_of clients)) ≡ false → IsFirstFault (version_line version ∷ second ∷ lines) (Repeated (at + 2 + 1))
   repeats at low few before with_it =
       let there = at_place front at low in
       let keys : keys_of clients ≡ map first_word there.further ++ (first_word there.line ∷ map first_word there.more) = sym (first_words version front clients named) ∙ (ap (map first_word) there.cut ∙ map-append first_word there.further (there.line ∷ there.more)) in
@@ -93,12 +93,12 @@ module _ (version : Version) (second : List ℕ) (seconds : ℕ) (window : IsWin
       repeated_line (version_line version ∷ second ∷ lines) (at + 2) (placed (at + 2 + 1) (omega (arith, low))) (new at (omega (arith, low)) before) (omega (arith, low, few))
       (version_line version ∷ second ∷ there.further, there.line, record { after = there.more ++ left; cut = comes_at at there; counted = omega (arith, there.counted) }, known)
 
-  pub exceeds : length front ≡ CLIENT_LIMIT + 1 → are_distinct (keys_of clients) ≡ true → IsFirstFault (version_line version ∷ second ∷ lines) (TooMany (CLIENT_LIMIT + 3))
+  pub exceeds : length front ≡ client_limit + 1 → are_distinct (keys_of clients) ≡ true → IsFirstFault (version_line version ∷ second ∷ lines) (TooMany (client_limit + 3))
   exceeds full apart =
-      let there = at_place front CLIENT_LIMIT (omega (arith, full)) in
-      let all = take_all (CLIENT_LIMIT + 1) (keys_of clients) (omega (arith, length-map clients (λ (client : Client). client.key), named_length version front clients named, full)) in
-      too_many_line (version_line version ∷ second ∷ lines) (placed (CLIENT_LIMIT + 3) (omega (arith, full))) (new (CLIENT_LIMIT + 1) (omega (arith, full)) (ap are_distinct all ∙ apart))
-      (version_line version ∷ second ∷ there.further, there.line, record { after = there.more ++ left; cut = comes_at CLIENT_LIMIT there; counted = omega (arith, there.counted) }, omega (arith, there.counted))
+      let there = at_place front client_limit (omega (arith, full)) in
+      let all = take_all (client_limit + 1) (keys_of clients) (omega (arith, length-map clients (λ (client : Client). client.key), named_length version front clients named, full)) in
+      too_many_line (version_line version ∷ second ∷ lines) (placed (client_limit + 3) (omega (arith, full))) (new (client_limit + 1) (omega (arith, full)) (ap are_distinct all ∙ apart))
+      (version_line version ∷ second ∷ there.further, there.line, record { after = there.more ++ left; cut = comes_at client_limit there; counted = omega (arith, there.counted) }, omega (arith, there.counted))
 
   keys_all : are_distinct (keys_of clients) ≡ true → are_distinct (take (length front) (keys_of clients)) ≡ true
   keys_all apart = ap are_distinct (take_all (length front) (keys_of clients) (omega (arith, length-map clients (λ (client : Client). client.key), named_length version front clients named))) ∙ apart
@@ -106,7 +106,7 @@ module _ (version : Version) (second : List ℕ) (seconds : ℕ) (window : IsWin
   pub all_new : are_distinct (keys_of clients) ≡ true → AreNew (version_line version ∷ second ∷ lines) (length front + 2)
   all_new apart = new (length front) (omega arith) (keys_all apart)
 
-  pub breaks : length front ≤ CLIENT_LIMIT → are_distinct (keys_of clients) ≡ true → (line : List ℕ) (more : List (List ℕ)) → left ≡ line ∷ more → ((client : Client) → ¬ (IsClientLine version line client))
+  pub breaks : length front ≤ client_limit → are_distinct (keys_of clients) ≡ true → (line : List ℕ) (more : List (List ℕ)) → left ≡ line ∷ more → ((client : Client) → ¬ (IsClientLine version line client))
       → IsFirstFault (version_line version ∷ second ∷ lines) (BadLine (length front + 2 + 1))
   breaks few apart line more next none =
       bad_line (version_line version ∷ second ∷ lines) (length front + 2) (placed (length front + 2) (omega arith)) (all_new apart) (omega (arith, few)) (

@@ -6,7 +6,7 @@ use Rattle.std.proofs.lemmas.List.{length-append, length-map, append-nil, take-a
 use Rattle.std.proofs.Math.ListN.{get_or-map, drop_of_length-le}
 use Rattle.gql_base.specs.names.Names.{first_repeated}
 use Rattle.gql_base.proofs.NameLaws.RepeatedLaws.{none_distinct, before_distinct, with_it_repeated}
-use Rattle.client_files.specs.declared.client.TheConstants.{CLIENT_LIMIT}
+use Rattle.client_files.specs.Limits.{client_limit}
 use Rattle.client_files.specs.declared.client.Client.{Client}
 use Rattle.client_files.specs.declared.fault.ClientsFault.TheVariants.{BadLine, Repeated, TooMany, NoClient}
 use Rattle.client_files.specs.declared.heading.Version.{Version}
@@ -30,7 +30,7 @@ below : (lines : List (Bor (List ℕ))) (at : ℕ) → at < length lines → at 
 below lines at low = omega (arith, low, length-map lines (λ (line : Bor (List ℕ)). line.now))
 
 module _ (version : Version) (lines : List (Bor (List ℕ))) (clients : List Client) (at : ℕ) (so_far : NamesSoFar version (map (λ line. line.now) lines) clients at) where
-  pub one_more : (other : Bor (List ℕ)) (client : Client) (more : List Client) → at < length lines → length clients ≤ CLIENT_LIMIT → IsClientLine version (get_or lines at other).now client → more ≡ clients ++ client ∷ []
+  pub one_more : (other : Bor (List ℕ)) (client : Client) (more : List Client) → at < length lines → length clients ≤ client_limit → IsClientLine version (get_or lines at other).now client → more ≡ clients ++ client ∷ []
       → NamesSoFar version (map (λ line. line.now) lines) more (at + 1)
   one_more other client more low few named is =
       let taken = take_more (map (λ line. line.now) lines) at other.now (below lines at low) ∙ ap (λ l. take at (map (λ line. line.now) lines) ++ l ∷ []) (line_at lines at other) in
@@ -41,7 +41,7 @@ module _ (version : Version) (lines : List (Bor (List ℕ))) (clients : List Cli
         most = omega (arith, ap length is, length-append clients (client ∷ []), few);
       }
 
-  front_of : (drop at (map (λ line. line.now) lines) ≡ []) ⊎ ((length clients ≡ CLIENT_LIMIT + 1) ⊎ NamesNone version (drop at (map (λ line. line.now) lines))) → IsFront version (map (λ line. line.now) lines) clients
+  front_of : (drop at (map (λ line. line.now) lines) ≡ []) ⊎ ((length clients ≡ client_limit + 1) ⊎ NamesNone version (drop at (map (λ line. line.now) lines))) → IsFront version (map (λ line. line.now) lines) clients
   front_of ends = record {
     front = take at (map (λ line. line.now) lines);
     left = drop at (map (λ line. line.now) lines);
@@ -51,7 +51,7 @@ module _ (version : Version) (lines : List (Bor (List ℕ))) (clients : List Cli
     ends = ends;
   }
 
-  pub full_front : CLIENT_LIMIT < length clients → IsFront version (map (λ line. line.now) lines) clients
+  pub full_front : client_limit < length clients → IsFront version (map (λ line. line.now) lines) clients
   full_front past = front_of (inr (inl (omega (arith, past, so_far.most))))
 
   pub broken_front : (other : Bor (List ℕ)) → at < length lines → ((client : Client) → ¬ (IsClientLine version (get_or lines at other).now client)) → IsFront version (map (λ line. line.now) lines) clients
@@ -76,11 +76,11 @@ module _ (version : Version) (lines : List (List ℕ)) (clients : List Client) (
       (repeats version second seconds window lines f.front f.left f.cut clients f.named at (omega (arith, low, count)) (omega (arith, count, f.most))
       (before_distinct (keys_of clients) at (sym found)) (with_it_repeated (keys_of clients) at (sym found)))
 
-  pub tells_too_many : CLIENT_LIMIT < length clients → None ≡ first_repeated (keys_of clients) → (second : List ℕ) (seconds : ℕ) → IsWindowLine second seconds → IsFirstFault (version_line version ∷ second ∷ lines) (TooMany 1003)
+  pub tells_too_many : client_limit < length clients → None ≡ first_repeated (keys_of clients) → (second : List ℕ) (seconds : ℕ) → IsWindowLine second seconds → IsFirstFault (version_line version ∷ second ∷ lines) (TooMany 1003)
   tells_too_many past none second seconds window =
       exceeds version second seconds window lines f.front f.left f.cut clients f.named (omega (arith, count, past, f.most)) (none_distinct (keys_of clients) (sym none))
 
-  ends_bad : length clients ≤ CLIENT_LIMIT → length clients < length lines → NamesNone version f.left
+  ends_bad : length clients ≤ client_limit → length clients < length lines → NamesNone version f.left
   ends_bad few short = elim (f.ends) [
     | inl none ↦ absurd (omega (arith, short, total, ap length none))
     | inr more ↦ elim more [
@@ -89,7 +89,7 @@ module _ (version : Version) (lines : List (List ℕ)) (clients : List Client) (
     ]
   ]
 
-  pub tells_bad : length clients ≤ CLIENT_LIMIT → length clients < length lines → None ≡ first_repeated (keys_of clients) → (second : List ℕ) (seconds : ℕ) → IsWindowLine second seconds
+  pub tells_bad : length clients ≤ client_limit → length clients < length lines → None ≡ first_repeated (keys_of clients) → (second : List ℕ) (seconds : ℕ) → IsWindowLine second seconds
       → IsFirstFault (version_line version ∷ second ∷ lines) (BadLine (3 + length clients))
   tells_bad few short none second seconds window = by_left f.left refl (ends_bad few short)
     where
@@ -107,7 +107,7 @@ module _ (version : Version) (lines : List (List ℕ)) (clients : List Client) (
   tells_none all none second seconds window =
       names_none version second seconds window lines f.front f.left f.cut clients f.named (empty f.front (omega (arith, count, none))) (empty f.left (omega (arith, total, all)))
 
-  pub serves : length lines ≤ length clients → length clients ≤ CLIENT_LIMIT → 0 < length clients → None ≡ first_repeated (keys_of clients) → AreServed version lines clients
+  pub serves : length lines ≤ length clients → length clients ≤ client_limit → 0 < length clients → None ≡ first_repeated (keys_of clients) → AreServed version lines clients
   serves all few some none =
       let no_left = empty f.left (omega (arith, total, all)) in
       let same : lines ≡ f.front = f.cut ∙ (ap (λ l. f.front ++ l) no_left ∙ append-nil f.front) in

@@ -4,7 +4,7 @@ use Rattle.std.proofs.lemmas.Bool.{cases_lt}
 use Rattle.std.proofs.lemmas.List.{length-map, take_all}
 use Rattle.gql_base.specs.names.Names.{are_distinct, first_repeated}
 use Rattle.gql_base.proofs.NameLaws.RepeatedLaws.{before_distinct, with_it_repeated}
-use Rattle.client_files.specs.declared.client.TheConstants.{CLIENT_LIMIT}
+use Rattle.client_files.specs.Limits.{client_limit}
 use Rattle.client_files.specs.declared.client.Client.{Client}
 use Rattle.client_files.specs.declared.fault.ClientsFault.{ClientsFault}
 use Rattle.client_files.specs.declared.fault.ClientsFault.TheVariants.{BadLine, Repeated, TooMany, NoClient}
@@ -69,7 +69,7 @@ abbrev pub Answered : List (List ℕ) → Type 0
 Answered lines = ((seconds : ℕ) × (clients : List Client) × AreFileLines lines seconds clients) ⊎ ((fault : ClientsFault) × IsFirstFault lines fault)
 
 module _ (version : Version) (second : List ℕ) (seconds : ℕ) (window : IsWindowLine second seconds) (lines : List (List ℕ)) (clients : List Client) (f : IsFront version lines clients) where
-  file_lines : length lines ≤ length clients → length clients ≤ CLIENT_LIMIT → 0 < length clients → None ≡ first_repeated (keys_of clients) → AreFileLines (version_line version ∷ second ∷ lines) seconds clients
+  file_lines : length lines ≤ length clients → length clients ≤ client_limit → 0 < length clients → None ≡ first_repeated (keys_of clients) → AreFileLines (version_line version ∷ second ∷ lines) seconds clients
   file_lines all few some none =
       let served = serves version lines clients f all few some none in
       record { version = version; second = second; further = lines; cut = refl; window = window; named = served.named; some = served.some; few = served.few; distinct = served.distinct }
@@ -78,7 +78,7 @@ module _ (version : Version) (second : List ℕ) (seconds : ℕ) (window : IsWin
   answered_keys (Some at) is =
       let low = repeated_within (keys_of clients) at (sym is) in
       inr (Repeated (3 + at), tells_repeated version lines clients f at (omega (arith, low, length-map clients (λ (client : Client). client.key))) is second seconds window)
-  answered_keys None is = elim (cases_lt CLIENT_LIMIT (length clients)) [
+  answered_keys None is = elim (cases_lt client_limit (length clients)) [
     | inl past ↦ inr (TooMany 1003, tells_too_many version lines clients f past is second seconds window)
     | inr few ↦ elim (cases_lt (length clients) (length lines)) [
       | inl short ↦ inr (BadLine (3 + length clients), tells_bad version lines clients f few short is second seconds window)
@@ -89,7 +89,7 @@ module _ (version : Version) (second : List ℕ) (seconds : ℕ) (window : IsWin
     ]
   ]
 
-answered_clients : (version : Version) (second : List ℕ) (seconds : ℕ) → IsWindowLine second seconds → (lines : List (List ℕ)) → Leads (CLIENT_LIMIT + 1) version lines → Answered (version_line version ∷ second ∷ lines)
+answered_clients : (version : Version) (second : List ℕ) (seconds : ℕ) → IsWindowLine second seconds → (lines : List (List ℕ)) → Leads (client_limit + 1) version lines → Answered (version_line version ∷ second ∷ lines)
 answered_clients version second seconds window lines led =
     answered_keys version second seconds window lines led.clients (record { front = led.front; left = led.left; cut = led.cut; named = led.named; most = led.few; ends = led.ends }) (first_repeated (keys_of led.clients)) refl
 
@@ -97,7 +97,7 @@ answered_window : (first : List ℕ) (rest : List (List ℕ)) (version : Version
 answered_window first [] version is = inr (NoClient, one_line first version is)
 answered_window first (second ∷ further) version is = elim (window_decided second) [
   | inr none ↦ inr (BadLine 2, bad_window first second further version is none)
-  | inl given ↦ subst (λ line. Answered (line ∷ second ∷ further)) (sym is) (answered_clients version second given.0 given.1 further (leads (CLIENT_LIMIT + 1) version further))
+  | inl given ↦ subst (λ line. Answered (line ∷ second ∷ further)) (sym is) (answered_clients version second given.0 given.1 further (leads (client_limit + 1) version further))
 ]
 
 pub answered : (lines : List (List ℕ)) → Answered lines

@@ -3,7 +3,7 @@ use Rattle.std.specs.Prelude.{◌≡◌, ℕ, ◌<◌, ◌≤◌, true, List, []
 use Rattle.std.specs.List.{All}
 use Rattle.cost_num.specs.declared.TheConstants.{CAP}
 use Rattle.gql_base.specs.names.Names.{are_distinct}
-use Rattle.client_files.specs.declared.client.TheConstants.{CLIENT_LIMIT}
+use Rattle.client_files.specs.Limits.{client_limit}
 use Rattle.client_files.specs.declared.client.Client.{Client}
 use Rattle.client_files.specs.declared.heading.Version.{Version}
 use Rattle.client_files.specs.declared.heading.Version.TheVariants.{Two}
@@ -33,7 +33,7 @@ pub record MayBeServed (seconds : ℕ) (clients : List Client) : Type 0 where
   pub window : IsWindow seconds
   pub each : All MayBeNamed clients
   pub some : 0 < length clients
-  pub few : length clients ≤ CLIENT_LIMIT
+  pub few : length clients ≤ client_limit
   pub distinct : are_distinct (keys_of clients) ≡ true
 
 -- The lines are those of a client file with this window and these clients: a line with a version, one with the window, and
@@ -46,7 +46,7 @@ pub record AreFileLines (lines : List (List ℕ)) (seconds : ℕ) (clients : Lis
   pub window : IsWindowLine second seconds
   pub named : AreClientLines version further clients
   pub some : 0 < length clients
-  pub few : length clients ≤ CLIENT_LIMIT
+  pub few : length clients ≤ client_limit
   pub distinct : are_distinct (keys_of clients) ≡ true
 
 -- the text is a client file with this window and these clients

@@ -5,7 +5,7 @@ use Rattle.std.specs.List.{list_all}
 use Rattle.cost_num.specs.declared.TheConstants.{CAP}
 use Rattle.cost_num.specs.declared.Cost.{Cost}
 use Rattle.cost_num.specs.Amount.{IsAmount}
-use Rattle.client_files.specs.declared.client.TheConstants.{KEY_LIMIT, CARRY_LIMIT, THOUSANDTH}
+use Rattle.client_files.specs.Limits.{key_limit, carry_limit, thousandth}
 use Rattle.client_files.specs.declared.client.Client.{Client}
 use Rattle.client_files.specs.declared.heading.Version.{Version}
 use Rattle.client_files.specs.declared.heading.Version.TheVariants.{One, Two}
@@ -17,7 +17,7 @@ is_key_byte byte = is_ascii_alphanumeric byte || (byte == 95 || byte == 45)
 
 -- a key has 1 to 64 of these
 abbrev pub is_key : List ℕ → Bool
-is_key key = nat_lt 0 (length key) && (nat_le (length key) KEY_LIMIT && list_all is_key_byte key)
+is_key key = nat_lt 0 (length key) && (nat_le (length key) key_limit && list_all is_key_byte key)
 
 -- what stands behind the allowances of a client that carries, and of one that doesn't
 abbrev pub carry_words : Bool → List (List ℕ)
@@ -32,8 +32,8 @@ pub record IsAllowance (types fields : List ℕ) (allowance : Cost) : Type 0 whe
 -- In version 1 no client carries, and allowances are whole thousandths. In version 2 a client that carries has an allowance
 -- of at most half of the cap.
 abbrev pub Allows : Version → Cost → Bool → Type 0
-Allows One allowance carry = (carry ≡ false) × (allowance.types % THOUSANDTH ≡ 0) × (allowance.fields % THOUSANDTH ≡ 0)
-Allows Two allowance carry = carry ≡ true → (allowance.types ≤ CARRY_LIMIT) × (allowance.fields ≤ CARRY_LIMIT)
+Allows One allowance carry = (carry ≡ false) × (allowance.types % thousandth ≡ 0) × (allowance.fields % thousandth ≡ 0)
+Allows Two allowance carry = carry ≡ true → (allowance.types ≤ carry_limit) × (allowance.fields ≤ carry_limit)
 
 -- in a file of this version, a key, the texts of an allowance and the mark are those of this client
 pub record IsClient (version : Version) (key types fields : List ℕ) (carry : Bool) (client : Client) : Type 0 where

@@ -2,7 +2,7 @@
 use Rattle.std.specs.Prelude.{◌≡◌, ℕ, ◌+◌, ◌*◌, ◌<◌, ◌≤◌, true, List, [], ◌∷◌, ◌++◌, length, map, ⊤}
 use Rattle.std.specs.List.{before_first, list_any}
 use Rattle.std.specs.Str.{bytes_eq}
-use Rattle.client_files.specs.declared.client.TheConstants.{CLIENT_LIMIT}
+use Rattle.client_files.specs.Limits.{client_limit}
 use Rattle.client_files.specs.declared.client.Client.{Client}
 use Rattle.client_files.specs.declared.fault.ClientsFault.{ClientsFault}
 use Rattle.client_files.specs.declared.fault.ClientsFault.TheVariants.{BadLine, Repeated, TooMany, NoClient, Memory}
@@ -38,7 +38,7 @@ pub record Comes (lines before : List (List ℕ)) (line : List ℕ) (number : �
 abbrev pub Shows : List (List ℕ) → ClientsFault → Type 0
 Shows lines (BadLine number) = (before : List (List ℕ)) × (line : List ℕ) × Comes lines before line number × ¬ (IsInPlace before line)
 Shows lines (Repeated number) = (before : List (List ℕ)) × (line : List ℕ) × Comes lines before line number × NamesAgain before line
-Shows lines (TooMany number) = (before : List (List ℕ)) × (line : List ℕ) × Comes lines before line number × (length before ≡ CLIENT_LIMIT + 2)
+Shows lines (TooMany number) = (before : List (List ℕ)) × (line : List ℕ) × Comes lines before line number × (length before ≡ client_limit + 2)
 Shows lines NoClient = length lines ≤ 2
 Shows lines Memory = ⊥
 

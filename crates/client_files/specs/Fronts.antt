@@ -1,7 +1,7 @@
 -- How far the lines of clients are read.
 use Rattle.std.specs.Prelude.{◌≡◌, ℕ, ◌+◌, ◌<◌, ◌≤◌, ◌⊎◌, true, List, [], ◌∷◌, ◌++◌, length, take}
 use Rattle.gql_base.specs.names.Names.{are_distinct}
-use Rattle.client_files.specs.declared.client.TheConstants.{CLIENT_LIMIT}
+use Rattle.client_files.specs.Limits.{client_limit}
 use Rattle.client_files.specs.declared.client.Client.{Client}
 use Rattle.client_files.specs.declared.heading.Version.{Version}
 use Rattle.client_files.specs.ClientLines.{IsClientLine}
@@ -19,18 +19,18 @@ pub record IsFront (version : Version) (lines : List (List ℕ)) (clients : List
   pub left : List (List ℕ)
   pub cut : lines ≡ front ++ left
   pub named : AreClientLines version front clients
-  pub most : length clients ≤ CLIENT_LIMIT + 1
-  pub ends : (left ≡ []) ⊎ ((length clients ≡ CLIENT_LIMIT + 1) ⊎ NamesNone version left)
+  pub most : length clients ≤ client_limit + 1
+  pub ends : (left ≡ []) ⊎ ((length clients ≡ client_limit + 1) ⊎ NamesNone version left)
 
 -- the lines name these clients, which a file may name together
 pub record AreServed (version : Version) (lines : List (List ℕ)) (clients : List Client) : Type 0 where
   pub named : AreClientLines version lines clients
   pub some : 0 < length clients
-  pub few : length clients ≤ CLIENT_LIMIT
+  pub few : length clients ≤ client_limit
   pub distinct : are_distinct (keys_of clients) ≡ true
 
 -- the first lines, as many as were gone through, name these clients
 pub record NamesSoFar (version : Version) (lines : List (List ℕ)) (clients : List Client) (at : ℕ) : Type 0 where
   pub named : AreClientLines version (take at lines) clients
   pub counted : length clients ≡ at
-  pub most : length clients ≤ CLIENT_LIMIT + 1
+  pub most : length clients ≤ client_limit + 1

@@ -1,7 +1,7 @@
 -- The first two lines of a client file.
 use Rattle.std.specs.Prelude.{◌≡◌, ℕ, ◌<◌, ◌≤◌, slice_index, List, ◌++◌, codes}
 use Rattle.std.specs.Fmt.{decimal}
-use Rattle.client_files.specs.declared.client.TheConstants.{WINDOW_LIMIT}
+use Rattle.client_files.specs.Limits.{window_limit}
 use Rattle.client_files.specs.declared.heading.Version.{Version}
 use Rattle.client_files.specs.declared.heading.Version.TheVariants.{One, Two}
 
@@ -16,7 +16,7 @@ window_line seconds = codes "window " ++ decimal seconds
 
 -- the length of a window
 abbrev pub IsWindow : ℕ → Type 0
-IsWindow seconds = (1 ≤ seconds) × (seconds ≤ WINDOW_LIMIT)
+IsWindow seconds = (1 ≤ seconds) × (seconds ≤ window_limit)
 
 -- the second line gives the length of a window, in decimal digits without a leading zero
 pub record IsWindowLine (line : List ℕ) (seconds : ℕ) : Type 0 where

@@ -1,4 +1,5 @@
 -- The meaning: lines, each kind of line, files of clients, the first fault, and the texts.
+pub mod Limits
 pub mod Lines
 pub mod Headings
 pub mod ClientLines

@@ -1,6 +1,7 @@
 //! What holds of client files. These functions do nothing: their contracts are the laws.
 
 ghost use Rattle.std.specs.Prelude.{◌≡◌, ◌⊎◌, ℕ, List};
+ghost use Rattle.client_files.specs.Limits.{key_limit, window_limit, client_limit, carry_limit, thousandth};
 ghost use Rattle.client_files.specs.Lines.{lines_of};
 ghost use Rattle.client_files.specs.ClientFiles.{IsClientFile, MayBeServed};
 ghost use Rattle.client_files.specs.Faults.{IsFirstFault};
@@ -8,7 +9,9 @@ ghost use Rattle.client_files.specs.Written.{client_file};
 ghost use Rattle.client_files.specs.declared.client.Client as client_type;
 ghost use Rattle.client_files.specs.declared.fault.ClientsFault as fault_type;
 
-use crate::client::{Client, Clients};
+use crate::client::{
+    CARRY_LIMIT, CLIENT_LIMIT, Client, Clients, KEY_LIMIT, THOUSANDTH, WINDOW_LIMIT,
+};
 use crate::fault::ClientsFault;
 use crate::heading::Version;
 
@@ -25,6 +28,15 @@ pub fn a_text_has_one_reading()
 pub fn what_may_be_served_has_a_file()
     ensures served { (text : List ℕ) (seconds : ℕ) (clients : List client_type.Client) → IsClientFile text seconds clients → MayBeServed seconds clients }
     ensures written { (seconds : ℕ) (clients : List client_type.Client) → MayBeServed seconds clients → IsClientFile (client_file seconds clients) seconds clients }
+{}
+
+/// The limits that are tested are those of client files.
+pub fn limits_of_client_files()
+    ensures keys { KEY_LIMIT ≡ key_limit }
+    ensures windows { WINDOW_LIMIT ≡ window_limit }
+    ensures clients { CLIENT_LIMIT ≡ client_limit }
+    ensures carried { CARRY_LIMIT ≡ carry_limit }
+    ensures thousandth { THOUSANDTH ≡ thousandth }
 {}
 
 /// Threads may share clients, what a file says, and its faults.
