@@ -1,19 +1,16 @@
 //! Reading a document from its text.
 
-ghost use Rattle.std.specs.Prelude.{◌≡◌, ◌≤◌, ℕ, List, length, map, IfOk, IfErr, false};
-ghost use Rattle.gql_base.specs.declared.lexical.token.Token.{Token};
-ghost use Rattle.gql_base.specs.lexical.Tokens.{Lexes};
-ghost use Rattle.gql_base.specs.ways.Symbols.{symbols_from};
+ghost use Rattle.std.specs.Prelude.{◌≡◌, ◌≤◌, List, [], length, map, IfOk, IfErr, false};
 ghost use Rattle.gql_base.specs.ways.Reading.{next, is_there};
-ghost use Rattle.gql_base.specs.ways.Grammar.{Nested, plain, Within};
-ghost use Rattle.gql_base.specs.ways.FirstFaults.{level_limit};
+ghost use Rattle.gql_base.specs.ways.Symbols.{symbols_from};
+ghost use Rattle.gql_base.specs.ways.FirstFaults.{level_limit, IsWritten};
 ghost use Rattle.gql_base.specs.ways.Sources.{ahead, Reads};
 ghost use Rattle.gql_base.specs.ways.Halting.{fault_of_halt, fault_of_lexing};
 ghost use Rattle.document_reader.specs.Documents.{DefinitionTree, IsDocument};
 ghost use Rattle.document_reader.specs.DocumentReading.{document_at};
 ghost use Rattle.document_reader.specs.Trees.{definition_tree};
 ghost use Rattle.document_reader.specs.Places.{AllStandFrom};
-ghost use Rattle.document_reader.specs.DocumentAnswers.{IsDocumentAmong, IsDocumentOf, IsFaultAmong, IsDocumentFault, told_of_document, GivesTrees};
+ghost use Rattle.document_reader.specs.DocumentAnswers.{IsDocumentAmong, IsDocumentOf, IsFaultAmong, IsDocumentFault, told_of_document, GivesTrees, HasDocument};
 
 use crate::definitions::definition;
 use crate::trees::{Definition, Document};
@@ -83,7 +80,7 @@ fn lexical(fault: LexFault) -> DocFault
 /// The document that the tokens are.
 fn parse(alloc: Global, source: &Source) -> Result<Document, DocFault>
     ensures found { IfOk result (λ d. IsDocumentAmong source.now.text.now source.now.tokens.now d) }
-    ensures only { (trees : List DefinitionTree) (front : Nested) → IsDocument trees front → Within level_limit front → symbols_from source.now.text.now source.now.tokens.now 0 ≡ plain front → GivesTrees trees result }
+    ensures only { (trees : List DefinitionTree) → IsWritten IsDocument level_limit (symbols_from source.now.text.now source.now.tokens.now 0) trees [] → GivesTrees trees result }
     ensures fault { IfErr result (λ f. IsFaultAmong source.now.text.now source.now.tokens.now f) }
 {
     match definitions(alloc, source) {
@@ -97,7 +94,7 @@ fn parse(alloc: Global, source: &Source) -> Result<Document, DocFault>
 /// set, a list, an object or a list type.
 pub fn read_document(alloc: Global, text: &str) -> Result<Document, DocFault>
     ensures found { IfOk result (λ d. IsDocumentOf text.now d) }
-    ensures only { (tokens : List Token) (trees : List DefinitionTree) (front : Nested) → Lexes text.now tokens → IsDocument trees front → Within level_limit front → symbols_from text.now tokens 0 ≡ plain front → GivesTrees trees result }
+    ensures only { (trees : List DefinitionTree) → HasDocument text.now trees → GivesTrees trees result }
     ensures fault { IfErr result (λ f. IsDocumentFault text.now f) }
 {
     match lex(alloc, text) {

@@ -1,3 +1,5 @@
+use Rattle.std.proofs.Common.{◌∙◌, append-nil}
+use Rattle.gql_base.specs.ways.Grammar.{plain}
 use Rattle.gql_base.specs.ways.FirstFaults.{level_limit}
 use Rattle.gql_base.specs.ways.Sources.{ahead}
 use Rattle.gql_base.proofs.WayLaws.LevelLaws.{is_written}
@@ -16,12 +18,12 @@ returns-in-Ok-clause-found c = record {
 }
 
 pub returns-in-Ok-clause-only : goal.returns-in-Ok-clause-only
-returns-in-Ok-clause-only c = λ trees front is within cut.
-    tree_same document_at trees (document_trees (record { definitions = c.in-Ok.definitions })) (ahead c.args.source.now 0) _ c.in-Ok.ensures.read (tree_read document_family trees front (ahead c.args.source.now 0) is within cut)
+returns-in-Ok-clause-only c = λ trees w.
+    tree_same document_at trees (document_trees (record { definitions = c.in-Ok.definitions })) (ahead c.args.source.now 0) _ c.in-Ok.ensures.read (tree_read document_family trees w.front (ahead c.args.source.now 0) w.written w.within (w.cut ∙ append-nil (plain w.front)))
 
 pub returns-in-Err-clause-only : goal.returns-in-Err-clause-only
-returns-in-Err-clause-only c = λ trees front is within cut.
-    memory_alone document_at c.args.source.now c.in-Err.halt (told_of_document c.fault_of.result) trees c.in-Err.ensures.read c.fault_of.ensures (tree_read document_family trees front (ahead c.args.source.now 0) is within cut)
+returns-in-Err-clause-only c = λ trees w.
+    memory_alone document_at c.args.source.now c.in-Err.halt (told_of_document c.fault_of.result) trees c.in-Err.ensures.read c.fault_of.ensures (tree_read document_family trees w.front (ahead c.args.source.now 0) w.written w.within (w.cut ∙ append-nil (plain w.front)))
 
 pub returns-in-Err-clause-fault : goal.returns-in-Err-clause-fault
 returns-in-Err-clause-fault c = fault_from document_family c.args.source.now 0 c.in-Err.halt (told_of_document c.fault_of.result) c.in-Err.ensures.read c.fault_of.ensures
