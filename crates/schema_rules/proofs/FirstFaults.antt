@@ -1,8 +1,8 @@
 -- The first fault that a test finds is that of a thing before which it finds none.
 use Rattle.std.proofs.Common.{◌≡◌, Bool, true, false, List, [], ◌∷◌, ◌++◌, Option, None, Some, refl, ap, ◌∙◌}
-use Rattle.schema_rules.specs.First.{or_else, told, first_of, AreGood, IsFirst}
+use Rattle.schema_rules.specs.First.{or_else, fault_where, first_of, AreGood, IsFirst}
 
-pub not_told : {F : Type 0} (wrong : Bool) (fault : F) → told wrong fault ≡ None → wrong ≡ false
+pub not_told : {F : Type 0} (wrong : Bool) (fault : F) → fault_where wrong fault ≡ None → wrong ≡ false
 not_told true fault none = absurd (cc)
 not_told false fault none = refl
 

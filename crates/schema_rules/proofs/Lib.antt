@@ -1,3 +1,4 @@
 pub mod OpenedTrees
 pub mod Namings
+pub mod Keys
 pub mod FirstFaults

@@ -5,7 +5,7 @@ use Rattle.schema_rules.specs.declared.kind.Kind.TheVariants.{Scalar, Object, In
 use Rattle.schema_rules.specs.Places.{PlaceTree}
 use Rattle.schema_rules.specs.Items.{ItemTree, schema_item, root_item, type_item, interface_item, member_item, field_item, argument_item, field_type_item, enum_value_item, input_field_item, directive_item, directive_argument_item, place_of, input_directives}
 use Rattle.schema_rules.specs.DirectiveUses.{are_right}
-use Rattle.schema_rules.specs.First.{told, first_of}
+use Rattle.schema_rules.specs.First.{fault_where, first_of}
 
 -- whether types of a kind may have a weight
 abbrev pub may_weigh : Kind → Bool
@@ -31,7 +31,7 @@ is_bad_use (field_item of name) = false
 is_bad_use (directive_item name) = false
 
 abbrev pub bad_use_at : ItemTree → Option PlaceTree
-bad_use_at i = told (is_bad_use i) (place_of i)
+bad_use_at i = fault_where (is_bad_use i) (place_of i)
 
 -- the place of the first cost directive that is wrong
 abbrev pub bad_directive : List ItemTree → Option PlaceTree

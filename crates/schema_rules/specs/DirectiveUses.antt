@@ -1,12 +1,13 @@
 -- What the cost directives say where they are applied (IBM GraphQL Cost Directives Specification):
 -- `@cost(weight: String!)` and `@listSize(assumedSize: Int, slicingArguments: [String!], sizedFields: [String!],
 -- requireOneSlicingArgument: Boolean = true)`. A null for an optional argument is none, a single string is a list of one.
-use Rattle.std.specs.Prelude.{ℕ, ℤ, pos, negsuc, int_le, Bool, true, false, not, ◌&&◌, List, [], ◌∷◌, map, Option, None, Some, codes, if◌then◌else◌}
+use Rattle.std.specs.Prelude.{ℕ, Bool, true, false, not, ◌&&◌, List, [], ◌∷◌, map, Option, None, Some, codes, if◌then◌else◌}
 use Rattle.std.specs.List.{list_all, list_any}
 use Rattle.std.specs.Str.{bytes_eq}
 use Rattle.gql_base.specs.names.Names.{are_distinct}
 use Rattle.gql_base.specs.parts.Values.{ValueTree, ValueTrees, no_value, value_then, variable_value, integer_value, string_value, boolean_value, null_value, enum_value, list_value, object_value, NamedValue}
 use Rattle.gql_base.specs.parts.Arguments.{DirectiveTree}
+use Rattle.gql_base.specs.parts.Ints.{is_int}
 
 abbrev pub directive_name : DirectiveTree → List ℕ
 directive_name d = d.0.0
@@ -35,10 +36,6 @@ is_string null_value = false
 is_string (enum_value name at) = false
 is_string (list_value values) = false
 is_string (object_value fields) = false
-
--- whether a number is an Int: of 32 bits
-abbrev pub is_int : ℤ → Bool
-is_int n = int_le (negsuc 2147483647) n && int_le n (pos 2147483647)
 
 abbrev pub is_maybe_int : ValueTree → Bool
 is_maybe_int (integer_value n) = is_int n
@@ -127,9 +124,9 @@ abbrev pub are_right : Bool → Bool → List DirectiveTree → Bool
 are_right may_cost may_size ds = list_all (is_right may_cost may_size) ds && (is_rare (codes "cost") ds && is_rare (codes "listSize") ds)
 
 -- the text of the weight that the first `@cost` has
-abbrev pub weight_of : List DirectiveTree → Option (List ℕ)
-weight_of [] = None
-weight_of (d ∷ ds) = if is_use_of (codes "cost") d then weight_text d.1 else weight_of ds
+abbrev pub given_weight : List DirectiveTree → Option (List ℕ)
+given_weight [] = None
+given_weight (d ∷ ds) = if is_use_of (codes "cost") d then weight_text d.1 else given_weight ds
 
 -- the arguments of the first `@listSize`
 abbrev pub size_arguments : List DirectiveTree → Option (List NamedValue)

@@ -1,10 +1,10 @@
 -- Each type has a field, a value or a member, but for scalars.
 use Rattle.std.specs.Prelude.{ℕ, List, Option, None}
 use Rattle.schema_rules.specs.Items.{ItemTree, schema_item, root_item, type_item, interface_item, member_item, field_item, argument_item, field_type_item, enum_value_item, input_field_item, directive_item, directive_argument_item}
-use Rattle.schema_rules.specs.First.{told, first_of}
+use Rattle.schema_rules.specs.First.{fault_where, first_of}
 
 abbrev pub empty_at : ItemTree → Option (List ℕ)
-empty_at (type_item name kind is_empty directives) = told is_empty name
+empty_at (type_item name kind is_empty directives) = fault_where is_empty name
 empty_at (schema_item directives) = None
 empty_at (root_item kind name) = None
 empty_at (interface_item of name) = None

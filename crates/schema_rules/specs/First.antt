@@ -6,9 +6,9 @@ or_else None other = other
 or_else (Some f) other = Some f
 
 -- a fault where something is wrong
-abbrev pub told : {F : Type 0} → Bool → F → Option F
-told true fault = Some fault
-told false fault = None
+abbrev pub fault_where : {F : Type 0} → Bool → F → Option F
+fault_where true fault = Some fault
+fault_where false fault = None
 
 -- the first fault that a test finds
 abbrev pub first_of : {A F : Type 0} → (A → Option F) → List A → Option F

@@ -4,7 +4,7 @@ use Rattle.std.specs.Str.{bytes_eq}
 use Rattle.schema_rules.specs.Places.{PlaceTree}
 use Rattle.schema_rules.specs.Kinds.{is_scalar}
 use Rattle.schema_rules.specs.Items.{ItemTree, schema_item, root_item, type_item, interface_item, member_item, field_item, argument_item, field_type_item, enum_value_item, input_field_item, directive_item, directive_argument_item, place_of, input_type, innermost}
-use Rattle.schema_rules.specs.First.{told, first_of}
+use Rattle.schema_rules.specs.First.{fault_where, first_of}
 
 abbrev pub is_float_name : List ℕ → Bool
 is_float_name name = bytes_eq name (codes "Float")
@@ -24,7 +24,7 @@ is_float (enum_value_item of name directives) = false
 is_float (directive_item name) = false
 
 abbrev pub float_at : ItemTree → Option PlaceTree
-float_at i = told (is_float i) (place_of i)
+float_at i = fault_where (is_float i) (place_of i)
 
 -- the place of the first Float
 abbrev pub float_scalar : List ItemTree → Option PlaceTree

@@ -8,6 +8,7 @@ pub mod Roots
 pub mod DirectiveUses
 pub mod First
 pub mod TooMany
+pub mod Scopes
 pub mod Repeated
 pub mod Reserved
 pub mod UnknownType

@@ -3,7 +3,7 @@ use Rattle.std.specs.Prelude.{Bool, true, false, List, Option}
 use Rattle.gql_base.specs.parts.TypeReferences.{TypeTree, named_type, list_type, non_null_type}
 use Rattle.schema_rules.specs.Places.{PlaceTree}
 use Rattle.schema_rules.specs.Items.{ItemTree, schema_item, root_item, type_item, interface_item, member_item, field_item, argument_item, field_type_item, enum_value_item, input_field_item, directive_item, directive_argument_item, place_of}
-use Rattle.schema_rules.specs.First.{told, first_of}
+use Rattle.schema_rules.specs.First.{fault_where, first_of}
 
 -- whether a type is a list, of items that may be null or not
 unfoldable pub is_list : TypeTree → Bool
@@ -32,7 +32,7 @@ has_nested (directive_item name) = false
 has_nested (directive_argument_item directive input) = false
 
 abbrev pub nested_at : ItemTree → Option PlaceTree
-nested_at i = told (has_nested i) (place_of i)
+nested_at i = fault_where (has_nested i) (place_of i)
 
 -- the place of the first list of lists
 abbrev pub nested_list : List ItemTree → Option PlaceTree

@@ -1,8 +1,8 @@
 -- No type, field, argument or input field has a name that begins with two underscores (GraphQL October 2021, 2.1.9).
-use Rattle.std.specs.Prelude.{ℕ, nat_eq, Bool, false, ◌&&◌, List, [], ◌∷◌, Option}
+use Rattle.std.specs.Prelude.{ℕ, nat_eq, Bool, true, false, ◌&&◌, List, [], ◌∷◌, Option, None}
 use Rattle.schema_rules.specs.Places.{PlaceTree}
 use Rattle.schema_rules.specs.Items.{ItemTree, schema_item, root_item, type_item, interface_item, member_item, field_item, argument_item, field_type_item, enum_value_item, input_field_item, directive_item, directive_argument_item, place_of, input_name}
-use Rattle.schema_rules.specs.First.{told, first_of}
+use Rattle.schema_rules.specs.First.{fault_where, first_of}
 
 abbrev pub begins_reserved : List ℕ → Bool
 begins_reserved [] = false
@@ -24,8 +24,13 @@ is_reserved (enum_value_item of name directives) = false
 is_reserved (directive_item name) = false
 
 abbrev pub reserved_at : ItemTree → Option PlaceTree
-reserved_at i = told (is_reserved i) (place_of i)
+reserved_at i = fault_where (is_reserved i) (place_of i)
 
 -- the place of the first reserved name
 abbrev pub reserved : List ItemTree → Option PlaceTree
 reserved items = first_of reserved_at items
+
+-- The same where reserved names are refused. In the schema of schemas (GraphQL October 2021, 4.2) they stand by right.
+abbrev pub reserved_if : Bool → List ItemTree → Option PlaceTree
+reserved_if true items = reserved items
+reserved_if false items = None

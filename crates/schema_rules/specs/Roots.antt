@@ -7,7 +7,7 @@ use Rattle.gql_base.specs.declared.parts.trees.OperationKind.{OperationKind}
 use Rattle.gql_base.specs.declared.parts.trees.OperationKind.TheVariants.{Query, Mutation, Subscription}
 use Rattle.schema_rules.specs.Items.{ItemTree, schema_item, root_item, type_item, interface_item, member_item, field_item, argument_item, field_type_item, enum_value_item, input_field_item, directive_item, directive_argument_item}
 use Rattle.schema_rules.specs.TypeNames.{NamedKind, name_of}
-use Rattle.schema_rules.specs.First.{first_of, told}
+use Rattle.schema_rules.specs.First.{first_of, fault_where}
 
 abbrev pub is_schema : ItemTree → Bool
 is_schema (schema_item directives) = true
@@ -40,7 +40,7 @@ is_same_kind Subscription Subscription = true
 
 -- the type that a thing names for a kind of operations
 abbrev pub root_told : OperationKind → ItemTree → Option (List ℕ)
-root_told wanted (root_item kind name) = told (is_same_kind wanted kind) name
+root_told wanted (root_item kind name) = fault_where (is_same_kind wanted kind) name
 root_told wanted (schema_item directives) = None
 root_told wanted (type_item name kind is_empty directives) = None
 root_told wanted (interface_item of name) = None
@@ -61,4 +61,4 @@ usual_name Subscription = codes "Subscription"
 
 -- the name of the type of a kind of operations
 abbrev pub root_name : List ItemTree → List NamedKind → OperationKind → Option (List ℕ)
-root_name items types kind = if has_schema items then first_of (root_told kind) items else told (has_name name_of types (usual_name kind)) (usual_name kind)
+root_name items types kind = if has_schema items then first_of (root_told kind) items else fault_where (has_name name_of types (usual_name kind)) (usual_name kind)

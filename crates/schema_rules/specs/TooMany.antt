@@ -2,7 +2,7 @@
 use Rattle.std.specs.Prelude.{ℕ, nat_lt, Bool, true, false, List, length, Option}
 use Rattle.std.specs.List.{filter}
 use Rattle.schema_rules.specs.Items.{ItemTree, schema_item, root_item, type_item, interface_item, member_item, field_item, argument_item, field_type_item, enum_value_item, input_field_item, directive_item, directive_argument_item}
-use Rattle.schema_rules.specs.First.{told, or_else}
+use Rattle.schema_rules.specs.First.{fault_where, or_else}
 
 abbrev pub is_type : ItemTree → Bool
 is_type (type_item name kind is_empty directives) = true
@@ -41,7 +41,7 @@ abbrev pub field_count : List ItemTree → ℕ
 field_count items = length (filter is_field items)
 
 abbrev pub above : ℕ → ℕ → Option ℕ
-above limit n = told (nat_lt limit n) n
+above limit n = fault_where (nat_lt limit n) n
 
 -- the number that is too great
 abbrev pub too_many : List ItemTree → Option ℕ

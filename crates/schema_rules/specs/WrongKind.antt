@@ -7,7 +7,7 @@ use Rattle.schema_rules.specs.Kinds.{is_object, is_interface, is_input_only, is_
 use Rattle.schema_rules.specs.Items.{ItemTree, schema_item, root_item, type_item, interface_item, member_item, field_item, argument_item, field_type_item, enum_value_item, input_field_item, directive_item, directive_argument_item, place_of, input_type, innermost}
 use Rattle.schema_rules.specs.TypeNames.{NamedKind, kind_named}
 use Rattle.schema_rules.specs.Roots.{has_schema}
-use Rattle.schema_rules.specs.First.{told, first_of}
+use Rattle.schema_rules.specs.First.{fault_where, first_of}
 
 -- whether a type is one of operations by its name, where there is no schema definition
 abbrev pub is_usual_root : List ℕ → Bool
@@ -28,7 +28,7 @@ is_wrong types has_schema (enum_value_item of name directives) = false
 is_wrong types has_schema (directive_item name) = false
 
 abbrev pub wrong_at : List NamedKind → Bool → ItemTree → Option PlaceTree
-wrong_at types has_schema i = told (is_wrong types has_schema i) (place_of i)
+wrong_at types has_schema i = fault_where (is_wrong types has_schema i) (place_of i)
 
 -- the place of the first type of a wrong kind
 abbrev pub wrong_kind : List NamedKind → List ItemTree → Option PlaceTree

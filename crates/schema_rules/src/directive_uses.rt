@@ -6,11 +6,11 @@ ghost use Rattle.std.specs.Str.{bytes_eq};
 ghost use Rattle.gql_base.specs.names.Names.{are_distinct};
 ghost use Rattle.gql_base.specs.parts.Trees.{value_tree, named_value, directive_tree};
 ghost use Rattle.gql_base.specs.parts.Values.{values_from};
-ghost use Rattle.schema_rules.specs.DirectiveUses.{string_in, is_string, is_maybe_int, is_maybe_boolean, are_strings, are_maybe_strings, one_weight, weight_text, fits_size, is_size_argument, are_size_arguments, is_right, is_use_of, is_rare, are_right, is_some_text, argument_name, weight_of, size_arguments};
+ghost use Rattle.schema_rules.specs.DirectiveUses.{string_in, is_string, is_maybe_int, is_maybe_boolean, are_strings, are_maybe_strings, one_weight, weight_text, fits_size, is_size_argument, are_size_arguments, is_right, is_use_of, is_rare, are_right, is_some_text, argument_name, given_weight, size_arguments};
 ghost use Rattle.schema_rules.specs.Views.{literal_tree, maybe_name, maybe_arguments};
 
 use crate::literals::{Literal, opened};
-use gql_base::{Argument, Directive, NameIndex, Named, Value};
+use gql_base::{Argument, Directive, NameIndex, Named, Value, is_int};
 
 fn string_in<'a>(literal: Literal<'a>) -> Option<&'a str>
     ensures { maybe_name result ≡ string_in (literal_tree literal.entry) }
@@ -34,7 +34,7 @@ fn is_maybe_int(literal: Literal<'_>) -> bool
     ensures { result ≡ is_maybe_int (literal_tree literal.entry) }
 {
     match literal {
-        Literal::Int(number) => -2147483648 <= number && number <= 2147483647,
+        Literal::Int(number) => is_int(number),
         Literal::Null => true,
         _ => false,
     }
@@ -248,8 +248,8 @@ pub fn are_right(may_cost: bool, may_size: bool, directives: &[Directive]) -> bo
 }
 
 /// The text of the weight that the first `@cost` has, where its arguments are right.
-pub fn weight_of(directives: &[Directive]) -> Option<&str>
-    ensures { maybe_name result ≡ weight_of (map directive_tree directives.now) }
+pub fn given_weight(directives: &[Directive]) -> Option<&str>
+    ensures { maybe_name result ≡ given_weight (map directive_tree directives.now) }
 {
     for directive in directives {
         if is_use_of("cost", directive) {

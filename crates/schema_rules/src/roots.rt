@@ -3,7 +3,7 @@
 ghost use Rattle.std.specs.Prelude.{◌≡◌, map, codes};
 ghost use Rattle.std.specs.List.{list_any};
 ghost use Rattle.gql_base.specs.names.Names.{has_name};
-ghost use Rattle.schema_rules.specs.First.{first_of, told};
+ghost use Rattle.schema_rules.specs.First.{first_of, fault_where};
 ghost use Rattle.schema_rules.specs.Roots.{is_schema, has_schema, is_same_kind, root_told, usual_name, root_name};
 ghost use Rattle.schema_rules.specs.TypeNames.{name_of};
 ghost use Rattle.schema_rules.specs.Views.{item_tree, named_kind, maybe_name};
@@ -52,8 +52,8 @@ fn is_same_kind(a: OperationKind, b: OperationKind) -> bool
     }
 }
 
-fn told<'a>(holds: bool, name: &'a str) -> Option<&'a str>
-    ensures { maybe_name result ≡ told holds name.now }
+fn fault_where<'a>(holds: bool, name: &'a str) -> Option<&'a str>
+    ensures { maybe_name result ≡ fault_where holds name.now }
 {
     if holds { Some(name) } else { None }
 }
@@ -62,7 +62,7 @@ fn root_told<'a>(wanted: OperationKind, item: Item<'a>) -> Option<&'a str>
     ensures { maybe_name result ≡ root_told wanted (item_tree item.entry) }
 {
     match item {
-        Item::Root { kind, name } => told(is_same_kind(wanted, kind), name),
+        Item::Root { kind, name } => fault_where(is_same_kind(wanted, kind), name),
         _ => None,
     }
 }
@@ -90,10 +90,10 @@ fn usual_name(kind: OperationKind) -> &'static str
 }
 
 fn usual_root<'a>(types: &NameIndex<'_, TypeName<'_>>, kind: OperationKind) -> Option<&'a str>
-    ensures { maybe_name result ≡ told (has_name name_of (map named_kind types.now.items.now) (usual_name kind)) (usual_name kind) }
+    ensures { maybe_name result ≡ fault_where (has_name name_of (map named_kind types.now.items.now) (usual_name kind)) (usual_name kind) }
 {
     let name = usual_name(kind);
-    told(has_type(types, name), name)
+    fault_where(has_type(types, name), name)
 }
 
 /// The name of the type of a kind of operations: the one that the schema definition names, or without one the usual name,

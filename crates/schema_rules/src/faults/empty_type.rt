@@ -1,7 +1,7 @@
 //! Each type has a field, a value or a member, but for scalars.
 
 ghost use Rattle.std.specs.Prelude.{◌≡◌, map};
-ghost use Rattle.schema_rules.specs.First.{first_of, told};
+ghost use Rattle.schema_rules.specs.First.{first_of, fault_where};
 ghost use Rattle.schema_rules.specs.EmptyType.{empty_at, empty_type};
 ghost use Rattle.schema_rules.specs.Views.{item_tree, maybe_name};
 

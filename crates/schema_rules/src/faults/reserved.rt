@@ -2,7 +2,7 @@
 
 ghost use Rattle.std.specs.Prelude.{◌≡◌, map};
 ghost use Rattle.schema_rules.specs.First.{first_of};
-ghost use Rattle.schema_rules.specs.Reserved.{begins_reserved, is_reserved, reserved_at, reserved};
+ghost use Rattle.schema_rules.specs.Reserved.{begins_reserved, is_reserved, reserved_at, reserved, reserved_if};
 ghost use Rattle.schema_rules.specs.Views.{item_tree, maybe_place};
 
 use crate::items::{Item, place_of};
@@ -52,4 +52,11 @@ pub fn first_reserved<'a>(items: &[Item<'a>]) -> Option<Place<'a>>
         }
     }
     None
+}
+
+/// The place of the first reserved name, where these are refused.
+pub fn first_reserved_if<'a>(refused: bool, items: &[Item<'a>]) -> Option<Place<'a>>
+    ensures { maybe_place result ≡ reserved_if refused (map item_tree items.now) }
+{
+    if refused { first_reserved(items) } else { None }
 }

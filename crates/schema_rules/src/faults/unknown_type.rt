@@ -1,7 +1,7 @@
 //! Each name of a type is that of a type of the text or of a built-in scalar.
 
 ghost use Rattle.std.specs.Prelude.{◌≡◌, map};
-ghost use Rattle.schema_rules.specs.First.{first_of, told};
+ghost use Rattle.schema_rules.specs.First.{first_of, fault_where};
 ghost use Rattle.schema_rules.specs.UnknownType.{unless_known, unknown_at, unknown_type};
 ghost use Rattle.schema_rules.specs.Views.{item_tree, named_kind, maybe_name};
 

@@ -1,8 +1,8 @@
 use Rattle.std.proofs.Common.{◌≡◌, drop, map}
 use Rattle.gql_base.specs.parts.Trees.{directive_tree}
-use Rattle.schema_rules.specs.DirectiveUses.{weight_of}
-use Rattle.schema_rules.proofs.directive_uses.weight_of.Given as goal
+use Rattle.schema_rules.specs.DirectiveUses.{given_weight}
+use Rattle.schema_rules.proofs.directive_uses.given_weight.Given as goal
 
 -- What is left answers as the whole.
 abbrev pub invariant-loop-directive : goal.invariant-loop-directive
-invariant-loop-directive l = weight_of (map directive_tree (drop l.directive-index l.directives)) ≡ weight_of (map directive_tree l.directives)
+invariant-loop-directive l = given_weight (map directive_tree (drop l.directive-index l.directives)) ≡ given_weight (map directive_tree l.directives)
