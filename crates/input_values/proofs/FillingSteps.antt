@@ -1,3 +1,4 @@
 pub mod Tables
 pub mod Found
 pub mod OneFilling
+pub mod SomeFilling

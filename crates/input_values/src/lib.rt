@@ -17,7 +17,7 @@ pub use coercion::{building, kinds, leaves, places};
 pub use defaults::drafts::{DraftField, DraftType};
 pub use defaults::filled::{FilledTypes, no_default};
 pub use defaults::filling::{DEFAULT_LIMIT, DefaultFault, coerce_default};
-pub use defaults::laws::defaults_have_one_filling;
+pub use defaults::laws::{defaults_can_be_filled, defaults_have_one_filling};
 pub use defaults::rounds::fill;
 pub use inputs::definition::InputDef;
 pub use inputs::shape::{Shape, ShapeLevel, TypeId, copy_shape, shape_level};

@@ -9,7 +9,7 @@ use Rattle.input_values.specs.coercion.Forms.{FieldForm, InputForm, integer_form
 use Rattle.input_values.specs.coercion.Leaves.{integer_at, string_at, text_at, name_at, boolean_at, custom_at}
 use Rattle.input_values.specs.coercion.Customs.{any_value}
 use Rattle.input_values.specs.coercion.Places.{null_at, variable_at, list_of_one, single_at, list_at}
-use Rattle.input_values.specs.coercion.Objects.{is_wrong, wrong_name, Finder, absent_at, field_at, with_field, fields_at, object_of, object_by}
+use Rattle.input_values.specs.coercion.Objects.{is_wrong, wrong_name, Finder, absent_at, field_answer, with_field, fields_at, object_of, object_by}
 use Rattle.input_values.specs.coercion.Coercion.{coerced, items_coerced, find_coerced}
 use Rattle.input_values.specs.coercion.Refusals.{Paths, refusals, below, null_refusals, single_refusals, list_refusals, field_refusals, fields_refusals, wrong_names, object_refusals, all_refusals, items_refusals, find_refusals, first_path}
 
@@ -57,7 +57,7 @@ Agree None (Some all) = ⊥
 Agree (Some coerce) None = ⊥
 Agree (Some coerce) (Some all) = (s : ShapeTree) → first_path (all s) ≡ refusal (coerce s)
 
-field_first : (f : FieldForm) (x : Option (ShapeTree → Answer CoercedTree)) (y : Option (ShapeTree → Paths)) → Agree x y → first_path (field_refusals f y) ≡ refusal (field_at f x)
+field_first : (f : FieldForm) (x : Option (ShapeTree → Answer CoercedTree)) (y : Option (ShapeTree → Paths)) → Agree x y → first_path (field_refusals f y) ≡ refusal (field_answer f x)
 field_first f None None agree = refusal_first (absent_at f.absence)
 field_first f None (Some all) agree = absurd agree
 field_first f (Some coerce) None agree = absurd agree
@@ -67,7 +67,7 @@ fields_first : (fs : List FieldForm) (find : Finder) (inner : List ℕ → Optio
 fields_first [] find inner agree = refl
 fields_first (f ∷ fs) find inner agree =
     let step = key_step f.name in
-    let here = field_at f (find f.name) in
+    let here = field_answer f (find f.name) in
     let paths = field_refusals f (inner f.name) in
     first_both (below step paths) (fields_refusals fs inner)
     ∙ (ap (λ x. option_or x (first_path (fields_refusals fs inner))) (first_below step paths ∙ (ap (option_map (λ path. step ++ path)) (field_first f (find f.name) (inner f.name) (agree f.name)) ∙ sym (refusal_step step here)))

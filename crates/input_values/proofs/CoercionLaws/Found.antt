@@ -12,7 +12,7 @@ use Rattle.input_values.specs.coercion.Forms.{Absence, takes_default, stays_abse
 use Rattle.input_values.specs.coercion.Leaves.{integer_at, string_at, text_at, name_at, boolean_at, custom_at}
 use Rattle.input_values.specs.coercion.Customs.{any_value}
 use Rattle.input_values.specs.coercion.Places.{null_at, list_of_one, single_at, list_at}
-use Rattle.input_values.specs.coercion.Objects.{wrong_name, Finder, absent_at, field_at, with_field, fields_at, object_of, object_by, object_at}
+use Rattle.input_values.specs.coercion.Objects.{wrong_name, Finder, absent_at, field_answer, with_field, fields_at, object_of, object_by, object_at}
 use Rattle.input_values.specs.coercion.Coercion.{coerced, items_coerced, find_coerced}
 use Rattle.input_values.specs.coercion.Relation.{IsSingle, IsList, IsAbsent, IsThere, Either, AreFields, NamesAreRight, IsObject, IsCoerced, AreCoerced, IsField}
 
@@ -92,17 +92,17 @@ there_iff : (a : Answer CoercedTree) (Is : CoercedTree → Type 0) → ((t : Coe
 there_iff a Is each None = (λ e. let m = mapped_ok Some a None e in absurd (none-some m.0 m.2), λ e. absurd e)
 there_iff a Is each (Some t) = (λ e. let m = mapped_ok Some a (Some t) e in (each t).0 (m.1 ∙ ap Ok (same_Some m.0 t (sym m.2))), λ e. ap (mapped Some) ((each t).1 e))
 
-found_iff : (here nothing : Bool) (f : FieldForm) (coerce : ShapeTree → Answer CoercedTree) (Is : CoercedTree → Type 0) (later : Option (ShapeTree → Answer CoercedTree)) (Later : Type 0) (t : Option CoercedTree) → ((u : CoercedTree) → Iff (coerce f.shape ≡ Ok u) (Is u)) → Iff (field_at f later ≡ Ok t) Later
-    → Iff (field_at f (cond here (cond nothing None (Some coerce)) later) ≡ Ok t) (Either here (Either nothing (IsAbsent f.absence t) (IsThere Is t)) Later)
+found_iff : (here nothing : Bool) (f : FieldForm) (coerce : ShapeTree → Answer CoercedTree) (Is : CoercedTree → Type 0) (later : Option (ShapeTree → Answer CoercedTree)) (Later : Type 0) (t : Option CoercedTree) → ((u : CoercedTree) → Iff (coerce f.shape ≡ Ok u) (Is u)) → Iff (field_answer f later ≡ Ok t) Later
+    → Iff (field_answer f (cond here (cond nothing None (Some coerce)) later) ≡ Ok t) (Either here (Either nothing (IsAbsent f.absence t) (IsThere Is t)) Later)
 found_iff false nothing f coerce Is later Later t each rest = rest
 found_iff true true f coerce Is later Later t each rest = absent_iff f.absence t
 found_iff true false f coerce Is later Later t each rest = there_iff (coerce f.shape) Is each t
 
-fields_iff : (fs : List FieldForm) (find : Finder) (Is : FieldForm → Option CoercedTree → Type 0) → ((f : FieldForm) (t : Option CoercedTree) → Iff (field_at f (find f.name) ≡ Ok t) (Is f t)) → (cs : CoercedFields) → Iff (fields_at fs find ≡ Ok cs) (AreFields fs Is cs)
+fields_iff : (fs : List FieldForm) (find : Finder) (Is : FieldForm → Option CoercedTree → Type 0) → ((f : FieldForm) (t : Option CoercedTree) → Iff (field_answer f (find f.name) ≡ Ok t) (Is f t)) → (cs : CoercedFields) → Iff (fields_at fs find ≡ Ok cs) (AreFields fs Is cs)
 fields_iff [] find Is each cs = same_iff no_coerced_field cs
 fields_iff (f ∷ fs) find Is each cs = (
-  λ e. let m = both_ok (with_field f.name) (at_step (key_step f.name) (field_at f (find f.name))) (fields_at fs find) cs e in
-      (m.0, m.1, m.4, (each f m.0).0 (step_ok (key_step f.name) (field_at f (find f.name)) m.0 m.2), (fields_iff fs find Is each m.1).0 m.3),
+  λ e. let m = both_ok (with_field f.name) (at_step (key_step f.name) (field_answer f (find f.name))) (fields_at fs find) cs e in
+      (m.0, m.1, m.4, (each f m.0).0 (step_ok (key_step f.name) (field_answer f (find f.name)) m.0 m.2), (fields_iff fs find Is each m.1).0 m.3),
   λ e. ap (λ a. both (with_field f.name) (at_step (key_step f.name) a) (fields_at fs find)) ((each f e.0).1 e.3)
       ∙ (ap (λ b. both (with_field f.name) (Ok e.0) b) ((fields_iff fs find Is each e.1).1 e.4) ∙ ap Ok (sym e.2)),
 )
@@ -187,7 +187,7 @@ module _ (form : ℕ → InputForm) where
           ∙ (ap (λ b. both coerced_then (Ok e.0) b) ((items_iff (suc n) gs s e.1).1 e.4) ∙ ap Ok (sym e.2)),
     )
 
-    field_iff : (name : List ℕ) (fs : GivenFields) (f : FieldForm) (t : Option CoercedTree) → Iff (field_at f (find_coerced form name fs) ≡ Ok t) (IsField form name fs f t)
+    field_iff : (name : List ℕ) (fs : GivenFields) (f : FieldForm) (t : Option CoercedTree) → Iff (field_answer f (find_coerced form name fs) ≡ Ok t) (IsField form name fs f t)
     field_iff name no_given_field f t = absent_iff f.absence t
     field_iff name (given_field_then other g others) f t =
         found_iff (bytes_eq other name) (is_nothing g) f (λ s. coerced form g s) (λ u. IsCoerced form g f.shape u) (find_coerced form name others) (IsField form name others f t) t (λ u. coerced_iff g f.shape u) (field_iff name others f t)

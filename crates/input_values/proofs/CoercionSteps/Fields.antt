@@ -14,7 +14,7 @@ use Rattle.input_values.specs.declared.coercion.faults.CoercionFault.{CoercionFa
 use Rattle.input_values.specs.coercion.Answers.{Answer, key_step, at_step, both}
 use Rattle.input_values.specs.coercion.Given.{Given, is_nothing, present}
 use Rattle.input_values.specs.coercion.Forms.{InputForm, FieldForm}
-use Rattle.input_values.specs.coercion.Objects.{Finder, field_at, with_field, fields_at, absent_at}
+use Rattle.input_values.specs.coercion.Objects.{Finder, field_answer, with_field, fields_at, absent_at}
 use Rattle.input_values.specs.coercion.Coercion.{coerced, find_coerced}
 use Rattle.input_values.specs.coercion.Literals.{Environment, literal_given, literal_fields}
 use Rattle.input_values.specs.coercion.Sizes.{fields_written, tree_size, fields_size}
@@ -41,12 +41,12 @@ find_written form env name (f ∷ fs) =
     ∙ found_or form env (bytes_eq f.name.text name) f (find_coerced form name (literal_fields env (fields_written fs))) (first_of_name (λ g. g.name.text) fs name) (find_written form env name fs)
 
 pub field_written : (limit : ℕ) (form : ℕ → InputForm) (env : Environment) (i : FieldForm) (name : List ℕ) (fs : List Argument) (found : Option Argument) (before after : ℕ) (r : Result (Option Coerced) CoercionFault) → name ≡ i.name → found ≡ first_of_name (λ f. f.name.text) fs name
-    → CoercesField limit before after r (field_at i (found_answer form env found)) → CoercesField limit before after r (field_at i (find_coerced form i.name (literal_fields env (fields_written fs))))
+    → CoercesField limit before after r (field_answer i (found_answer form env found)) → CoercesField limit before after r (field_answer i (find_coerced form i.name (literal_fields env (fields_written fs))))
 field_written limit form env i name fs found before after r named is h =
-    subst (λ x. CoercesField limit before after r (field_at i x)) (sym (ap (λ n. find_coerced form n (literal_fields env (fields_written fs))) (sym named) ∙ (find_written form env name fs ∙ ap (found_answer form env) (sym is)))) h
+    subst (λ x. CoercesField limit before after r (field_answer i x)) (sym (ap (λ n. find_coerced form n (literal_fields env (fields_written fs))) (sym named) ∙ (find_written form env name fs ∙ ap (found_answer form env) (sym is)))) h
 
-pub written_nothing : (limit : ℕ) (g : Given) (i : FieldForm) (coerce : ShapeTree → Answer CoercedTree) (before after : ℕ) (r : Result (Option Coerced) CoercionFault) → is_nothing g ≡ true → CoercesField limit before after r (absent_at i.absence) → CoercesField limit before after r (field_at i (present g coerce))
-written_nothing limit g i coerce before after r e h = subst (λ b. CoercesField limit before after r (field_at i (cond b None (Some coerce)))) (sym e) h
+pub written_nothing : (limit : ℕ) (g : Given) (i : FieldForm) (coerce : ShapeTree → Answer CoercedTree) (before after : ℕ) (r : Result (Option Coerced) CoercionFault) → is_nothing g ≡ true → CoercesField limit before after r (absent_at i.absence) → CoercesField limit before after r (field_answer i (present g coerce))
+written_nothing limit g i coerce before after r e h = subst (λ b. CoercesField limit before after r (field_answer i (cond b None (Some coerce)))) (sym e) h
 
 -- ## What is inside is smaller
 
@@ -82,21 +82,21 @@ some_there xs at x e = at_front xs at x (slice_get_within xs at x (sym e)) (sym 
 
 -- what is left before a field
 abbrev one_left : List FieldForm → Finder → ℕ → FieldForm → Answer CoercedFields
-one_left fields find at i = both (with_field i.name) (at_step (key_step i.name) (field_at i (find i.name))) (rest_at fields find (at + 1))
+one_left fields find at i = both (with_field i.name) (at_step (key_step i.name) (field_answer i (find i.name))) (rest_at fields find (at + 1))
 
-pub one_field_more : (limit : ℕ) (fields : List FieldForm) (find : Finder) (at : ℕ) (i : FieldForm) (told : List ℕ) (built more : List NamedTree) (before now : ℕ) (r : Option Coerced) → Some i ≡ slice_get fields at → told ≡ i.name → CoercesField limit before now (Ok r) (field_at i (find i.name)) → more ≡ built ++ one_field told (tree_in r)
+pub one_field_more : (limit : ℕ) (fields : List FieldForm) (find : Finder) (at : ℕ) (i : FieldForm) (told : List ℕ) (built more : List NamedTree) (before now : ℕ) (r : Option Coerced) → Some i ≡ slice_get fields at → told ≡ i.name → CoercesField limit before now (Ok r) (field_answer i (find i.name)) → more ≡ built ++ one_field told (tree_in r)
     → (start : ℕ) (whole : Answer CoercedFields) → FieldsLeft limit built start before (rest_at fields find at) whole → FieldsLeft limit more start now (rest_at fields find (at + 1)) whole
 one_field_more limit fields find at i told built more before now r is name c e = λ start whole left.
-    field_left limit built more i.name start before now r (with_field i.name) (at_step (key_step i.name) (field_at i (find i.name))) (rest_at fields find (at + 1)) whole (field_put i.name)
-    (subst (λ fs. FieldsLeft limit built start before (fields_at fs find) whole) (some_there fields at i is) left) (stepped_coerces_field limit before now r (key_step i.name) (field_at i (find i.name)) c) (e ∙ ap (λ n. built ++ one_field n (tree_in r)) name)
+    field_left limit built more i.name start before now r (with_field i.name) (at_step (key_step i.name) (field_answer i (find i.name))) (rest_at fields find (at + 1)) whole (field_put i.name)
+    (subst (λ fs. FieldsLeft limit built start before (fields_at fs find) whole) (some_there fields at i is) left) (stepped_coerces_field limit before now r (key_step i.name) (field_answer i (find i.name)) c) (e ∙ ap (λ n. built ++ one_field n (tree_in r)) name)
 
 pub no_field_more : (limit : ℕ) (fields : List FieldForm) (find : Finder) (at : ℕ) (built : List NamedTree) (before : ℕ) → None ≡ slice_get fields at
     → (start : ℕ) (whole : Answer CoercedFields) → FieldsLeft limit built start before (rest_at fields find at) whole → FieldsLeft limit built start before (rest_at fields find (at + 1)) whole
 no_field_more limit fields find at built before is = λ start whole left. subst (λ fs. FieldsLeft limit built start before (fields_at fs find) whole) (none_there fields at is) left
 
-pub one_field_refused : (limit : ℕ) (fields : List FieldForm) (find : Finder) (at : ℕ) (i : FieldForm) (told : List ℕ) (built : List NamedTree) (before : ℕ) (f g : CoercionFault) → Some i ≡ slice_get fields at → told ≡ i.name → Tells f (field_at i (find i.name)) → TellsAfter (key_step told) f g
+pub one_field_refused : (limit : ℕ) (fields : List FieldForm) (find : Finder) (at : ℕ) (i : FieldForm) (told : List ℕ) (built : List NamedTree) (before : ℕ) (f g : CoercionFault) → Some i ≡ slice_get fields at → told ≡ i.name → Tells f (field_answer i (find i.name)) → TellsAfter (key_step told) f g
     → (start : ℕ) (whole : Answer CoercedFields) → FieldsLeft limit built start before (rest_at fields find at) whole → Tells g whole
 one_field_refused limit fields find at i told built before f g is name tells after = λ start whole left.
-    field_refused limit built start before g (with_field i.name) (at_step (key_step i.name) (field_at i (find i.name))) (rest_at fields find (at + 1)) whole
+    field_refused limit built start before g (with_field i.name) (at_step (key_step i.name) (field_answer i (find i.name))) (rest_at fields find (at + 1)) whole
     (subst (λ fs. FieldsLeft limit built start before (fields_at fs find) whole) (some_there fields at i is) left)
-    (stepped_tells (key_step i.name) (field_at i (find i.name)) f g (subst (λ n. TellsAfter (key_step n) f g) name after) tells)
+    (stepped_tells (key_step i.name) (field_answer i (find i.name)) f g (subst (λ n. TellsAfter (key_step n) f g) name after) tells)

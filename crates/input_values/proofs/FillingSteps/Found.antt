@@ -21,9 +21,9 @@ use Rattle.input_values.specs.coercion.Answers.{Answer, refused}
 use Rattle.input_values.specs.coercion.Forms.{Absence, takes_default, stays_absent, is_required, absence_of, FieldForm, InputForm, integer_form, string_form, boolean_form, id_form, custom_form, enum_form, object_form, no_form}
 use Rattle.input_values.specs.coercion.Coercion.{coerced}
 use Rattle.input_values.specs.coercion.Literals.{no_variables, literal_given}
-use Rattle.input_values.specs.defaults.Drafts.{FieldDraft, Draft, settled, drafted, most_nodes, small_enough, default_value, default_absence, draft_absence, filled_field, filled_form, AreFilled}
+use Rattle.input_values.specs.defaults.Drafts.{draft_fields, FieldDraft, Draft, settled, drafted, most_nodes, small_enough, default_value, default_absence, draft_absence, filled_field, filled_form, AreFilled}
 use Rattle.input_values.specs.defaults.Filling.{Table, table_absence, table_fields, table_form, table_forms, pair_cmp, table_of, drafts, draft_or}
-use Rattle.input_values.specs.defaults.Rounds.{draft_fields, literal_value, field_value, place_value, IsFound, AreFound, Keeps, HasNone, Fills, Covers, RoundLeft}
+use Rattle.input_values.specs.defaults.Rounds.{literal_value, field_value, place_value, IsFound, AreFound, Keeps, HasNone, Fills, Covers, RoundLeft}
 use Rattle.input_values.proofs.CoercionLaws.Found.{ok_same, no_ok}
 use Rattle.input_values.proofs.CoercionLaws.Grown.{AbsenceGrows, FieldsGrow, FormGrows, grown}
 
@@ -84,7 +84,7 @@ field_more : (less more : ℕ → InputForm) (f : Option FieldDraft) (t : Coerce
 field_more less more None t grows e = e
 field_more less more (Some f) t grows e = literal_more less more f.shape f.default t grows e
 
-place_more : (draft : ℕ → Draft) (less more : Table) (of at : ℕ) (t : CoercedTree) → Keeps less more → place_value draft less of at ≡ Ok t → place_value draft more of at ≡ Ok t
+pub place_more : (draft : ℕ → Draft) (less more : Table) (of at : ℕ) (t : CoercedTree) → Keeps less more → place_value draft less of at ≡ Ok t → place_value draft more of at ≡ Ok t
 place_more draft less more of at t keeps e =
     field_more (table_forms draft less) (table_forms draft more) (slice_get (draft_fields (draft of)) at) t (λ o. form_more (nodes t) (draft o) (less o) (more o) (λ k u. keeps o k u)) e
 
@@ -145,7 +145,7 @@ longer : (still : List (ℕ × ℕ)) (p : ℕ × ℕ) → length (still ++ p ∷
 longer [] p = refl
 longer (q ∷ still) p = ap suc (longer still p)
 
-one_there : (p : ℕ × ℕ) → Contains (p ∷ []) p
+pub one_there : (p : ℕ × ℕ) → Contains (p ∷ []) p
 one_there p = (0, omega arith, refl)
 
 found_after : (less more : Table) (of at : ℕ) → Keeps less more → IsFound less of at → IsFound more of at

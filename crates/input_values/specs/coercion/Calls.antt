@@ -36,17 +36,17 @@ nodes_in None = 0
 nodes_in (Some t) = nodes t
 
 -- The nodes were counted, up to one above the limit. What was coerced was built, as long as the count is within the limit.
-abbrev pub Builds : ℕ → ℕ → ℕ → Option Coerced → Option CoercedTree → Type 0
-Builds limit before after built t = (after ≡ counted limit (before + nodes_in t)) × (after ≤ limit → tree_in built ≡ t)
+abbrev pub BuildsCounted : ℕ → ℕ → ℕ → Option Coerced → Option CoercedTree → Type 0
+BuildsCounted limit before after built t = (after ≡ counted limit (before + nodes_in t)) × (after ≤ limit → tree_in built ≡ t)
 
 -- a value
 abbrev pub Coerces : ℕ → ℕ → ℕ → Result (Option Coerced) CoercionFault → Answer CoercedTree → Type 0
-Coerces limit before after (Ok built) answer = (t : CoercedTree) × (answer ≡ Ok t) × Builds limit before after built (Some t)
+Coerces limit before after (Ok built) answer = (t : CoercedTree) × (answer ≡ Ok t) × BuildsCounted limit before after built (Some t)
 Coerces limit before after (Err fault) answer = Tells fault answer
 
 -- a value, or none
 abbrev pub CoercesField : ℕ → ℕ → ℕ → Result (Option Coerced) CoercionFault → Answer (Option CoercedTree) → Type 0
-CoercesField limit before after (Ok built) answer = (t : Option CoercedTree) × (answer ≡ Ok t) × Builds limit before after built t
+CoercesField limit before after (Ok built) answer = (t : Option CoercedTree) × (answer ≡ Ok t) × BuildsCounted limit before after built t
 CoercesField limit before after (Err fault) answer = Tells fault answer
 
 -- A value that came to this at the innermost type is in a list of one for each list of the shape.

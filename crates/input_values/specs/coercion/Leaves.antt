@@ -1,14 +1,10 @@
 -- What leaves coerce to at a named type (GraphQL October 2021, 3.5 and 3.9).
-use Rattle.std.specs.Prelude.{ℕ, ℤ, pos, negsuc, leb, List, Bool, Ok, if◌then◌else◌}
+use Rattle.std.specs.Prelude.{ℕ, ℤ, List, Bool, Ok, if◌then◌else◌}
 use Rattle.std.specs.Fmt.{signed_decimal}
+use Rattle.gql_base.specs.parts.Ints.{is_int}
 use Rattle.input_values.specs.values.Coerced.{CoercedTree, coerced_integer, coerced_string, coerced_boolean, coerced_enum}
 use Rattle.input_values.specs.coercion.Answers.{Answer, refused}
 use Rattle.input_values.specs.coercion.Forms.{is_value, InputForm, integer_form, string_form, boolean_form, id_form, custom_form, enum_form}
-
--- a whole number of 32 bits
-abbrev pub is_int : ℤ → Bool
-is_int (pos n) = leb n 2147483647
-is_int (negsuc n) = leb n 2147483647
 
 -- an ID may be given as a whole number, and is its decimal text
 abbrev pub integer_at : InputForm → ℤ → Answer CoercedTree

@@ -28,9 +28,9 @@ absent_at (takes_default t) = Ok (Some t)
 absent_at stays_absent = Ok None
 absent_at is_required = refused
 
-abbrev pub field_at : FieldForm → Option (ShapeTree → Answer CoercedTree) → Answer (Option CoercedTree)
-field_at f (Some coerce) = mapped Some (coerce f.shape)
-field_at f None = absent_at f.absence
+abbrev pub field_answer : FieldForm → Option (ShapeTree → Answer CoercedTree) → Answer (Option CoercedTree)
+field_answer f (Some coerce) = mapped Some (coerce f.shape)
+field_answer f None = absent_at f.absence
 
 abbrev pub with_field : List ℕ → Option CoercedTree → CoercedFields → CoercedFields
 with_field name None others = others
@@ -39,7 +39,7 @@ with_field name (Some t) others = coerced_field_then name t others
 -- the fields in the order of their definitions
 abbrev pub fields_at : List FieldForm → Finder → Answer CoercedFields
 fields_at [] find = Ok no_coerced_field
-fields_at (f ∷ others) find = both (with_field f.name) (at_step (key_step f.name) (field_at f (find f.name))) (fields_at others find)
+fields_at (f ∷ others) find = both (with_field f.name) (at_step (key_step f.name) (field_answer f (find f.name))) (fields_at others find)
 
 -- A wrong name is told before any field.
 abbrev pub object_of : Option (List ℕ) → Answer CoercedFields → Answer CoercedTree

@@ -10,7 +10,7 @@ use Rattle.input_values.specs.declared.coercion.variables.VariableValue.{Variabl
 use Rattle.input_values.specs.coercion.Answers.{Answer, mapped}
 use Rattle.input_values.specs.coercion.Given.{Given, given_list, given_object, GivenFields, present}
 use Rattle.input_values.specs.coercion.Forms.{FieldForm, InputForm, fields_of}
-use Rattle.input_values.specs.coercion.Objects.{Finder, wrong_name, field_at, fields_at, object_of, object_at}
+use Rattle.input_values.specs.coercion.Objects.{Finder, wrong_name, field_answer, fields_at, object_of, object_at}
 use Rattle.input_values.specs.coercion.Coercion.{coerced, items_coerced, find_coerced}
 use Rattle.input_values.specs.coercion.Literals.{values_of, literal_given, literal_items, literal_fields}
 use Rattle.input_values.specs.coercion.Sizes.{items_written, fields_written, names_written}
@@ -60,7 +60,7 @@ module _ (form : ℕ → InputForm) (variables : List VariableValue) where
 
   -- a field of an input object, by all that is written, and by the literal that is written for it
   abbrev pub written_field : FieldForm → List Argument → Answer (Option CoercedTree)
-  written_field f fields = field_at f (written_under fields f.name)
+  written_field f fields = field_answer f (written_under fields f.name)
 
   abbrev pub written_as : FieldForm → Value → Answer (Option CoercedTree)
-  written_as f value = field_at f (present (value_given variables value) (λ shape. coerced form (value_given variables value) shape))
+  written_as f value = field_answer f (present (value_given variables value) (λ shape. coerced form (value_given variables value) shape))

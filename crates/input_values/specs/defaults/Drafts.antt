@@ -1,5 +1,5 @@
 -- Types of inputs as the text of a schema has them, where defaults are literals (GraphQL October 2021, 3.6.1 and 3.10).
-use Rattle.std.specs.Prelude.{ℕ, leb, List, map, Option, Some, None, Ok, Err, ◌≡◌, if◌then◌else◌}
+use Rattle.std.specs.Prelude.{ℕ, ◌≤◌, leb, List, [], map, Option, Some, None, Ok, Err, ◌≡◌, if◌then◌else◌}
 use Rattle.gql_base.specs.parts.Values.{ValueTree}
 use Rattle.input_values.specs.values.Coerced.{CoercedTree, nodes}
 use Rattle.input_values.specs.inputs.Shapes.{ShapeTree}
@@ -19,6 +19,15 @@ pub data Draft : Type 0 where
   settled : InputForm → Draft
   -- an input object
   drafted : List FieldDraft → Draft
+
+-- the fields of an input object, and none of another type
+abbrev pub draft_fields : Draft → List FieldDraft
+draft_fields (settled form) = []
+draft_fields (drafted fields) = fields
+
+-- Types from this number on have no fields; those of a text are so from their count on.
+abbrev pub HaveNoFieldsFrom : ℕ → (ℕ → Draft) → Type 0
+HaveNoFieldsFrom n draft = (of : ℕ) → n ≤ of → draft_fields (draft of) ≡ []
 
 -- a default's value has at most so many nodes
 abbrev pub most_nodes : ℕ

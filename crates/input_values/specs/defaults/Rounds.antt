@@ -1,5 +1,5 @@
 -- How the values of defaults are found, round by round.
-use Rattle.std.specs.Prelude.{ℕ, ◌≡◌, ◌≤◌, ◌⊎◌, Bool, true, false, List, [], length, drop, Option, None, Some, Result, Ok, Err, slice_get}
+use Rattle.std.specs.Prelude.{ℕ, ◌≡◌, ◌≤◌, ◌⊎◌, Bool, true, false, List, length, drop, Option, None, Some, Result, Ok, Err, slice_get}
 use Rattle.std.specs.List.{Contains}
 use Rattle.gql_base.specs.parts.Values.{ValueTree}
 use Rattle.input_values.specs.values.Coerced.{CoercedTree, coerced_tree}
@@ -9,7 +9,7 @@ use Rattle.input_values.specs.coercion.Forms.{InputForm}
 use Rattle.input_values.specs.declared.values.coerced.Coerced.{Coerced}
 use Rattle.input_values.specs.declared.defaults.filling.DefaultFault.{DefaultFault}
 use Rattle.input_values.specs.declared.defaults.filling.DefaultFault.TheVariants.{Bad, Memory}
-use Rattle.input_values.specs.defaults.Drafts.{FieldDraft, Draft, settled, drafted, default_value}
+use Rattle.input_values.specs.defaults.Drafts.{draft_fields, FieldDraft, Draft, default_value}
 use Rattle.input_values.specs.defaults.Filling.{Table, table_forms}
 
 -- want of memory is free
@@ -20,10 +20,6 @@ TellsDefault Memory answer = Unit {0}
 abbrev pub AnswersDefault : Result Coerced DefaultFault → Answer CoercedTree → Type 0
 AnswersDefault (Ok value) answer = answer ≡ Ok (coerced_tree value)
 AnswersDefault (Err fault) answer = TellsDefault fault answer
-
-abbrev pub draft_fields : Draft → List FieldDraft
-draft_fields (settled form) = []
-draft_fields (drafted fields) = fields
 
 abbrev pub literal_value : (ℕ → InputForm) → ShapeTree → Option ValueTree → Answer CoercedTree
 literal_value form shape None = refused

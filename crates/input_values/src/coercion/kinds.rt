@@ -10,6 +10,7 @@ use crate::coercion::leaves::{boolean, enum_value, integer, string};
 use crate::inputs::shape::TypeId;
 use crate::inputs::types::{InputKind, InputTypes};
 use crate::values::coerced::Coerced;
+use gql_base::is_int;
 use std::alloc::Global;
 
 /// A whole number. An ID is its decimal text.
@@ -47,7 +48,7 @@ fn small_integer(
 ) -> Result<Option<Coerced>, CoercionFault>
     ensures { Coerces limit count.old count.new result (integer_at integer_form number) }
 {
-    if i32::try_from(number).is_ok() {
+    if is_int(number) {
         integer(number, limit, count)
     } else {
         Err(bad_value(alloc))

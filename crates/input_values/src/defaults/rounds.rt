@@ -6,9 +6,9 @@ ghost use Rattle.std.specs.Prelude.{ℕ, ◌≡◌, ◌<◌, ◌++◌, [], ◌�
 ghost use Rattle.std.specs.BTreeMap.{Updates};
 ghost use Rattle.std.specs.List.{Contains};
 ghost use Rattle.input_values.specs.inputs.Shapes.{shape_tree};
-ghost use Rattle.input_values.specs.defaults.Drafts.{AreFilled};
+ghost use Rattle.input_values.specs.defaults.Drafts.{draft_fields, AreFilled};
 ghost use Rattle.input_values.specs.defaults.Filling.{drafts, field_draft, literal_seen, pair_cmp, table_of, filled_forms};
-ghost use Rattle.input_values.specs.defaults.Rounds.{AnswersDefault, draft_fields, place_value, field_value, literal_value, Fills, RoundLeft};
+ghost use Rattle.input_values.specs.defaults.Rounds.{AnswersDefault, place_value, field_value, literal_value, Fills, RoundLeft};
 
 use crate::defaults::drafts::{DraftField, DraftType};
 use crate::defaults::filled::FilledTypes;

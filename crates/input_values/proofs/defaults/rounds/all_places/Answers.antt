@@ -1,8 +1,8 @@
 use Rattle.std.proofs.Common.{◌≡◌, ◌<◌, inl, inr, length, subst, sym, arith}
 use Rattle.std.specs.List.{Contains}
 use Rattle.std.proofs.lemmas.Bool.{cases_lt}
+use Rattle.input_values.specs.defaults.Drafts.{draft_fields}
 use Rattle.input_values.specs.defaults.Filling.{drafts}
-use Rattle.input_values.specs.defaults.Rounds.{draft_fields}
 use Rattle.input_values.proofs.FillingSteps.Found.{no_type}
 use Rattle.input_values.proofs.defaults.rounds.all_places.Goals as goal
 
