@@ -1,6 +1,7 @@
 pub mod ShapeSteps
 pub mod NamedDrafts
 pub mod PossibleTypes
+pub mod PossibleLaws
 pub mod Arguments
 pub mod MarkSteps
 pub mod Narrowing
@@ -11,3 +12,4 @@ pub mod FormSteps
 pub mod DefaultSteps
 pub mod BuildLaws
 pub mod OwnForms
+pub mod PlainNames

@@ -24,7 +24,7 @@ use Rattle.schema_model.specs.Schemas.{input_of, type_with, types_from, no_type,
 use Rattle.schema_model.specs.SchemaViews.{schema_data}
 use Rattle.schema_model.specs.InputForms.{form_by, type_form, input_forms, schema_forms}
 use Rattle.schema_model.specs.declared.schema.Schema.{Schema}
-use Rattle.schema_model.specs.Faults.{Builds}
+use Rattle.schema_model.specs.Faults.{SchemaBuilds}
 
 module _ (form : ℕ → InputForm) where
   -- each default has a value
@@ -114,8 +114,8 @@ own_forms : (text : List DefinitionTree) (s : Schema) (form : ℕ → InputForm)
 own_forms text s form filled none is =
     ap input_forms is ∙ fun_ext (λ of. types_alike form 0 (drafts_of (types_of (items_of text)) text) of (drafts_good form (types_of (items_of text)) text none) ∙ sym (filled of))
 
-pub fills : (text : List DefinitionTree) (s : Schema) → Builds text (Ok s) → AreFilled (text_asks text) (schema_forms s)
-unfolding Builds
+pub fills : (text : List DefinitionTree) (s : Schema) → SchemaBuilds text (Ok s) → AreFilled (text_asks text) (schema_forms s)
+unfolding SchemaBuilds
 fills text s built =
     let form = (built.1).0 in
     let filled = (built.1).1 in

@@ -6,21 +6,21 @@ use Rattle.gql_base.specs.declared.parts.trees.TypeRef.TheBlock.{Named}
 use Rattle.gql_base.specs.declared.parts.trees.TypeRef.TheViews.{ListOf, NonNull}
 use Rattle.gql_base.specs.parts.Trees.{type_tree}
 use Rattle.gql_base.proofs.PartLaws.ValueSteps.{list_type_tree, non_null_tree, named_type_tree}
-use Rattle.input_values.specs.inputs.Shapes.{named_shape, list_shape}
+use Rattle.input_values.specs.inputs.Shapes.{named_shape, list_shape, shape_by}
 use Rattle.input_values.proofs.ShapeTrees.{named_made, list_made}
 use Rattle.schema_rules.specs.TypeNames.{NamedKind}
-use Rattle.schema_model.specs.Drafts.{shape_in, number_named}
+use Rattle.schema_model.specs.Drafts.{number_named}
 
-pub named_in : (types : List NamedKind) (n : Bool) (name : Name) → shape_in types n (type_tree (Named name)) ≡ named_shape (number_named types name.text) n
-unfolding shape_in
-named_in types n name = ap (shape_in types n) (named_type_tree name)
+pub named_in : (types : List NamedKind) (n : Bool) (name : Name) → shape_by (number_named types) n (type_tree (Named name)) ≡ named_shape (number_named types name.text) n
+unfolding shape_by
+named_in types n name = ap (shape_by (number_named types) n) (named_type_tree name)
 
-pub list_in : (types : List NamedKind) (n : Bool) (b : Box TypeRef Global) → shape_in types n (type_tree (ListOf b)) ≡ list_shape (shape_in types true (type_tree b.value)) n
-unfolding shape_in
-list_in types n b = ap (shape_in types n) (list_type_tree b)
+pub list_in : (types : List NamedKind) (n : Bool) (b : Box TypeRef Global) → shape_by (number_named types) n (type_tree (ListOf b)) ≡ list_shape (shape_by (number_named types) true (type_tree b.value)) n
+unfolding shape_by
+list_in types n b = ap (shape_by (number_named types) n) (list_type_tree b)
 
-pub non_null_in : (types : List NamedKind) (n : Bool) (b : Box TypeRef Global) → shape_in types n (type_tree (NonNull b)) ≡ shape_in types false (type_tree b.value)
-unfolding shape_in
-non_null_in types n b = ap (shape_in types n) (non_null_tree b)
+pub non_null_in : (types : List NamedKind) (n : Bool) (b : Box TypeRef Global) → shape_by (number_named types) n (type_tree (NonNull b)) ≡ shape_by (number_named types) false (type_tree b.value)
+unfolding shape_by
+non_null_in types n b = ap (shape_by (number_named types) n) (non_null_tree b)
 
 pub ruleset shape_steps = (named_in, list_in, non_null_in, named_made, list_made)

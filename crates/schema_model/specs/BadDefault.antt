@@ -8,7 +8,7 @@ use Rattle.schema_reader.specs.Schemas.{InputDefTree}
 use Rattle.schema_rules.specs.Places.{PlaceTree}
 use Rattle.schema_rules.specs.Items.{ItemTree, schema_item, root_item, type_item, interface_item, member_item, field_item, argument_item, field_type_item, enum_value_item, input_field_item, directive_item, directive_argument_item, place_of}
 use Rattle.schema_rules.specs.TypeNames.{NamedKind}
-use Rattle.schema_rules.specs.First.{told, first_of}
+use Rattle.schema_rules.specs.First.{fault_where, first_of}
 use Rattle.schema_model.specs.Drafts.{InputDraft, input_draft}
 use Rattle.schema_model.specs.Defaults.{default_of}
 
@@ -39,7 +39,7 @@ has_bad_default form types (enum_value_item of name directives) = false
 has_bad_default form types (directive_item name) = false
 
 abbrev pub bad_default_at : (ℕ → InputForm) → List NamedKind → ItemTree → Option PlaceTree
-bad_default_at form types i = told (has_bad_default form types i) (place_of i)
+bad_default_at form types i = fault_where (has_bad_default form types i) (place_of i)
 
 -- the place of the first default that has no value, where types have these names and forms
 abbrev pub bad_default : (ℕ → InputForm) → List NamedKind → List ItemTree → Option PlaceTree

@@ -4,13 +4,13 @@ use Rattle.std.specs.Prelude.{ℕ, Bool, true, false, List, [], ◌∷◌, ◌++
 use Rattle.std.specs.List.{flat_map}
 use Rattle.gql_base.specs.names.Names.{place_of_name}
 use Rattle.gql_base.specs.parts.Values.{ValueTree, NamedValue}
-use Rattle.gql_base.specs.parts.TypeReferences.{TypeTree, named_type, list_type, non_null_type}
-use Rattle.input_values.specs.inputs.Shapes.{ShapeTree, named_shape, list_shape}
+use Rattle.gql_base.specs.parts.TypeReferences.{TypeTree}
+use Rattle.input_values.specs.inputs.Shapes.{ShapeTree, shape_by}
 use Rattle.schema_reader.specs.Schemas.{NameText, InputDefTree, FieldDefTree, EnumValueTree, BodyTree, schema_body, scalar_body, object_body, interface_body, union_body, enum_body, input_body, directive_body, DefinitionTree}
 use Rattle.schema_rules.specs.declared.kind.Kind.{Kind}
 use Rattle.schema_rules.specs.declared.kind.Kind.TheVariants.{Scalar, Object, Interface, Union, Enum, Input}
 use Rattle.schema_rules.specs.TypeNames.{NamedKind, name_of}
-use Rattle.schema_rules.specs.DirectiveUses.{weight_of, size_arguments}
+use Rattle.schema_rules.specs.DirectiveUses.{given_weight, size_arguments}
 
 pub record InputDraft : Type 0 where
   pub name : List ℕ
@@ -43,20 +43,15 @@ or_past all (Some n) = n
 abbrev pub number_named : List NamedKind → List ℕ → ℕ
 number_named types name = or_past types (place_of_name name_of types name)
 
-unfoldable pub shape_in : List NamedKind → Bool → TypeTree → ShapeTree
-shape_in types nullable (named_type name at) = named_shape (number_named types name) nullable
-shape_in types nullable (list_type t) = list_shape (shape_in types true t) nullable
-shape_in types nullable (non_null_type t) = shape_in types false t
-
 -- a type with numbers in place of names: without a `!` null may stand there
 abbrev pub shape_of : List NamedKind → TypeTree → ShapeTree
-shape_of types t = shape_in types true t
+shape_of types t = shape_by (number_named types) true t
 
 abbrev pub input_draft : List NamedKind → InputDefTree → InputDraft
-input_draft types i = record { name = i.1; shape = shape_of types i.2; default = i.3; cost = weight_of i.4 }
+input_draft types i = record { name = i.1; shape = shape_of types i.2; default = i.3; cost = given_weight i.4 }
 
 abbrev pub field_draft : List NamedKind → FieldDefTree → FieldDraft
-field_draft types f = record { name = f.1; shape = shape_of types f.3; arguments = map (input_draft types) f.2; cost = weight_of f.4; size = size_arguments f.4 }
+field_draft types f = record { name = f.1; shape = shape_of types f.3; arguments = map (input_draft types) f.2; cost = given_weight f.4; size = size_arguments f.4 }
 
 abbrev pub value_name : EnumValueTree → List ℕ
 value_name v = v.1.0
@@ -89,7 +84,7 @@ body_draft types name cost (input_body fields) = object_draft name cost (map (in
 body_draft types name cost (directive_body arguments repeatable locations) = []
 
 abbrev pub definition_draft : List NamedKind → DefinitionTree → List TypeDraft
-definition_draft types d = body_draft types d.1.0 (weight_of d.1.1) d.1.2
+definition_draft types d = body_draft types d.1.0 (given_weight d.1.1) d.1.2
 
 abbrev pub scalar_draft : NamedKind → TypeDraft
 scalar_draft t = bare t.name Scalar None

@@ -5,7 +5,7 @@ use Rattle.std.specs.Str.{bytes_eq}
 use Rattle.input_values.specs.inputs.Shapes.{ShapeTree, named_shape, list_shape, is_nullable}
 use Rattle.schema_rules.specs.declared.kind.Kind.TheVariants.{Scalar}
 use Rattle.schema_rules.specs.Places.{PlaceTree, at_type, at_field}
-use Rattle.schema_rules.specs.First.{first_of, told}
+use Rattle.schema_rules.specs.First.{first_of, fault_where}
 use Rattle.schema_model.specs.Drafts.{InputDraft, FieldDraft, TypeDraft, bare}
 
 -- the type of this number, or one without anything
@@ -73,7 +73,7 @@ abbrev pub lacks_interfaces : List TypeDraft → List ℕ → List ℕ → Bool
 lacks_interfaces types own some = list_any (λ i. not (names_all own (draft_at types i).interfaces)) some
 
 abbrev pub lacking_at : List TypeDraft → List FieldDraft → FieldDraft → Option (List ℕ)
-lacking_at types own wanted = told (not (has_field types own wanted)) wanted.name
+lacking_at types own wanted = fault_where (not (has_field types own wanted)) wanted.name
 
 -- the first field of an interface that a type lacks
 abbrev pub lacking_of : List TypeDraft → List FieldDraft → ℕ → Option (List ℕ)

@@ -1,5 +1,5 @@
 -- A checked schema, as contracts see it. Types and fields stand at their numbers.
-use Rattle.std.specs.Prelude.{ℕ, ◌+◌, ℤ, Bool, true, false, nat_eq, List, [], ◌∷◌, get_or, Option, None, Some, if◌then◌else◌}
+use Rattle.std.specs.Prelude.{◌≡◌, ◌<◌, ℕ, ◌+◌, ℤ, Bool, true, false, nat_eq, List, [], ◌∷◌, length, get_or, Option, None, Some, if◌then◌else◌}
 use Rattle.std.specs.List.{list_any}
 use Rattle.gql_base.specs.names.Names.{first_of_name, place_of_name}
 use Rattle.input_values.specs.inputs.Shapes.{ShapeTree}
@@ -119,3 +119,10 @@ all_possible n all (t ∷ types) = possible_types all n t ∷ all_possible (n + 
 -- the object types of a composite type, in the order of the schema
 abbrev pub possible : SchemaData → ℕ → List ℕ
 possible s c = get_or (all_possible 0 s.types s.types) c []
+
+-- Both are types of the schema, the second is an object type, and the first, as a condition, applies to it.
+pub record IsPossibleType (s : SchemaData) (c o : ℕ) : Type 0 where
+  pub condition : c < length s.types
+  pub type : o < length s.types
+  pub object : is_object (type_at s o).kind ≡ true
+  pub applies_there : applies s c o ≡ true

@@ -11,8 +11,8 @@ use Rattle.schema_rules.specs.Items.{ItemTree, schema_item, root_item, type_item
 use Rattle.schema_rules.specs.TypeNames.{NamedKind}
 use Rattle.schema_rules.specs.Roots.{root_name}
 use Rattle.schema_rules.specs.TooMany.{type_count}
-use Rattle.schema_rules.specs.DirectiveUses.{argument_name, is_int}
-use Rattle.schema_rules.specs.First.{told}
+use Rattle.gql_base.specs.parts.Ints.{is_int}
+use Rattle.schema_rules.specs.DirectiveUses.{argument_name}
 use Rattle.schema_model.specs.Drafts.{InputDraft, FieldDraft, TypeDraft, number_named}
 use Rattle.schema_model.specs.Defaults.{default_of}
 use Rattle.schema_model.specs.SchemaData.{SizeData, FieldData, TypeData, SchemaData}
@@ -24,8 +24,9 @@ abbrev pub value_named : List ℕ → List NamedValue → ValueTree
 value_named name [] = null_value
 value_named name (a ∷ others) = if bytes_eq (argument_name a) name then a.1 else value_named name others
 
+-- a whole number, where it is an Int
 abbrev pub as_int : ℤ → Option ℤ
-as_int n = told (is_int n) n
+as_int n = if is_int n then Some n else None
 
 abbrev pub integer_in : ValueTree → Option ℤ
 integer_in (integer_value n) = as_int n

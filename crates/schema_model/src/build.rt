@@ -8,7 +8,7 @@ ghost use Rattle.schema_rules.specs.Roots.{root_name};
 ghost use Rattle.schema_model.specs.Drafts.{number_named};
 ghost use Rattle.schema_model.specs.Numbers.{type_number};
 ghost use Rattle.schema_model.specs.Schemas.{before_directive, directives_of, schema_with, or_zero};
-ghost use Rattle.schema_model.specs.Faults.{fault_of_items, fault_of_names, fault_of_types, fault_of_drafts, fault_from_types, fault_from_names, fault_with, Passes, EndsWith, BuildsWith, Builds};
+ghost use Rattle.schema_model.specs.Faults.{fault_of_items_if, fault_of_names, fault_of_types, fault_of_drafts, fault_from_types, fault_from_names, fault_if, PassesTests, EndsWith, BuildsIf, TextBuildsIf, SchemaBuilds, MetaSchemaBuilds};
 ghost use Rattle.schema_model.specs.SchemaViews.{schema_data};
 ghost use Rattle.schema_model.specs.DraftViews.{type_view};
 
@@ -27,13 +27,13 @@ use input_values::{InputTypes, TypeId};
 use schema_reader::SchemaText;
 use schema_rules::{
     Item, TypeName, first_bad_directive, first_empty_type, first_float_scalar, first_nested_list,
-    first_repeated_place, first_reserved, first_unknown_type, first_wrong_kind, has_no_query,
+    first_repeated_place, first_reserved_if, first_unknown_type, first_wrong_kind, has_no_query,
     items_of, place_text, root_name, too_many, type_count, types_of,
 };
 use std::alloc::{AllocError, Global};
 
-fn test_items(alloc: Global, items: &[Item<'_>]) -> Result<(), SchemaFault>
-    ensures { Passes result (fault_of_items (map item_tree items.now)) }
+fn test_items(alloc: Global, refused: bool, items: &[Item<'_>]) -> Result<(), SchemaFault>
+    ensures { PassesTests result (fault_of_items_if refused (map item_tree items.now)) }
 {
     if let Some(counted) = too_many(items) {
         return Err(SchemaFault::TooMany { counted });
@@ -43,7 +43,7 @@ fn test_items(alloc: Global, items: &[Item<'_>]) -> Result<(), SchemaFault>
             place: place_text(alloc, place)?,
         });
     }
-    if let Some(place) = first_reserved(items) {
+    if let Some(place) = first_reserved_if(refused, items) {
         return Err(SchemaFault::Reserved {
             place: place_text(alloc, place)?,
         });
@@ -56,7 +56,7 @@ fn test_names(
     types: &NameIndex<'_, TypeName<'_>>,
     items: &[Item<'_>],
 ) -> Result<(), SchemaFault>
-    ensures { Passes result (fault_of_names (map named_kind types.now.items.now) (map item_tree items.now)) }
+    ensures { PassesTests result (fault_of_names (map named_kind types.now.items.now) (map item_tree items.now)) }
 {
     if let Some(name) = first_unknown_type(types, items) {
         return Err(SchemaFault::UnknownType {
@@ -75,7 +75,7 @@ fn test_names(
 }
 
 fn test_types(alloc: Global, items: &[Item<'_>]) -> Result<(), SchemaFault>
-    ensures { Passes result (fault_of_types (map item_tree items.now)) }
+    ensures { PassesTests result (fault_of_types (map item_tree items.now)) }
 {
     if let Some(place) = first_float_scalar(items) {
         return Err(SchemaFault::FloatScalar {
@@ -100,7 +100,7 @@ fn test_drafts(
     drafts: &[DraftType<'_>],
     items: &[Item<'_>],
 ) -> Result<(), SchemaFault>
-    ensures { Passes result (fault_of_drafts (map type_view drafts.now) (map item_tree items.now)) }
+    ensures { PassesTests result (fault_of_drafts (map type_view drafts.now) (map item_tree items.now)) }
 {
     if let Some(place) = first_not_implemented(alloc, drafts)? {
         return Err(SchemaFault::NotImplemented {
@@ -191,7 +191,7 @@ fn tested_types(
     drafts: &[DraftType<'_>],
     items: &[Item<'_>],
 ) -> Result<(), SchemaFault>
-    ensures { Passes result (fault_from_types (map type_view drafts.now) (map item_tree items.now)) }
+    ensures { PassesTests result (fault_from_types (map type_view drafts.now) (map item_tree items.now)) }
 {
     match test_types(alloc, items) {
         Ok(()) => test_drafts(alloc, drafts, items),
@@ -205,7 +205,7 @@ fn tested_names(
     drafts: &[DraftType<'_>],
     items: &[Item<'_>],
 ) -> Result<(), SchemaFault>
-    ensures { Passes result (fault_from_names (map named_kind types.now.items.now) (map type_view drafts.now) (map item_tree items.now)) }
+    ensures { PassesTests result (fault_from_names (map named_kind types.now.items.now) (map type_view drafts.now) (map item_tree items.now)) }
 {
     match test_names(alloc, types, items) {
         Ok(()) => tested_types(alloc, drafts, items),
@@ -215,13 +215,14 @@ fn tested_names(
 
 fn tested(
     alloc: Global,
+    refused: bool,
     types: &NameIndex<'_, TypeName<'_>>,
     drafts: &[DraftType<'_>],
     items: &[Item<'_>],
 ) -> Result<(), SchemaFault>
-    ensures { Passes result (fault_with (map named_kind types.now.items.now) (map type_view drafts.now) (map item_tree items.now)) }
+    ensures { PassesTests result (fault_if refused (map named_kind types.now.items.now) (map type_view drafts.now) (map item_tree items.now)) }
 {
-    match test_items(alloc, items) {
+    match test_items(alloc, refused, items) {
         Ok(()) => tested_names(alloc, types, drafts, items),
         Err(fault) => Err(fault),
     }
@@ -247,13 +248,14 @@ fn with_defaults<T: InputTypes>(
 
 fn built(
     alloc: Global,
+    refused: bool,
     types: &NameIndex<'_, TypeName<'_>>,
     drafts: &[DraftType<'_>],
     items: &[Item<'_>],
 ) -> Result<Schema, SchemaFault>
-    ensures { BuildsWith (map named_kind types.now.items.now) (map type_view drafts.now) (map item_tree items.now) result }
+    ensures { BuildsIf refused (map named_kind types.now.items.now) (map type_view drafts.now) (map item_tree items.now) result }
 {
-    match tested(alloc, types, drafts, items) {
+    match tested(alloc, refused, types, drafts, items) {
         Ok(()) => {
             let filled = filled(alloc, drafts)?;
             with_defaults(alloc, &filled, types, drafts, items)
@@ -262,16 +264,33 @@ fn built(
     }
 }
 
+// The schema that a text says, where reserved names are refused or aren't.
+fn build_if(alloc: Global, refused: bool, text: &SchemaText) -> Result<Schema, SchemaFault>
+    ensures { TextBuildsIf refused (schema_trees text.now) result }
+{
+    let items = items_of(alloc, text)?;
+    let names = types_of(alloc, &items)?;
+    let types = index_of(alloc, &names)?;
+    let drafts = drafts_of(alloc, &types, text)?;
+    built(alloc, refused, &types, &drafts, &items)
+}
+
 impl Schema {
     /// The schema that a text says, or the first fault of the text. It copies what it keeps.
-    #[tactic(auto, unfolding(crate::specs::Faults::Builds))]
+    #[tactic(auto, unfolding(crate::specs::Faults::SchemaBuilds))]
     pub fn build(alloc: Global, text: &SchemaText) -> Result<Schema, SchemaFault>
-        ensures { Builds (schema_trees text.now) result }
+        ensures { SchemaBuilds (schema_trees text.now) result }
     {
-        let items = items_of(alloc, text)?;
-        let names = types_of(alloc, &items)?;
-        let types = index_of(alloc, &names)?;
-        let drafts = drafts_of(alloc, &types, text)?;
-        built(alloc, &types, &drafts, &items)
+        build_if(alloc, true, text)
     }
+}
+
+/// The schema that the text of a schema of schemas says (GraphQL October 2021, 4.2), or the first fault of the text. In such
+/// a text the names of types, fields, arguments and input fields may begin with two underscores; all else is tested as
+/// `Schema::build` does it.
+#[tactic(auto, unfolding(crate::specs::Faults::MetaSchemaBuilds))]
+pub fn build_meta(alloc: Global, text: &SchemaText) -> Result<Schema, SchemaFault>
+    ensures { MetaSchemaBuilds (schema_trees text.now) result }
+{
+    build_if(alloc, false, text)
 }

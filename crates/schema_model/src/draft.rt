@@ -5,7 +5,7 @@ ghost use Rattle.std.specs.List.{flat_map};
 ghost use Rattle.gql_base.specs.parts.Trees.{directive_tree};
 ghost use Rattle.schema_reader.specs.Trees.{input_tree, field_tree, enum_value_tree, body_tree, definition_tree, schema_trees};
 ghost use Rattle.input_values.specs.defaults.Filling.{literal_seen};
-ghost use Rattle.schema_rules.specs.DirectiveUses.{weight_of};
+ghost use Rattle.schema_rules.specs.DirectiveUses.{given_weight};
 ghost use Rattle.schema_rules.specs.Views.{named_kind, maybe_name};
 ghost use Rattle.schema_model.specs.Drafts.{number_named, input_draft, field_draft, body_draft, definition_draft, defined_drafts, with_scalars, scalar_draft, drafts_of, bare, fielded, union_draft, enum_draft, object_draft};
 ghost use Rattle.schema_model.specs.Numbers.{type_number};
@@ -16,7 +16,7 @@ use crate::shapes::{number_named, shape_of};
 use gql_base::{NameIndex, Text, Value, index_owned};
 use input_values::TypeId;
 use schema_reader::{DefBody, EnumValueDef, FieldDef, InputValue, SchemaDef, SchemaText};
-use schema_rules::{Kind, TypeName, size_arguments, weight_of};
+use schema_rules::{Kind, TypeName, given_weight, size_arguments};
 use std::alloc::{AllocError, Global};
 
 /// The literal of a default, if there is a default.
@@ -40,7 +40,7 @@ fn draft_input<'a>(
         name: input.name.as_str(),
         shape: shape_of(alloc, types, &input.of)?,
         default: literal_of(&input.default),
-        cost: weight_of(&input.directives),
+        cost: given_weight(&input.directives),
     })
 }
 
@@ -70,7 +70,7 @@ fn draft_field<'a>(
         name: field.name.as_str(),
         shape: shape_of(alloc, types, &field.of)?,
         arguments: index_owned(alloc, arguments)?,
-        cost: weight_of(&field.directives),
+        cost: given_weight(&field.directives),
         size: size_arguments(&field.directives),
     })
 }
@@ -131,7 +131,7 @@ fn fielded<'a>(
     interfaces: &[Text],
     fields: &'a [FieldDef],
 ) -> Result<DraftType<'a>, AllocError>
-    ensures { IfOk result (λ d. type_view d ≡ fielded (map named_kind types.now.items.now) def.now.name kind (weight_of (map directive_tree def.now.directives.items)) interfaces.now (map field_tree fields.now)) }
+    ensures { IfOk result (λ d. type_view d ≡ fielded (map named_kind types.now.items.now) def.now.name kind (given_weight (map directive_tree def.now.directives.items)) interfaces.now (map field_tree fields.now)) }
 {
     let interfaces = numbers_of(alloc, types, interfaces)?;
     let fields = draft_fields(alloc, types, fields)?;
@@ -143,7 +143,7 @@ fn fielded<'a>(
         fields: index_owned(alloc, fields)?,
         values: &[],
         inputs: Vec::new(alloc),
-        cost: weight_of(&def.directives),
+        cost: given_weight(&def.directives),
     })
 }
 
@@ -215,7 +215,7 @@ fn draft_type<'a>(
     ensures { IfOk result (λ d. maybe_drafts d ≡ definition_draft (map named_kind types.now.items.now) (definition_tree def.now)) }
 {
     let name = def.name.as_str();
-    let cost = weight_of(&def.directives);
+    let cost = given_weight(&def.directives);
     match &def.body {
         DefBody::Schema(_) => Ok(None),
         DefBody::Scalar => Ok(Some(bare(alloc, name, Kind::Scalar, cost)?)),

@@ -23,11 +23,13 @@ mod sharing;
 mod sizes;
 
 pub use args::{Arg, Args};
+pub use build::build_meta;
 pub use entries::{FieldEntry, FieldId, ListSize, TypeEntry};
 pub use fault::SchemaFault;
 pub use laws::{
-    a_schema_fills_its_own_defaults, a_text_has_one_fault, a_text_has_one_schema,
-    a_text_with_a_schema_has_no_fault,
+    a_schema_fills_its_own_defaults, a_text_has_a_schema_or_a_fault, a_text_has_one_fault,
+    a_text_has_one_schema, a_text_with_a_schema_has_no_fault, no_type_has_a_reserved_name,
+    possible_types_are_those_to_which_a_condition_applies,
 };
 pub use schema::Schema;
 pub use schema_rules::Kind;

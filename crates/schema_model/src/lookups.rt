@@ -7,6 +7,7 @@ ghost use Rattle.gql_base.specs.names.Names.{first_of_name, has_name};
 ghost use Rattle.input_values.specs.inputs.Shapes.{shape_tree};
 ghost use Rattle.input_values.specs.inputs.Definitions.{input_data};
 ghost use Rattle.schema_model.specs.SchemaData.{type_at, field_at, type_named, field_named, input_name, argument_named, input_field_named, possible, applies, root_of, same_text, number_at};
+ghost use Rattle.schema_model.specs.Drafts.{or_past};
 ghost use Rattle.schema_model.specs.Numbers.{type_number};
 ghost use Rattle.schema_model.specs.Entries.{type_data, field_data, field_number, maybe_text, maybe_size, maybe_input};
 ghost use Rattle.schema_model.specs.SchemaViews.{schema_data};
@@ -44,6 +45,18 @@ impl Schema {
         match self.types.position(name) {
             Some(number) => Some(TypeId { number }),
             None => None,
+        }
+    }
+
+    /// The number of the type of this name, or the number of all types where none has it.
+    pub fn number_named(&self, name: &str) -> TypeId
+        ensures { result.number ≡ or_past (schema_data self.now).types (type_named (schema_data self.now) name.now) }
+    {
+        match self.find(name) {
+            Some(of) => of,
+            None => TypeId {
+                number: self.types.items().len(),
+            },
         }
     }
 

@@ -2,9 +2,9 @@
 
 ghost use Rattle.std.specs.Prelude.{◌≡◌, map, IfOk};
 ghost use Rattle.gql_base.specs.parts.Trees.{type_tree};
-ghost use Rattle.input_values.specs.inputs.Shapes.{shape_tree};
+ghost use Rattle.input_values.specs.inputs.Shapes.{shape_tree, shape_by};
 ghost use Rattle.schema_rules.specs.Views.{named_kind};
-ghost use Rattle.schema_model.specs.Drafts.{number_named, shape_in, shape_of};
+ghost use Rattle.schema_model.specs.Drafts.{number_named, shape_of};
 
 use gql_base::{NameIndex, TypeRef};
 use input_values::{Shape, TypeId};
@@ -47,7 +47,7 @@ fn shape_in(
     nullable: bool,
     of: &TypeRef,
 ) -> Result<Shape, AllocError>
-    ensures { IfOk result (λ s. shape_tree s ≡ shape_in (map named_kind types.now.items.now) nullable (type_tree of.now)) }
+    ensures { IfOk result (λ s. shape_tree s ≡ shape_by (number_named (map named_kind types.now.items.now)) nullable (type_tree of.now)) }
 {
     match of {
         TypeRef::Named(name) => Ok(named(number_named(types, name.text.as_str()), nullable)),

@@ -10,7 +10,7 @@ ghost use Rattle.schema_model.specs.Entries.{size_data};
 ghost use Rattle.schema_model.specs.Schemas.{as_int, value_named, integer_in, before_texts, texts_of, texts_in, boolean_in, size_of};
 
 use crate::entries::ListSize;
-use gql_base::{Argument, Text, Value};
+use gql_base::{Argument, Text, Value, is_int};
 use schema_rules::{Literal, opened};
 use std::alloc::{AllocError, Global};
 
@@ -43,7 +43,7 @@ fn value_named<'a>(name: &str, arguments: &'a [Argument]) -> Literal<'a>
 fn as_int(number: i128) -> Option<i32>
     ensures { result ≡ as_int number }
 {
-    if -2147483648 <= number && number <= 2147483647 {
+    if is_int(number) {
         Some(number as i32)
     } else {
         None
