@@ -13,7 +13,7 @@ use Rattle.document_reader.specs.Documents.{DefinitionTree, operation_tree, frag
 use Rattle.document_reader.specs.Trees.{maybe_identifier, tree_of_operation, definition_tree}
 use Rattle.document_reader.specs.Places.{operation_offset}
 use Rattle.document_reader.specs.Picking.{is_operation, same_name, is_named, first_where, count_where, alone, there, picked_with, picked}
-use Rattle.schema_rules.specs.First.{or_else, told, first_of}
+use Rattle.schema_rules.specs.First.{or_else, fault_where, first_of}
 use Rattle.document_rules.specs.Parts.{FragmentData, fragment_data, operations_of, fragments_of, operation_in, operation_at, repeated_at}
 use Rattle.document_rules.specs.Rules.{before_names, operation_names, name_of_fragment, earlier, anonymous_at, lone_anonymous, repeated_name}
 use Rattle.document_rules.specs.Checking.{fragments_in}
@@ -204,10 +204,10 @@ offset_seen None = 0
 offset_seen (Some at) = at
 
 abbrev anonymous_seen : Seen → Option ℕ
-anonymous_seen seen = told (not (is_some (name_seen seen))) (offset_seen seen.1)
+anonymous_seen seen = fault_where (not (is_some (name_seen seen))) (offset_seen seen.1)
 
 anonymous_by_seen : (o : Operation) → anonymous_at o ≡ anonymous_seen (seen_of o)
-anonymous_by_seen o = ap (λ b. told (not b) o.at) (of_name o.name)
+anonymous_by_seen o = ap (λ b. fault_where (not b) o.at) (of_name o.name)
   where
     of_name : (name : Option Name) → is_some name ≡ is_some (maybe_identifier name)
     of_name None = refl

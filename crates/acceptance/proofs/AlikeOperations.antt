@@ -14,12 +14,13 @@ use Rattle.document_reader.specs.Documents.{SelectionTrees, VariableTree, Defini
 use Rattle.document_reader.specs.Trees.{maybe_identifier, variable_tree, set_tree, definition_tree}
 use Rattle.serde_json.specs.Data.{Data}
 use Rattle.input_values.specs.coercion.Literals.{Environment}
-use Rattle.schema_rules.specs.First.{or_else, told}
+use Rattle.schema_rules.specs.First.{or_else, fault_where}
 use Rattle.schema_model.specs.SchemaData.{SchemaData}
 use Rattle.schema_model.specs.InputForms.{input_forms}
 use Rattle.cost_directives.specs.Weights.{WeightsData}
 use Rattle.variable_coercion.specs.Refusals.{all_in_order}
-use Rattle.variable_coercion.specs.Variables.{Declared, shape_in, declared_of, variable_answer, variables_answer}
+use Rattle.input_values.specs.inputs.Shapes.{shape_by}
+use Rattle.variable_coercion.specs.Variables.{Declared, number_in, declared_of, variable_answer, variables_answer}
 use Rattle.document_rules.specs.declared.rule.Rule.TheVariants.{RepeatedName, LoneAnonymous, Subscription, NoRoot}
 use Rattle.document_rules.specs.Parts.{FragmentData, fragment_data, fragments_of}
 use Rattle.document_rules.specs.Met.{Met, reached, before_reached, fragments_met}
@@ -86,7 +87,7 @@ before_alike : (s : SchemaData) (ds es : List Definition) (o p : Operation) → 
 before_alike s ds es o p seen trees alike =
     ap₂ (λ x y. or_else (breach RepeatedName x) y) (same_repeated_name ds es seen trees)
     (ap₂ (λ x y. or_else (breach LoneAnonymous x) y) (same_lone_anonymous ds es seen)
-    (ap₂ (λ k at. or_else (breach Subscription (told (is_subscription k) at)) (breach NoRoot (told (is_mutation k && not (is_some s.mutation)) at))) alike.kind alike.offset))
+    (ap₂ (λ k at. or_else (breach Subscription (fault_where (is_subscription k) at)) (breach NoRoot (fault_where (is_mutation k && not (is_some s.mutation)) at))) alike.kind alike.offset))
 
 pub broken_alike : (s : SchemaData) (ds es : List Definition) (o p : Operation) → map seen_in ds ≡ map seen_in es → map definition_tree ds ≡ map definition_tree es → AreAlike o p → first_broken s ds o ≡ first_broken s es p
 unfolding parts_breach
@@ -97,7 +98,7 @@ broken_alike s ds es o p seen trees alike =
 -- ---- the values of its variables
 
 abbrev declared_in : SchemaData → VariableTree → Declared
-declared_in s v = record { name = v.0.0; shape = shape_in s true v.1; default = v.2 }
+declared_in s v = record { name = v.0.0; shape = shape_by (number_in s) true v.1; default = v.2 }
 
 pub values_alike : (s : SchemaData) (given : Data) (o p : Operation) → AreAlike o p → variables_answer s o.variables.items given ≡ variables_answer s p.variables.items given
 values_alike s given o p alike =

@@ -22,9 +22,9 @@ use Rattle.plan_model.specs.Visits.{planned_well}
 use Rattle.plan_model.specs.Operations.{operation_answer, planned_operation, root_place, root_position, IsOperationPlan, IsOperationBound}
 use Rattle.plan_table.specs.declared.table.Plan.{Plan}
 use Rattle.static_cost.specs.declared.too_costly.TooCostly.{TooCostly}
-use Rattle.static_cost.specs.CostBound.{IsCostBound, IsWithin, NamesExceedingIn}
-use Rattle.static_cost.specs.TableBound.{holds_in, IsTableBound, NamesExceedingOf}
-use Rattle.static_cost.specs.Worst.{IsCounted}
+use Rattle.static_cost.specs.CostBound.{IsWithin, NamesExceedingIn}
+use Rattle.static_cost.specs.TableBound.{IsTableBound, NamesExceedingOf}
+use Rattle.plan_table.specs.TableBounds.{holds_in, IsWithinCap, IsCostBound}
 use Rattle.acceptance.specs.Requests.{RequestData, IsOfSchema, Prepared, setting, plan_answer, plan_tree}
 use Rattle.acceptance.specs.Bounds.{IsBoundFor, ExceedsCap, NamesExceeding, IsPlanned, IsAccepted}
 
@@ -96,7 +96,7 @@ accepted laws r plan bound is_planned of same table within =
     }
 
 -- a bound within the cap is exceeded by no response
-pub counted : (plan : Plan) (bound : Cost) → IsTableBound plan bound → IsWithin bound → (part : Part) → IsCounted plan part
+pub counted : (plan : Plan) (bound : Cost) → IsTableBound plan bound → IsWithin bound → (part : Part) → IsWithinCap plan part
 counted plan bound table within types tree held exceeds = omega (arith, (table tree held).of_types.upper exceeds.0 exceeds.1, exceeds.2, within.of_types)
 counted plan bound table within fields tree held exceeds = omega (arith, (table tree held).of_fields.upper exceeds.0 exceeds.1, exceeds.2, within.of_fields)
 

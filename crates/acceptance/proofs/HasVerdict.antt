@@ -11,7 +11,7 @@ use Rattle.gql_base.specs.declared.parts.trees.OperationKind.TheVariants.{Query,
 use Rattle.document_reader.specs.declared.trees.Operation.{Operation}
 use Rattle.document_reader.specs.declared.picking.PickFault.{PickFault}
 use Rattle.document_reader.specs.Picking.{picked}
-use Rattle.schema_rules.specs.First.{or_else, told}
+use Rattle.schema_rules.specs.First.{or_else, fault_where}
 use Rattle.schema_rules.proofs.FirstFaults.{neither}
 use Rattle.schema_model.specs.SchemaData.{SchemaData}
 use Rattle.document_rules.specs.declared.rule.Rule.TheVariants.{RepeatedName, LoneAnonymous, Subscription as SubscriptionRule, NoRoot}
@@ -182,11 +182,11 @@ keeps_rule : (rule : RuleName) (found : Option ℕ) → breach rule found ≡ No
 keeps_rule rule None none = refl
 keeps_rule rule (Some at) none = absurd (cc)
 
-root_there : (s : SchemaData) (kind : OperationKind) (at : ℕ) → told (is_subscription kind) at ≡ None → told (is_mutation kind && not (is_some s.mutation)) at ≡ None → (root : ℕ) × (type_of_kind s kind ≡ Some root)
+root_there : (s : SchemaData) (kind : OperationKind) (at : ℕ) → fault_where (is_subscription kind) at ≡ None → fault_where (is_mutation kind && not (is_some s.mutation)) at ≡ None → (root : ℕ) × (type_of_kind s kind ≡ Some root)
 root_there s Query at none rooted = (s.query, refl)
 root_there s Mutation at none rooted = of_mutation s.mutation refl rooted
   where
-    of_mutation : (root : Option ℕ) → s.mutation ≡ root → told (not (is_some root)) at ≡ None → (number : ℕ) × (s.mutation ≡ Some number)
+    of_mutation : (root : Option ℕ) → s.mutation ≡ root → fault_where (not (is_some root)) at ≡ None → (number : ℕ) × (s.mutation ≡ Some number)
     of_mutation None is rooted = absurd (cc)
     of_mutation (Some number) is rooted = (number, is)
 root_there s Subscription at none rooted = absurd (cc)

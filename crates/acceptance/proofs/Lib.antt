@@ -12,3 +12,4 @@ mod AlikeOperations
 mod AlikeRequests
 mod AlikeBodies
 mod HasVerdict
+mod OneLines

@@ -13,7 +13,7 @@ use Rattle.document_rules.specs.declared.rule.RuleFault.{RuleFault}
 use Rattle.document_rules.specs.declared.rule.RuleFault.TheVariants.{Broken, Memory as NoRuleMemory}
 use Rattle.document_rules.specs.declared.checking.Checked.{Checked}
 use Rattle.document_rules.specs.Parts.{operation_at}
-use Rattle.document_rules.specs.Checking.{Breach, first_broken, IsCheckOf, Answers}
+use Rattle.document_rules.specs.Checking.{Breach, first_broken, IsCheckOf, AnswersBreach}
 use Rattle.merged_selections.specs.declared.fault.PlanFault.{PlanFault}
 use Rattle.merged_selections.specs.Faults.{IsTold}
 use Rattle.plan_model.specs.Visits.{planned_well}
@@ -44,12 +44,12 @@ checked_for r place c is_picked there answer =
     let moved = subst (λ x. KeepsRules r x × IsCheckOf r.schema r.document x c) (sym of.1.operation) (((place, is_picked, o.1), of.0), of.1) in
     record { keeps = moved.0; of = moved.1 }
 
-breach_told : (c : Checked → Type 0) (fault : RuleFault) (first : Option Breach) → fault ≢ NoRuleMemory → Answers c (Err fault) first → NamesBreach fault first
+breach_told : (c : Checked → Type 0) (fault : RuleFault) (first : Option Breach) → fault ≢ NoRuleMemory → AnswersBreach c (Err fault) first → NamesBreach fault first
 breach_told c (Broken rule at) first of_rule told = told
 breach_told c NoRuleMemory first of_rule told = absurd (of_rule refl)
 
 pub rule_refused : (r : RequestData) (place : ℕ) (c : Operation → Checked → Type 0) (fault : RuleFault) (told : AcceptFault) → picked r.name r.document ≡ Ok place → IsSome (operation_at r.document place)
-    → ForEach r place (λ o. Answers (c o) (Err fault) (first_broken r.schema r.document o)) → TellsRule fault told → IfRefused told (IsRefusedFor r)
+    → ForEach r place (λ o. AnswersBreach (c o) (Err fault) (first_broken r.schema r.document o)) → TellsRule fault told → IfRefused told (IsRefusedFor r)
 rule_refused r place c fault (Refused (Rule named)) is_picked there answer tells =
     let o = the_some (operation_at r.document place) there in
     (o.0, (place, is_picked, o.1), subst (λ f. NamesBreach f (first_broken r.schema r.document o.0)) (sym tells.0) (breach_told (c o.0) fault (first_broken r.schema r.document o.0) tells.1 (answer o.0 o.1)))

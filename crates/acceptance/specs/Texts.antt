@@ -1,6 +1,7 @@
 -- The texts of refusals.
 use Rattle.std.specs.Prelude.{ℕ, List, [], ◌∷◌, ◌++◌, codes, true, false, Bool}
 use Rattle.std.specs.Fmt.{decimal, signed_decimal}
+use Rattle.gql_base.specs.printing.OneLine.{shown_in_line}
 use Rattle.gql_base.specs.declared.lexical.lexing.LexFault.{LexFault}
 use Rattle.gql_base.specs.declared.lexical.lexing.LexFault.TheVariants as lexical
 use Rattle.document_reader.specs.declared.document.DocFault.{DocFault}
@@ -26,9 +27,14 @@ use Rattle.acceptance.specs.declared.fault.Refusal.TheVariants.{Document, Pick, 
 abbrev pub placed : List ℕ → ℕ → List ℕ
 placed text at = text ++ (32 ∷ decimal at)
 
--- a text, a space, and the name or the place of what is at fault
+-- a text, a space, and another
+abbrev pub beside : List ℕ → List ℕ → List ℕ
+beside text other = text ++ (32 ∷ other)
+
+-- A text, a space, and the name or the place of what is at fault. A name may come from JSON: its control characters are shown by
+-- their numbers, so that the text is one line.
 abbrev pub naming : List ℕ → List ℕ → List ℕ
-naming text name = text ++ (32 ∷ name)
+naming text name = beside text (shown_in_line name)
 
 -- what is wrong with the tokens of a text, with its place; want of memory has no text
 abbrev pub lexical_text : LexFault → List ℕ
@@ -54,7 +60,7 @@ pick_text pick.NotThere = codes "pick 3 NotThere"
 
 -- a rule by its number and name, and where it is broken
 abbrev pub broken_text : RuleName → ℕ → List ℕ
-broken_text name at = placed (naming (placed (codes "rule") (rule_number name)) (rule_name name)) at
+broken_text name at = placed (beside (placed (codes "rule") (rule_number name)) (rule_name name)) at
 
 abbrev pub rule_text : RuleFault → List ℕ
 rule_text (rule.Broken name at) = broken_text name at
@@ -77,13 +83,13 @@ argument_text argument.Memory = []
 -- why a list has no size
 abbrev pub size_text : SizeFault → List ℕ
 size_text (size.SlicingCount count) = placed (codes "1 SlicingCount") count
-size_text (size.NegativeSlice value) = naming (codes "2 NegativeSlice") (signed_decimal value)
+size_text (size.NegativeSlice value) = beside (codes "2 NegativeSlice") (signed_decimal value)
 
 -- the first fault of a plan, with the path of its node
 abbrev pub plan_text : PlanFault → List ℕ
-plan_text (plan.Argument at fault) = naming (naming (codes "plan 1 Argument") at) (argument_text fault)
+plan_text (plan.Argument at fault) = beside (naming (codes "plan 1 Argument") at) (argument_text fault)
 plan_text (plan.Conflict at) = naming (codes "plan 2 Conflict") at
-plan_text (plan.Size at fault) = naming (naming (codes "plan 3 Size") at) (size_text fault)
+plan_text (plan.Size at fault) = beside (naming (codes "plan 3 Size") at) (size_text fault)
 plan_text (plan.NoPossibleType at) = naming (codes "plan 4 NoPossibleType") at
 plan_text plan.TooLarge = codes "plan 5 TooLarge"
 plan_text (plan.TooDeep at) = naming (codes "plan 6 TooDeep") at

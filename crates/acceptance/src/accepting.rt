@@ -8,7 +8,7 @@ ghost use Rattle.document_rules.specs.Parts.{operation_at};
 ghost use Rattle.document_rules.specs.Checking.{IsChecked};
 ghost use Rattle.variable_coercion.specs.Calls.{variables_data};
 ghost use Rattle.response_model.specs.Cost.{Part as PartOfCost};
-ghost use Rattle.static_cost.specs.Worst.{IsCounted};
+ghost use Rattle.plan_table.specs.TableBounds.{IsWithinCap};
 ghost use Rattle.acceptance.specs.Requests.{request_data, IsOfSchema, IsCheckFor, AreValues};
 ghost use Rattle.acceptance.specs.Bounds.{IsPlanned, IsAccepted};
 ghost use Rattle.acceptance.specs.Refusals.{IsRefusedFor, IsUnread, IfRefused, TellsRule, TellsVariable, TellsPlan};
@@ -146,7 +146,7 @@ fn bounded(request: &Request, plan: &Plan) -> Result<Cost, Refusal>
     requires schema { plan.now.schema.now ≡ request.now.schema.now }
     requires of_schema { IsOfSchema (request_data request.now) }
     ensures bound { IfOk result (IsAccepted (request_data request.now) plan.now) }
-    ensures counted { IfOk result (λ _. (part : PartOfCost) → IsCounted plan.now part) }
+    ensures counted { IfOk result (λ _. (part : PartOfCost) → IsWithinCap plan.now part) }
     ensures refused { IfErr result (IsRefusedFor (request_data request.now)) }
 {
     operations_planned_well();
@@ -173,7 +173,7 @@ pub fn accept<'s, 'r>(
     ensures checked { IfOk result (λ a. IsCheckFor (request_data request.now) a.checked) }
     ensures schema { IfOk result (λ a. a.plan.schema.now ≡ request.now.schema.now) }
     ensures weights { IfOk result (λ a. a.plan.weights.now ≡ request.now.weights.now) }
-    ensures counted { IfOk result (λ a. (part : PartOfCost) → IsCounted a.plan part) }
+    ensures counted { IfOk result (λ a. (part : PartOfCost) → IsWithinCap a.plan part) }
     ensures refused { IfErr result (λ fault. IfRefused fault (IsRefusedFor (request_data request.now))) }
 {
     let checked = match checked(alloc, request) {

@@ -1,6 +1,6 @@
 //! What holds of all requests. These functions do nothing: their contracts are the laws.
 
-ghost use Rattle.std.specs.Prelude.{◌≡◌, ◌⊎◌, ℕ, List, Some, false};
+ghost use Rattle.std.specs.Prelude.{◌≡◌, ◌⊎◌, ℕ, List, Some, true, false};
 ghost use Rattle.serde_json.specs.Data.{Data};
 ghost use Rattle.serde_json.specs.Find.{get};
 ghost use Rattle.serde_json.specs.Read.{read as read_text};
@@ -10,6 +10,8 @@ ghost use Rattle.plan_table.specs.declared.table.Plan.{Plan as PlanType};
 ghost use Rattle.acceptance.specs.declared.fault.Refusal.{Refusal};
 ghost use Rattle.acceptance.specs.Requests.{RequestData, IsOfSchema, Prepared, plan_tree};
 ghost use Rattle.acceptance.specs.Bounds.{IsAffordable, IsAccepted};
+ghost use Rattle.gql_base.specs.printing.OneLine.{is_one_line};
+ghost use Rattle.acceptance.specs.Texts.{refusal_text};
 ghost use Rattle.acceptance.specs.Refusals.{IsRefusedFor};
 ghost use Rattle.acceptance.specs.AskAlike.{AskAlike};
 ghost use Rattle.acceptance.specs.Keys.{HasEachKeyOnce};
@@ -56,6 +58,11 @@ pub fn a_request_has_a_verdict()
     greatest_is_bound();
     one_bound();
 }
+
+/// The text of a refusal is one line: no line feed and no other control character stands in it, whatever names it tells.
+pub fn refusal_texts_are_one_line()
+    ensures { (refusal : Refusal) → is_one_line (refusal_text refusal) ≡ true }
+{}
 
 /// JSON that is read has each key once in each of its objects: of equal keys the last value stays. So has each member of it.
 pub fn read_values_have_each_key_once()

@@ -15,7 +15,8 @@ pub use fault::{AcceptFault, Refusal};
 pub use forwarding::{Forwarded, sent_for};
 pub use laws::{
     a_request_has_a_verdict, a_request_has_one_verdict, alike_requests_are_answered_alike,
-    alike_requests_have_one_verdict, read_values_have_each_key_once, sent_bodies_hold_no_float,
+    alike_requests_have_one_verdict, read_values_have_each_key_once, refusal_texts_are_one_line,
+    sent_bodies_hold_no_float,
 };
 pub use request::Request;
 pub use telling::refusal_text;

@@ -4,7 +4,7 @@ ghost use Rattle.std.specs.Prelude.{◌≡◌, ◌++◌, IfOk, codes};
 ghost use Rattle.acceptance.specs.Texts.{lexical_text, document_text, pick_text, broken_text, rule_text, variable_text, argument_text, size_text, plan_text, costly_text, refusal_text};
 
 use crate::fault::Refusal;
-use crate::texts::{lexical_place, named, named_twice, numbered, placed, placed_in};
+use crate::texts::{beside, lexical_place, named, numbered, placed, placed_in};
 use cost_directives::SizeFault;
 use document_reader::{DocFault, PickFault};
 use document_rules::{Rule, RuleFault};
@@ -26,10 +26,11 @@ fn with_name(alloc: Global, text: &str, name: &Text) -> Result<Text, AllocError>
     Ok(Text::from(named(alloc, text, name)?))
 }
 
-fn with_names(alloc: Global, text: &str, name: &Text, other: &Text) -> Result<Text, AllocError>
-    ensures { IfOk result (λ told. told ≡ Rattle.acceptance.specs.Texts.naming (Rattle.acceptance.specs.Texts.naming text.now name.now) other.now) }
+fn with_text(alloc: Global, text: &str, name: &Text, told: &Text) -> Result<Text, AllocError>
+    ensures { IfOk result (λ whole. whole ≡ Rattle.acceptance.specs.Texts.beside (Rattle.acceptance.specs.Texts.naming text.now name.now) told.now) }
 {
-    Ok(Text::from(named_twice(alloc, text, name, other)?))
+    let front = named(alloc, text, name)?;
+    Ok(Text::from(beside(alloc, front.as_str(), told.as_str())?))
 }
 
 // What is wrong with the tokens of a document.
@@ -119,7 +120,7 @@ fn told_of_node_argument(alloc: Global, at: &Text, fault: &ArgFault) -> Result<T
     ensures { IfOk result (λ told. told ≡ plan_text (PlanFault.Argument at.now fault.now)) }
 {
     let told = told_of_argument(alloc, fault)?;
-    with_names(alloc, "plan 1 Argument", at, &told)
+    with_text(alloc, "plan 1 Argument", at, &told)
 }
 
 // Why the node at a path has no size.
@@ -127,7 +128,7 @@ fn told_of_node_size(alloc: Global, at: &Text, fault: SizeFault) -> Result<Text,
     ensures { IfOk result (λ told. told ≡ plan_text (PlanFault.Size at.now fault)) }
 {
     let told = told_of_size(alloc, fault)?;
-    with_names(alloc, "plan 3 Size", at, &told)
+    with_text(alloc, "plan 3 Size", at, &told)
 }
 
 fn told_of_plan(alloc: Global, fault: &PlanFault) -> Result<Text, AllocError>

@@ -2,9 +2,9 @@
 
 ghost use Rattle.std.specs.Prelude.{◌≡◌, ◌++◌, IfOk, IfSome, IfNone, string_bytes};
 ghost use Rattle.std.specs.Fmt.{signed_decimal};
-ghost use Rattle.acceptance.specs.Texts.{placed, naming, lexical_text};
+ghost use Rattle.acceptance.specs.Texts.{placed, beside, naming, lexical_text};
 
-use gql_base::{LexFault, Text};
+use gql_base::{LexFault, Text, shown_in_line};
 use std::alloc::{AllocError, Global};
 
 /// What stands before the place of what is wrong with the tokens of a text, and the place; nothing where the fault is want
@@ -37,12 +37,19 @@ pub fn placed_in(alloc: Global, stage: &str, text: &str, at: usize) -> Result<St
     format!(in alloc; "{stage}{text} {at}")
 }
 
-/// A text, a space, and a name or the place of something that has one.
+/// A text, a space, and another.
+pub fn beside(alloc: Global, text: &str, other: &str) -> Result<String, AllocError>
+    ensures { IfOk result (λ told. string_bytes told ≡ beside text.now other.now) }
+{
+    format!(in alloc; "{text} {other}")
+}
+
+/// A text, a space, and a name or the place of something that has one, with its control characters by their numbers.
 pub fn named(alloc: Global, text: &str, name: &Text) -> Result<String, AllocError>
     ensures { IfOk result (λ told. string_bytes told ≡ naming text.now name.now) }
 {
-    let name = name.as_str();
-    format!(in alloc; "{text} {name}")
+    let shown = shown_in_line(alloc, name.as_str())?;
+    beside(alloc, text, shown.as_str())
 }
 
 /// A text and two names after it.
@@ -60,7 +67,7 @@ pub fn named_twice(
 
 // A text, a space, and a number with its sign.
 pub(crate) fn numbered(alloc: Global, text: &str, number: i32) -> Result<String, AllocError>
-    ensures { IfOk result (λ told. string_bytes told ≡ naming text.now (signed_decimal number)) }
+    ensures { IfOk result (λ told. string_bytes told ≡ beside text.now (signed_decimal number)) }
 {
     format!(in alloc; "{text} {number}")
 }

@@ -61,6 +61,6 @@ module _ (t : Tables) where
     list_fieldless number = steps_fieldless 0 (steps_in (slice_get (map list_data t.lists.items) number))
 
   -- Behind a step come as many that are passed over, and the step itself comes to no field.
-  abbrev pub Passes : ℕ → Marks → StepData → Option ℕ → Type 0
-  Passes T m x None = Unit {0}
-  Passes T m x (Some skip) = (more : Marks) (others : List StepData) → MarksMore m more → steps_fieldless T more skip others ≡ true → steps_fieldless T more 0 (x ∷ others) ≡ true
+  abbrev pub PassesFieldless : ℕ → Marks → StepData → Option ℕ → Type 0
+  PassesFieldless T m x None = Unit {0}
+  PassesFieldless T m x (Some skip) = (more : Marks) (others : List StepData) → MarksMore m more → steps_fieldless T more skip others ≡ true → steps_fieldless T more 0 (x ∷ others) ≡ true

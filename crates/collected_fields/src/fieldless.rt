@@ -2,7 +2,7 @@
 
 ghost use Rattle.std.specs.Prelude.{◌≡◌, ℕ, true, false, map, IfOk};
 ghost use Rattle.collected_fields.specs.Steps.{step_data};
-ghost use Rattle.collected_fields.specs.Fieldless.{marked_for, MarksMore, KnowsFieldless, fragment_fieldless, steps_fieldless, list_fieldless, Passes};
+ghost use Rattle.collected_fields.specs.Fieldless.{marked_for, MarksMore, KnowsFieldless, fragment_fieldless, steps_fieldless, list_fieldless, PassesFieldless};
 
 use crate::marks::Marks;
 use crate::steps::Step;
@@ -44,7 +44,7 @@ fn passes(
 ) -> Result<Option<usize>, AllocError>
     ensures more { MarksMore known.old.none known.new.none }
     ensures still { KnowsFieldless tables.now known.old.none → KnowsFieldless tables.now known.new.none }
-    ensures passes { IfOk result (λ skip. Passes tables.now of.number known.new.none (step_data step.now) skip) }
+    ensures passes { IfOk result (λ skip. PassesFieldless tables.now of.number known.new.none (step_data step.now) skip) }
 {
     match step {
         Step::Field(_) => Ok(None),

@@ -8,11 +8,11 @@ use Rattle.schema_model.specs.declared.fault.SchemaFault.{SchemaFault}
 use Rattle.schema_model.specs.declared.fault.SchemaFault.TheVariants.{Memory as NoMemory}
 use Rattle.schema_model.specs.declared.schema.Schema.{Schema}
 use Rattle.schema_model.specs.SchemaViews.{schema_data}
-use Rattle.schema_model.specs.Faults.{Builds}
+use Rattle.schema_model.specs.Faults.{SchemaBuilds}
 use Rattle.cost_directives.specs.declared.fault.DirectiveFault.{DirectiveFault}
 use Rattle.cost_directives.specs.declared.fault.DirectiveFault.TheVariants as directive
 use Rattle.cost_directives.specs.FieldPlaces.{NameAt}
-use Rattle.cost_directives.specs.DirectiveFaults.{FaultTree, is_no_weight, is_no_list, is_dotted, slices_unknown, slices_no_int, sizes_from_list, sizes_unknown, is_negative, is_at_odds, first_fault, IsFault}
+use Rattle.cost_directives.specs.DirectiveFaults.{FaultTree, is_no_weight, is_no_list, is_dotted, slices_unknown, slices_no_int, sizes_from_list, sizes_unknown, is_negative, is_at_odds, first_directive_fault, IsFault}
 use Rattle.command_outcomes.specs.declared.limits.TheConstants.{SCHEMA_LIMIT}
 use Rattle.command_outcomes.specs.declared.checked.SchemaRefusal.{SchemaRefusal}
 use Rattle.command_outcomes.specs.declared.checked.SchemaRefusal.TheVariants.{TooLarge, NotText, NoSchemaText, Fails, Misuses}
@@ -65,15 +65,15 @@ pub record OneSchema : Type 0 where
   pub one_text : (text : List ℕ) (trees others : List DefinitionTree) → HasSchema text trees → HasSchema text others → trees ≡ others
   pub no_text_fault : (text : List ℕ) (trees : List DefinitionTree) (fault : SchemaTextFault) → HasSchema text trees → HasSchemaFault text fault → ⊥
   pub one_text_fault : (text : List ℕ) (fault other : SchemaTextFault) → HasSchemaFault text fault → HasSchemaFault text other → fault ≡ other
-  pub no_test : (text : List DefinitionTree) (s : Schema) (fault : SchemaFault) → Builds text (Ok s) → Builds text (Err fault) → fault ≡ NoMemory
-  pub one_test : (text : List DefinitionTree) (one other : SchemaFault) → Builds text (Err one) → Builds text (Err other) → (one ≡ NoMemory) ⊎ ((other ≡ NoMemory) ⊎ (one ≡ other))
-  pub one_schema : (text : List DefinitionTree) (one other : Schema) → Builds text (Ok one) → Builds text (Ok other) → schema_data one ≡ schema_data other
+  pub no_test : (text : List DefinitionTree) (s : Schema) (fault : SchemaFault) → SchemaBuilds text (Ok s) → SchemaBuilds text (Err fault) → fault ≡ NoMemory
+  pub one_test : (text : List DefinitionTree) (one other : SchemaFault) → SchemaBuilds text (Err one) → SchemaBuilds text (Err other) → (one ≡ NoMemory) ⊎ ((other ≡ NoMemory) ⊎ (one ≡ other))
+  pub one_schema : (text : List DefinitionTree) (one other : Schema) → SchemaBuilds text (Ok one) → SchemaBuilds text (Ok other) → schema_data one ≡ schema_data other
 
 module _ (only : OneSchema) (bytes : List ℕ) where
   pub one_data : (one other : Schema) → HoldsChecked bytes one → HoldsChecked bytes other → schema_data one ≡ schema_data other
   one_data one other a b =
       let trees : a.0 ≡ b.0 = only.one_text bytes a.0 b.0 (a.1).is_schema (b.1).is_schema in
-      only.one_schema b.0 one other (subst (λ ds. Builds ds (Ok one)) trees a.2) b.2
+      only.one_schema b.0 one other (subst (λ ds. SchemaBuilds ds (Ok one)) trees a.2) b.2
 
   over : SCHEMA_LIMIT < length bytes → IsText SCHEMA_LIMIT bytes → ⊥
   over long text = omega (arith, long, text.within)
@@ -82,7 +82,7 @@ module _ (only : OneSchema) (bytes : List ℕ) where
   no_fails : (s : Schema) (fault : SchemaFault) → HoldsChecked bytes s → IsUnchecked bytes (Fails fault) → ⊥
   no_fails s fault a b =
       let trees : a.0 ≡ (b.0).0 = only.one_text bytes a.0 (b.0).0 (a.1).is_schema ((b.0).1).is_schema in
-      b.1 (only.no_test (b.0).0 s fault (subst (λ ds. Builds ds (Ok s)) trees a.2) (b.0).2)
+      b.1 (only.no_test (b.0).0 s fault (subst (λ ds. SchemaBuilds ds (Ok s)) trees a.2) (b.0).2)
 
   no_text : (trees : List DefinitionTree) (fault : SchemaTextFault) → HoldsDefinitions bytes trees → IsUnchecked bytes (NoSchemaText fault) → ⊥
   no_text trees fault a b = only.no_text_fault bytes trees fault a.is_schema b.1
@@ -94,7 +94,7 @@ module _ (only : OneSchema) (bytes : List ℕ) where
   not_both s (Fails fault) a b = no_fails s fault a.0 b
   not_both s (Misuses fault) a b =
       let same : schema_data s ≡ schema_data (b.0).0 = one_data s (b.0).0 a.0 (b.0).1 in
-      not_passed fault (first_fault (schema_data (b.0).0)) (subst (λ d. first_fault d ≡ None) same ((a.1).1).0) (b.0).2 b.1
+      not_passed fault (first_directive_fault (schema_data (b.0).0)) (subst (λ d. first_directive_fault d ≡ None) same ((a.1).1).0) (b.0).2 b.1
 
   -- each stage behind a text has a text, and each behind a schema text has definitions
   same_text : (fault other : SchemaTextFault) → IsUnchecked bytes (NoSchemaText fault) → IsUnchecked bytes (NoSchemaText other) → fault ≡ other
@@ -103,7 +103,7 @@ module _ (only : OneSchema) (bytes : List ℕ) where
   same_test : (fault other : SchemaFault) → IsUnchecked bytes (Fails fault) → IsUnchecked bytes (Fails other) → fault ≡ other
   same_test fault other a b =
       let trees : (a.0).0 ≡ (b.0).0 = only.one_text bytes (a.0).0 (b.0).0 ((a.0).1).is_schema ((b.0).1).is_schema in
-      elim (only.one_test (b.0).0 fault other (subst (λ ds. Builds ds (Err fault)) trees (a.0).2) (b.0).2) [
+      elim (only.one_test (b.0).0 fault other (subst (λ ds. SchemaBuilds ds (Err fault)) trees (a.0).2) (b.0).2) [
         | inl memory ↦ absurd (a.1 memory)
         | inr r ↦ elim r [
           | inl memory ↦ absurd (b.1 memory)
@@ -114,7 +114,7 @@ module _ (only : OneSchema) (bytes : List ℕ) where
   same_misuse : (fault other : DirectiveFault) → IsUnchecked bytes (Misuses fault) → IsUnchecked bytes (Misuses other) → fault ≡ other
   same_misuse fault other a b =
       let same : schema_data (a.0).0 ≡ schema_data (b.0).0 = one_data (a.0).0 (b.0).0 (a.0).1 (b.0).1 in
-      same_directive fault other (first_fault (schema_data (b.0).0)) (subst (λ d. IsFault fault (first_fault d)) same (a.0).2) (b.0).2 a.1 b.1
+      same_directive fault other (first_directive_fault (schema_data (b.0).0)) (subst (λ d. IsFault fault (first_directive_fault d)) same (a.0).2) (b.0).2 a.1 b.1
 
   pub one_refusal : (one other : SchemaRefusal) → IsUnchecked bytes one → IsUnchecked bytes other → one ≡ other
   one_refusal TooLarge TooLarge a b = refl

@@ -8,7 +8,7 @@ use Rattle.schema_model.specs.declared.fault.SchemaFault.{SchemaFault}
 use Rattle.schema_model.specs.declared.fault.SchemaFault.TheVariants.{Memory as NoMemory}
 use Rattle.schema_model.specs.declared.schema.Schema.{Schema}
 use Rattle.schema_model.specs.SchemaViews.{schema_data}
-use Rattle.schema_model.specs.Faults.{Builds}
+use Rattle.schema_model.specs.Faults.{SchemaBuilds}
 use Rattle.cost_directives.specs.declared.fault.DirectiveFault.{DirectiveFault}
 use Rattle.cost_directives.specs.declared.fault.DirectiveFault.TheVariants.{Memory as NoWeights}
 use Rattle.cost_directives.specs.declared.weights.Weights.{Weights}
@@ -36,7 +36,7 @@ OfDefinitions bytes P = (definitions : List DefinitionTree) × HoldsDefinitions 
 
 -- It holds a schema that passes every test, and this is it.
 abbrev pub HoldsChecked : List ℕ → Schema → Type 0
-HoldsChecked bytes schema = OfDefinitions bytes (λ definitions. Builds definitions (Ok schema))
+HoldsChecked bytes schema = OfDefinitions bytes (λ definitions. SchemaBuilds definitions (Ok schema))
 
 -- Its cost directives pass every test too.
 abbrev pub HoldsWeighed : List ℕ → Schema → Type 0
@@ -56,7 +56,7 @@ abbrev pub IsUnchecked : List ℕ → SchemaRefusal → Type 0
 IsUnchecked bytes TooLarge = SCHEMA_LIMIT < length bytes
 IsUnchecked bytes NotText = (length bytes ≤ SCHEMA_LIMIT) × ¬ IsUtf8 bytes
 IsUnchecked bytes (NoSchemaText fault) = IsText SCHEMA_LIMIT bytes × HasSchemaFault bytes fault
-IsUnchecked bytes (Fails fault) = OfDefinitions bytes (λ definitions. Builds definitions (Err fault)) × (fault ≢ NoMemory)
+IsUnchecked bytes (Fails fault) = OfDefinitions bytes (λ definitions. SchemaBuilds definitions (Err fault)) × (fault ≢ NoMemory)
 IsUnchecked bytes (Misuses fault) = HoldsMisused bytes fault × (fault ≢ NoWeights)
 
 -- where it is a refusal, the file is refused for it

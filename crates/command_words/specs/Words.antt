@@ -10,8 +10,8 @@ use Rattle.command_words.specs.declared.command.Command.TheVariants.{Help, Versi
 use Rattle.command_words.specs.declared.command.Asked.{Asked}
 use Rattle.command_words.specs.declared.command.AskedReplay.{AskedReplay}
 use Rattle.command_words.specs.declared.command.AskedServe.{AskedServe}
-use Rattle.static_cost.specs.declared.part.Part.{Part}
-use Rattle.static_cost.specs.declared.part.Part.TheVariants.{Types, Fields}
+use Rattle.response_model.specs.declared.part.Part.{Part}
+use Rattle.response_model.specs.declared.part.Part.TheVariants.{Types, Fields}
 use Rattle.command_words.specs.Apps.{check_app, price_app, worst_app, forward_app, meter_app, replay_app, serve_app, exercise_app, migrate_app}
 
 -- The text is this number, in one decimal digit or more, and it is no greater than that.

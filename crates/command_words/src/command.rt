@@ -1,7 +1,7 @@
 //! The commands.
 
 use gql_base::Text;
-use static_cost::Part;
+use response_model::Part;
 use std::alloc::AllocError;
 use thiserror::Error;
 

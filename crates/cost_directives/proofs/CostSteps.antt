@@ -11,7 +11,7 @@ use Rattle.input_values.specs.values.Coerced.{CoercedTree, CoercedTrees, Coerced
 use Rattle.input_values.proofs.CoercedTrees.{field_opened}
 use Rattle.gql_base.proofs.Lists.{at_front}
 use Rattle.cost_directives.proofs.FirstsFound.{never}
-use Rattle.cost_directives.specs.ArgumentCosts.{ObjectInputs, InputWeightData, weighed_name, field_at, value_cost, items_cost, fields_cost, field_cost}
+use Rattle.cost_directives.specs.ArgumentCosts.{ObjectInputs, InputWeightData, weighed_name, cost_at_field, value_cost, items_cost, fields_cost, field_cost}
 
 abbrev pub items_in : List Coerced → CoercedTrees
 items_in vs = trees_from (map coerced_tree vs)
@@ -91,7 +91,7 @@ pub cost_is : (objects : ObjectInputs) (shape : ShapeTree) (own : Option ℕ) (v
 cost_is objects shape own v t r is e = e ∙ ap (λ x. capped (value_cost objects shape own x)) (sym is)
 
 pub field_cost_is : (objects : ObjectInputs) (inputs : List InputWeightData) (f : CoercedField) (name : List ℕ) (found seen : Option InputWeightData) → found ≡ seen → name ≡ f.name → found ≡ first_of_name weighed_name inputs name
-    → field_at (λ shape own. value_cost objects shape own (coerced_tree f.value)) seen ≡ field_cost objects inputs (named_tree f)
+    → cost_at_field (λ shape own. value_cost objects shape own (coerced_tree f.value)) seen ≡ field_cost objects inputs (named_tree f)
 field_cost_is objects inputs f name found seen is same e =
-    ap (field_at (λ shape own. value_cost objects shape own (coerced_tree f.value))) (sym is ∙ (e ∙ ap (first_of_name weighed_name inputs) same))
+    ap (cost_at_field (λ shape own. value_cost objects shape own (coerced_tree f.value))) (sym is ∙ (e ∙ ap (first_of_name weighed_name inputs) same))
     ∙ ap (field_cost objects inputs) (sym (field_opened f))

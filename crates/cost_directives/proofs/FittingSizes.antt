@@ -17,7 +17,7 @@ use Rattle.schema_model.specs.Schemas.{input_of, field_of}
 use Rattle.schema_model.specs.SchemaData.{FieldData, SizeData, SchemaData, type_at, field_at}
 use Rattle.schema_model.specs.SchemaViews.{schema_data}
 use Rattle.schema_model.specs.declared.schema.Schema.{Schema}
-use Rattle.schema_model.specs.Faults.{fault_of_items, fault_of_names, fault_of_types, fault_of_drafts, fault_from_types, fault_from_names, Builds}
+use Rattle.schema_model.specs.Faults.{fault_of_items, fault_of_names, fault_of_types, fault_of_drafts, fault_from_types, fault_from_names, SchemaBuilds}
 use Rattle.cost_directives.specs.Weighing.{is_list_shape, type_inside, first_carried, carried_by, carried_in, carried_above, own_or, inherited, own_size}
 use Rattle.cost_directives.specs.Weights.{field_numbers}
 use Rattle.cost_directives.specs.FieldPlaces.{is_sized, name_in, field_told, name_told, place_of_field, name_at}
@@ -28,7 +28,7 @@ use Rattle.cost_directives.specs.SlicingNotInt.{is_of_no_int, slicing_of_no_int,
 use Rattle.cost_directives.specs.SizedOnList.{hands_some, is_sized_list, sized_on_list}
 use Rattle.cost_directives.specs.SizedUnknown.{is_no_list_field, sized_of_none, unknown_sized, sized_unknown}
 use Rattle.cost_directives.specs.NegativeSize.{assumes_less, is_negative, negative_size}
-use Rattle.cost_directives.specs.DirectiveFaults.{first_fault, fault_of_weights, fault_of_sizes}
+use Rattle.cost_directives.specs.DirectiveFaults.{first_directive_fault, fault_of_weights, fault_of_sizes}
 use Rattle.cost_directives.specs.Fitting.{Fits, SizesFit}
 use Rattle.schema_rules.proofs.FirstFaults.{neither, not_told}
 use Rattle.cost_directives.proofs.FirstsFound.{none_from, both, finds_less, found_passes}
@@ -52,7 +52,7 @@ record Clean (s : SchemaData) : Type 0 where
   sized : sized_unknown s ≡ None
   counting : negative_size s ≡ None
 
-clean : (s : SchemaData) → first_fault s ≡ None → Clean s
+clean : (s : SchemaData) → first_directive_fault s ≡ None → Clean s
 clean s none =
     let halves = neither (fault_of_weights s) (fault_of_sizes s) none in
     let weights = neither _ _ halves.0 in
@@ -180,8 +180,8 @@ module _ (form : ℕ → InputForm) (items : List ItemTree) (types : List NamedK
         ])
   ]
 
-pub fit_in_schema : (text : List DefinitionTree) (schema : Schema) → Builds text (Ok schema) → first_fault (schema_data schema) ≡ None → SizesFit (schema_data schema)
-unfolding Builds
+pub fit_in_schema : (text : List DefinitionTree) (schema : Schema) → SchemaBuilds text (Ok schema) → first_directive_fault (schema_data schema) ≡ None → SizesFit (schema_data schema)
+unfolding SchemaBuilds
 fit_in_schema text schema built none =
     let items = items_of text in
     let types = types_of items in
@@ -192,4 +192,4 @@ fit_in_schema text schema built none =
     let kept : not_implemented ds ≡ None = unmapped _ (not_implemented ds) (neither _ _ of_drafts.1).0 in
     let form = (built.1).0 in
     let is : schema_data schema ≡ made form items types ds = ((built.1).2).1 in
-    subst SizesFit (sym is) (sizes_fit form items types ds kept (plain_drafts types text) (clean (made form items types ds) (sym (ap first_fault is) ∙ none)))
+    subst SizesFit (sym is) (sizes_fit form items types ds kept (plain_drafts types text) (clean (made form items types ds) (sym (ap first_directive_fault is) ∙ none)))

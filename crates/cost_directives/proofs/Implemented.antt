@@ -10,7 +10,7 @@ use Rattle.input_values.specs.coercion.Forms.{InputForm}
 use Rattle.input_values.specs.inputs.Shapes.{ShapeTree, named_shape, list_shape}
 use Rattle.schema_rules.specs.declared.kind.Kind.TheVariants.{Scalar}
 use Rattle.schema_rules.specs.Places.{PlaceTree, at_type}
-use Rattle.schema_rules.specs.First.{told}
+use Rattle.schema_rules.specs.First.{fault_where}
 use Rattle.schema_rules.specs.Items.{ItemTree}
 use Rattle.schema_rules.specs.TypeNames.{NamedKind}
 use Rattle.schema_rules.proofs.Namings.{find_view}
@@ -35,7 +35,7 @@ unlacking true place of field none = absurd (cc)
 unlacking false place of None none = refl
 unlacking false place of (Some name) none = absurd (cc)
 
-untold : {F : Type 0} (right : Bool) (fault : F) → told (not right) fault ≡ None → right ≡ true
+untold : {F : Type 0} (right : Bool) (fault : F) → fault_where (not right) fault ≡ None → right ≡ true
 untold true fault none = refl
 untold false fault none = absurd (cc)
 

@@ -3,7 +3,7 @@ use Rattle.std.proofs.Common.{◌≡◌, ◌⊎◌, ℕ, zero, suc, List, [], �
 use Rattle.std.proofs.lemmas.List.{append_assoc}
 use Rattle.schema_reader.specs.Schemas.{BodyTree, schema_body, scalar_body, object_body, interface_body, union_body, enum_body, input_body, directive_body, DefinitionTree}
 use Rattle.schema_rules.specs.TypeNames.{NamedKind}
-use Rattle.schema_rules.specs.DirectiveUses.{weight_of}
+use Rattle.schema_rules.specs.DirectiveUses.{given_weight}
 use Rattle.schema_model.specs.Drafts.{TypeDraft, body_draft, definition_draft, scalar_draft, defined_drafts, drafts_of}
 use Rattle.schema_model.specs.Implementing.{draft_at}
 
@@ -36,7 +36,7 @@ module _ (types : List NamedKind) where
   plain_defined [] rest plain of = plain of
   plain_defined (d ∷ text) rest plain of =
       subst (λ drafts. IsPlain (draft_at drafts of)) (sym (append_assoc (definition_draft types d) (defined_drafts types text) rest))
-      (plain_body d.1.0 (weight_of d.1.1) d.1.2 (defined_drafts types text ++ rest) (plain_defined text rest plain) of)
+      (plain_body d.1.0 (given_weight d.1.1) d.1.2 (defined_drafts types text ++ rest) (plain_defined text rest plain) of)
 
   pub plain_drafts : (text : List DefinitionTree) (of : ℕ) → IsPlain (draft_at (drafts_of types text) of)
   plain_drafts text of =

@@ -48,9 +48,9 @@ object_at objects own fields (named_shape of nullable) = fields_at own fields (g
 object_at objects own fields (list_shape item nullable) = leaf_cost own
 
 -- a field by that of its name
-abbrev pub field_at : (ShapeTree → Option ℕ → ℕ) → Option InputWeightData → ℕ
-field_at value None = 0
-field_at value (Some input) = value input.shape input.own
+abbrev pub cost_at_field : (ShapeTree → Option ℕ → ℕ) → Option InputWeightData → ℕ
+cost_at_field value None = 0
+cost_at_field value (Some input) = value input.shape input.own
 
 -- ---- by the value
 
@@ -71,7 +71,7 @@ unfoldable mutual
 
   pub fields_cost : ObjectInputs → List InputWeightData → CoercedFields → ℕ
   fields_cost objects inputs no_coerced_field = 0
-  fields_cost objects inputs (coerced_field_then name value others) = field_at (λ shape own. value_cost objects shape own value) (first_of_name weighed_name inputs name) + fields_cost objects inputs others
+  fields_cost objects inputs (coerced_field_then name value others) = cost_at_field (λ shape own. value_cost objects shape own value) (first_of_name weighed_name inputs name) + fields_cost objects inputs others
 
 -- ---- all arguments
 
@@ -101,4 +101,4 @@ abbrev pub record_cost : ObjectInputs → ShapeTree → Option ℕ → CoercedFi
 record_cost objects shape own fields = object_at objects own (λ inputs. fields_cost objects inputs fields) shape
 
 abbrev pub field_cost : ObjectInputs → List InputWeightData → NamedTree → ℕ
-field_cost objects inputs field = field_at (λ shape own. value_cost objects shape own field.1) (first_of_name weighed_name inputs field.0)
+field_cost objects inputs field = cost_at_field (λ shape own. value_cost objects shape own field.1) (first_of_name weighed_name inputs field.0)

@@ -2,7 +2,7 @@
 use Rattle.std.specs.Prelude.{ℕ, max, ℤ, nat_abs, pos, int_lt, nat_eq, Bool, true, false, not, ◌&&◌, List, [], ◌∷◌, map, length, get_or, Option, None, Some, Result, Ok, Err, if◌then◌else◌}
 use Rattle.std.specs.List.{list_any, filter, filter_map}
 use Rattle.input_values.specs.values.Coerced.{CoercedTree, coerced_null, coerced_integer, coerced_string, coerced_boolean, coerced_enum, coerced_list, coerced_object, is_coerced_null}
-use Rattle.schema_rules.specs.First.{or_else, told, first_of}
+use Rattle.schema_rules.specs.First.{or_else, fault_where, first_of}
 use Rattle.schema_model.specs.Schemas.{as_int}
 use Rattle.schema_model.specs.Arguments.{ArgData}
 use Rattle.cost_directives.specs.declared.sizes.Size.{Size}
@@ -84,10 +84,10 @@ is_empty (x ∷ xs) = false
 
 -- where one is required, just one slices
 abbrev pub wrong_count : SizeRuleData → List ArgData → Option SizeFault
-wrong_count rule args = told (rule.require_one && (not (is_empty rule.slicing) && not (is_one (slicing_count args)))) (SlicingCount (slicing_count args))
+wrong_count rule args = fault_where (rule.require_one && (not (is_empty rule.slicing) && not (is_one (slicing_count args)))) (SlicingCount (slicing_count args))
 
 abbrev pub if_negative : ℤ → Option SizeFault
-if_negative z = told (int_lt z (pos 0)) (NegativeSlice z)
+if_negative z = fault_where (int_lt z (pos 0)) (NegativeSlice z)
 
 -- the first that is negative
 abbrev pub negative_slice : List ArgData → Option SizeFault

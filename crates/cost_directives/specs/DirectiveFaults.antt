@@ -47,8 +47,8 @@ abbrev pub fault_of_sizes : SchemaData → Option FaultTree
 fault_of_sizes s = or_else (option_map sizes_from_list (sized_on_list s)) (or_else (option_map sizes_unknown (sized_unknown s)) (or_else (option_map is_negative (negative_size s)) (option_map is_at_odds (disagree s))))
 
 -- the first fault of the cost directives of a schema
-abbrev pub first_fault : SchemaData → Option FaultTree
-first_fault s = or_else (fault_of_weights s) (fault_of_sizes s)
+abbrev pub first_directive_fault : SchemaData → Option FaultTree
+first_directive_fault s = or_else (fault_of_weights s) (fault_of_sizes s)
 
 -- A fault of the program says this one. Want of memory may come instead of any answer.
 abbrev pub IsFault : DirectiveFault → Option FaultTree → Type 0
@@ -64,11 +64,11 @@ IsFault (Disagree place) f = f ≡ Some (is_at_odds place)
 IsFault Memory f = Unit {0}
 
 -- Nothing is at fault, or this is.
-abbrev pub Passes : {A : Type 0} → Result A DirectiveFault → Option FaultTree → Type 0
-Passes (Ok x) f = f ≡ None
-Passes (Err fault) f = IsFault fault f
+abbrev pub PassesDirectiveTests : {A : Type 0} → Result A DirectiveFault → Option FaultTree → Type 0
+PassesDirectiveTests (Ok x) f = f ≡ None
+PassesDirectiveTests (Err fault) f = IsFault fault f
 
 -- The weights of a schema, where its directives have no fault; else their first fault.
 abbrev pub Weighs : SchemaData → ℕ → Result Weights DirectiveFault → Type 0
-Weighs s undeclared (Ok w) = (first_fault s ≡ None) × (weights_data w ≡ weights_of s undeclared)
-Weighs s undeclared (Err fault) = IsFault fault (first_fault s)
+Weighs s undeclared (Ok w) = (first_directive_fault s ≡ None) × (weights_data w ≡ weights_of s undeclared)
+Weighs s undeclared (Err fault) = IsFault fault (first_directive_fault s)

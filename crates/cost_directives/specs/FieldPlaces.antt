@@ -1,7 +1,7 @@
 -- Where fields stand, and what tests of `@listSize` look at.
 use Rattle.std.specs.Prelude.{ℕ, Bool, false, List, Option, None, Some, option_map}
 use Rattle.schema_rules.specs.Places.{at_field, place_text}
-use Rattle.schema_rules.specs.First.{told}
+use Rattle.schema_rules.specs.First.{fault_where}
 use Rattle.schema_model.specs.SchemaData.{FieldData, SizeData, SchemaData, type_at, field_at}
 
 abbrev pub place_of_field : SchemaData → FieldData → List ℕ
@@ -27,7 +27,7 @@ name_in find_name (Some size) = find_name size
 
 -- at fault where it is so
 abbrev pub field_told : SchemaData → (FieldData → Bool) → ℕ → Option (List ℕ)
-field_told s is_wrong number = told (is_wrong (field_at s number)) (place_of_field s (field_at s number))
+field_told s is_wrong number = fault_where (is_wrong (field_at s number)) (place_of_field s (field_at s number))
 
 -- at fault by a name
 abbrev pub name_told : SchemaData → (FieldData → Option (List ℕ)) → ℕ → Option NameAt

@@ -7,7 +7,7 @@ ghost use Rattle.schema_model.specs.Numbers.{type_number};
 ghost use Rattle.schema_model.specs.Entries.{field_number};
 ghost use Rattle.cost_directives.specs.Weights.{type_numbers, field_numbers, type_weight_at, field_weight_at, weights_of};
 ghost use Rattle.cost_directives.specs.WeightViews.{type_weight, field_weight, weights_data};
-ghost use Rattle.cost_directives.specs.DirectiveFaults.{fault_of_slicing, fault_of_weights, fault_of_sizes, Passes, Weighs};
+ghost use Rattle.cost_directives.specs.DirectiveFaults.{fault_of_slicing, fault_of_weights, fault_of_sizes, PassesDirectiveTests, Weighs};
 
 use crate::entries::{FieldWeight, TypeWeight};
 use crate::fault::DirectiveFault;
@@ -55,7 +55,7 @@ fn fields_of(alloc: Global, schema: &Schema) -> Result<Vec<FieldId>, AllocError>
 
 fn test_slicing(alloc: Global, schema: &Schema, fields: &[FieldId]) -> Result<(), DirectiveFault>
     requires { map field_number fields.now ≡ field_numbers (schema_data schema.now) }
-    ensures { Passes result (fault_of_slicing (schema_data schema.now)) }
+    ensures { PassesDirectiveTests result (fault_of_slicing (schema_data schema.now)) }
 {
     if let Some(field) = first_dotted(schema, fields) {
         return Err(DirectiveFault::Dotted {
@@ -85,7 +85,7 @@ fn test_weights(
 ) -> Result<(), DirectiveFault>
     requires types { map type_number types.now ≡ type_numbers (schema_data schema.now) }
     requires fields { map field_number fields.now ≡ field_numbers (schema_data schema.now) }
-    ensures { Passes result (fault_of_weights (schema_data schema.now)) }
+    ensures { PassesDirectiveTests result (fault_of_weights (schema_data schema.now)) }
 {
     if let Some(bad) = first_bad_weight(schema, types) {
         return Err(DirectiveFault::Weight {
@@ -103,7 +103,7 @@ fn test_weights(
 
 fn test_sizes(alloc: Global, schema: &Schema, fields: &[FieldId]) -> Result<(), DirectiveFault>
     requires { map field_number fields.now ≡ field_numbers (schema_data schema.now) }
-    ensures { Passes result (fault_of_sizes (schema_data schema.now)) }
+    ensures { PassesDirectiveTests result (fault_of_sizes (schema_data schema.now)) }
 {
     if let Some(field) = first_sized_list(schema, fields) {
         return Err(DirectiveFault::SizedOnList {

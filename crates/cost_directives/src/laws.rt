@@ -7,10 +7,10 @@ ghost use Rattle.schema_reader.specs.Schemas.{DefinitionTree};
 ghost use Rattle.schema_model.specs.SchemaData.{SchemaData, field_at};
 ghost use Rattle.schema_model.specs.declared.schema.Schema.{Schema};
 ghost use Rattle.schema_model.specs.Arguments.{ArgData};
-ghost use Rattle.schema_model.specs.Faults.{Builds};
+ghost use Rattle.schema_model.specs.Faults.{SchemaBuilds};
 ghost use Rattle.schema_model.specs.SchemaViews.{schema_data};
 ghost use Rattle.cost_directives.specs.declared.sizes.Size.TheVariants.{Any};
-ghost use Rattle.cost_directives.specs.DirectiveFaults.{first_fault};
+ghost use Rattle.cost_directives.specs.DirectiveFaults.{first_directive_fault};
 ghost use Rattle.cost_directives.specs.Fitting.{SizesFit};
 ghost use Rattle.cost_directives.specs.FreeLists.{HoldsFreeLeaves};
 ghost use Rattle.cost_directives.specs.Readings.{reading};
@@ -40,5 +40,5 @@ pub fn lists_of_any_length_cost_nothing()
 /// In a schema whose directives have no fault each `@listSize` fits the field that has it, also where it is taken from an
 /// interface.
 pub fn sizes_fit_their_fields()
-    ensures { (text : List DefinitionTree) (schema : Schema) → Builds text (Ok schema) → first_fault (schema_data schema) ≡ None → SizesFit (schema_data schema) }
+    ensures { (text : List DefinitionTree) (schema : Schema) → SchemaBuilds text (Ok schema) → first_directive_fault (schema_data schema) ≡ None → SizesFit (schema_data schema) }
 {}

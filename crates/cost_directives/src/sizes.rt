@@ -9,6 +9,7 @@ ghost use Rattle.cost_directives.specs.DeclaredSizes.{arg_at, slicing_args, is_s
 ghost use Rattle.cost_directives.specs.WeightViews.{maybe_arg, size_rule};
 
 use crate::entries::SizeRule;
+use gql_base::is_int;
 use input_values::{Coerced, is_null};
 use schema_model::Arg;
 use thiserror::Error;
@@ -73,7 +74,7 @@ fn is_given(arg: Option<&Arg>) -> bool
 fn as_int(number: i128) -> Option<i32>
     ensures { result ≡ as_int number }
 {
-    if -2147483648 <= number && number <= 2147483647 {
+    if is_int(number) {
         Some(number as i32)
     } else {
         None

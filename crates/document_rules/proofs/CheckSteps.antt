@@ -5,9 +5,9 @@ use Rattle.document_reader.specs.declared.trees.Operation.{Operation}
 use Rattle.schema_model.specs.SchemaData.{SchemaData}
 use Rattle.document_rules.specs.declared.rule.RuleFault.{RuleFault}
 use Rattle.document_rules.specs.declared.checking.Checked.{Checked}
-use Rattle.document_rules.specs.Checking.{first_broken, IsCheckOf, IsChecked, Answers}
+use Rattle.document_rules.specs.Checking.{first_broken, IsCheckOf, IsChecked, AnswersBreach}
 
-pub checked_is : (s : SchemaData) (ds : List Definition) (o : Operation) (r : Result Checked RuleFault) → Answers (IsCheckOf s ds o) r (first_broken s ds o) → IfOk r (IsChecked s)
+pub checked_is : (s : SchemaData) (ds : List Definition) (o : Operation) (r : Result Checked RuleFault) → AnswersBreach (IsCheckOf s ds o) r (first_broken s ds o) → IfOk r (IsChecked s)
 checked_is s ds o (Err fault) answer = tt
 checked_is s ds o (Ok c) answer =
     let document = sym answer.1.document in

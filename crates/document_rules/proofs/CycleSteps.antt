@@ -7,7 +7,7 @@ use Rattle.document_reader.specs.declared.trees.Definition.{Definition}
 use Rattle.document_reader.specs.declared.trees.Operation.{Operation}
 use Rattle.document_reader.specs.Documents.{SelectionTree, field_selection, fragment_spread, inline_fragment, SelectionTrees, no_selection, selection_then, VariableTree}
 use Rattle.document_reader.specs.Trees.{variable_tree, set_tree}
-use Rattle.schema_rules.specs.First.{or_else, told, first_of}
+use Rattle.schema_rules.specs.First.{or_else, fault_where, first_of}
 use Rattle.schema_rules.proofs.FirstFaults.{neither, not_told}
 use Rattle.schema_model.specs.SchemaData.{SchemaData}
 use Rattle.document_rules.specs.declared.rule.Rule.{Rule}
@@ -37,7 +37,7 @@ module _ (s : SchemaData) (fs : List FragmentData) (met : List Met) where
     one_apart within parent (field_selection names arguments directives below) none = all_apart within (below_field s (meaning_on s parent (name_of_field names).0)) below none
     one_apart within parent (fragment_spread name directives) none = (
       not_told (is_inside (inside_at met within) (place_of_name fragment_name fs name.0)) name.1
-          ((neither (told (is_inside (inside_at met within) (place_of_name fragment_name fs name.0)) name.1) None none).0),
+          ((neither (fault_where (is_inside (inside_at met within) (place_of_name fragment_name fs name.0)) name.1) None none).0),
       tt,
     )
     one_apart within parent (inline_fragment on directives below) none = all_apart within (below_inline s parent on) below none

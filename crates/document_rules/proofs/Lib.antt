@@ -7,5 +7,6 @@ pub mod SiteSteps
 pub mod MisusedSteps
 pub mod InsideSteps
 pub mod RankSteps
+pub mod Reaching
 pub mod CycleSteps
 pub mod CheckSteps

@@ -13,7 +13,7 @@ use Rattle.document_rules.specs.Rules.{is_inside}
 use Rattle.document_rules.specs.Ranks.{IsBelow, AreBelow, HasRanks}
 use Rattle.document_rules.proofs.SpreadSteps.{met_more, spreads_at, walk_ends, walk_looks}
 
-abbrev among : List ℕ → ℕ → Bool
+abbrev pub among : List ℕ → ℕ → Bool
 among xs k = list_any (nat_eq k) xs
 
 abbrev In : List ℕ → List ℕ → Type 0
@@ -28,7 +28,7 @@ at_first k xs = ap (λ b. b || among xs k) (eq-eqb k k refl)
 behind : (k m : ℕ) (xs : List ℕ) → among xs k ≡ true → among (m ∷ xs) k ≡ true
 behind k m xs h = ap (λ b. nat_eq k m || b) h ∙ or-true (nat_eq k m)
 
-which : (k m : ℕ) (xs : List ℕ) → among (m ∷ xs) k ≡ true → (k ≡ m) ⊎ (among xs k ≡ true)
+pub which : (k m : ℕ) (xs : List ℕ) → among (m ∷ xs) k ≡ true → (k ≡ m) ⊎ (among xs k ≡ true)
 which k m xs h = ⊎_elim
     (λ (e : nat_eq k m ≡ true). inl (eqb-true k m e))
     (λ (e : nat_eq k m ≡ false). inr (sym (ap (λ b. b || among xs k) e) ∙ h))
@@ -36,12 +36,12 @@ which k m xs h = ⊎_elim
 
 -- ---- the chain of fragments outward
 
-slice_more : {X : Type 0} (xs ys : List X) (n : ℕ) (x : X) → slice_get xs n ≡ Some x → slice_get (xs ++ ys) n ≡ Some x
+pub slice_more : {X : Type 0} (xs ys : List X) (n : ℕ) (x : X) → slice_get xs n ≡ Some x → slice_get (xs ++ ys) n ≡ Some x
 slice_more [] ys n x is = absurd (cc)
 slice_more (y ∷ xs) ys zero x is = is
 slice_more (y ∷ xs) ys (suc n) x is = slice_more xs ys n x is
 
-slice_last : {X : Type 0} (xs : List X) (x : X) → slice_get (xs ++ (x ∷ [])) (length xs) ≡ Some x
+pub slice_last : {X : Type 0} (xs : List X) (x : X) → slice_get (xs ++ (x ∷ [])) (length xs) ≡ Some x
 slice_last [] x = refl
 slice_last (y ∷ xs) x = slice_last xs x
 
@@ -73,7 +73,7 @@ chain_outward met (suc n) w (k ∷ inside) short c =
 
 -- ---- how many spreads the fragments hold that weren't met
 
-abbrev unmet : (ℕ → Bool) → List FragmentData → ℕ
+abbrev pub unmet : (ℕ → Bool) → List FragmentData → ℕ
 unmet seen [] = 0
 unmet seen (f ∷ fs) = (if seen 0 then 0 else length (spreads_in f.below)) + unmet (λ n. seen (suc n)) fs
 
@@ -89,7 +89,7 @@ next_eq n k = ⊎_elim
     (λ (e : nat_eq n k ≡ false). ne_eqb (suc n) (suc k) (λ same. eqb-false n k e (omega (arith, same))) ∙ sym e)
     (cases_Bool (nat_eq n k))
 
-unmet_once : (seen later : ℕ → Bool) (fs : List FragmentData) (k : ℕ) → ((n : ℕ) → later n ≡ (seen n || nat_eq n k)) → seen k ≡ false → unmet later fs + spreads_at (slice_get fs k) ≡ unmet seen fs
+pub unmet_once : (seen later : ℕ → Bool) (fs : List FragmentData) (k : ℕ) → ((n : ℕ) → later n ≡ (seen n || nat_eq n k)) → seen k ≡ false → unmet later fs + spreads_at (slice_get fs k) ≡ unmet seen fs
 unmet_once seen later [] k same new = omega arith
 unmet_once seen later (f ∷ fs) zero same new =
     let here : later 0 ≡ true = same 0 ∙ (ap (λ b. b || nat_eq 0 0) new ∙ eq-eqb 0 0 refl) in
@@ -105,7 +105,7 @@ unmet_once seen later (f ∷ fs) (suc k) same new =
     unmet_once (λ n. seen (suc n)) (λ n. later (suc n)) fs k (λ n. same (suc n) ∙ ap (λ b. seen (suc n) || b) (next_eq n k)) new in
     omega (arith, a, rest)
 
-none_met : (fs : List FragmentData) → unmet (is_met []) fs ≡ spread_count fs
+pub none_met : (fs : List FragmentData) → unmet (is_met []) fs ≡ spread_count fs
 none_met fs = all_of fs
   where
     all_of : (gs : List FragmentData) → unmet (λ n. false) gs ≡ spread_count gs

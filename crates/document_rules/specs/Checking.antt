@@ -11,7 +11,7 @@ use Rattle.document_rules.specs.declared.rule.Rule.TheVariants.{RepeatedName, Lo
 use Rattle.document_rules.specs.declared.rule.RuleFault.{RuleFault}
 use Rattle.document_rules.specs.declared.rule.RuleFault.TheVariants.{Broken, Memory}
 use Rattle.document_rules.specs.declared.checking.Checked.{Checked}
-use Rattle.document_rules.specs.Parts.{FragmentData, fragment_data, fragments_of}
+use Rattle.document_rules.specs.Parts.{FragmentData, fragment_data, fragments_of, operation_at}
 use Rattle.document_rules.specs.Met.{Met, reached, fragments_met}
 use Rattle.document_rules.specs.Sites.{Site, type_of_kind, all_sites}
 use Rattle.document_rules.specs.Rules.{repeated_name, lone_anonymous, subscription, no_root, unknown_fragment, fragment_cycle, fragment_on, unknown_directive, custom_directive, directive_use, introspection, unknown_field, leaf_with_selection, composite_without, repeated_variable, variable_type, undefined_variable, unknown_argument, repeated_argument, variable_place}
@@ -42,7 +42,7 @@ abbrev pub rules_of_directives : SchemaData → List SiteRule
 rules_of_directives s = (UnknownDirective, unknown_directive s) ∷ (CustomDirective, custom_directive s) ∷ (DirectiveUse, directive_use) ∷ []
 
 abbrev pub rules_of_fields : SchemaData → List SiteRule
-rules_of_fields s = (Introspection, introspection) ∷ (UnknownField, unknown_field) ∷ (LeafWithSelection, leaf_with_selection s) ∷ (CompositeWithout, composite_without s) ∷ []
+rules_of_fields s = (Introspection, introspection s) ∷ (UnknownField, unknown_field) ∷ (LeafWithSelection, leaf_with_selection s) ∷ (CompositeWithout, composite_without s) ∷ []
 
 abbrev pub rules_of_variables : SchemaData → List VariableTree → List SiteRule
 rules_of_variables s variables = (RepeatedVariable, repeated_variable) ∷ (VariableType, variable_type s) ∷ (UndefinedVariable, undefined_variable variables) ∷ []
@@ -93,14 +93,18 @@ pub record IsCheckOf (s : SchemaData) (ds : List Definition) (o : Operation) (c 
 
 -- The answer is the first broken rule with its place, or where none is broken what was checked. Want of memory is let
 -- through.
-abbrev pub Answers : {X : Type 0} → (X → Type 0) → Result X RuleFault → Option Breach → Type 0
-Answers Gives (Ok x) first = (first ≡ None) × Gives x
-Answers Gives (Err (Broken rule at)) first = first ≡ Some (rule, at)
-Answers Gives (Err Memory) first = Unit {0}
+abbrev pub AnswersBreach : {X : Type 0} → (X → Type 0) → Result X RuleFault → Option Breach → Type 0
+AnswersBreach Gives (Ok x) first = (first ≡ None) × Gives x
+AnswersBreach Gives (Err (Broken rule at)) first = first ≡ Some (rule, at)
+AnswersBreach Gives (Err Memory) first = Unit {0}
+
+-- The same of the operation that stands at a place among definitions.
+abbrev pub AnswersCheck : SchemaData → List Definition → ℕ → Result Checked RuleFault → Type 0
+AnswersCheck s ds place result = (o : Operation) → operation_at ds place ≡ Some o → AnswersBreach (IsCheckOf s ds o) result (first_broken s ds o)
 
 -- The same for an operation whose selections are written on a type, where only the rules on its parts are left.
 abbrev pub PartsAnswer : SchemaData → List Definition → Operation → ℕ → Result Checked RuleFault → Type 0
-PartsAnswer s ds o root answer = type_of_kind s o.kind ≡ Some root → Answers (IsCheckOf s ds o) answer (breach_of_parts s (fragments_in ds) o (reached_by ds o))
+PartsAnswer s ds o root answer = type_of_kind s o.kind ≡ Some root → AnswersBreach (IsCheckOf s ds o) answer (breach_of_parts s (fragments_in ds) o (reached_by ds o))
 
 -- What was checked is an operation of its document that breaks no rule of this schema.
 pub record IsChecked (s : SchemaData) (c : Checked) : Type 0 where

@@ -4,6 +4,7 @@ pub mod Met
 pub mod Sites
 pub mod VariablePlaces
 pub mod Rules
+pub mod Reached
 pub mod Names
 pub mod Checking
 pub mod Ranks

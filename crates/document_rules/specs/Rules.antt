@@ -16,7 +16,7 @@ use Rattle.document_reader.specs.declared.trees.Operation.{Operation}
 use Rattle.document_reader.specs.declared.trees.Fragment.{Fragment}
 use Rattle.document_reader.specs.Documents.{VariableTree}
 use Rattle.document_reader.specs.Trees.{maybe_identifier}
-use Rattle.schema_rules.specs.First.{or_else, told, first_of}
+use Rattle.schema_rules.specs.First.{or_else, fault_where, first_of}
 use Rattle.schema_rules.specs.Reserved.{begins_reserved}
 use Rattle.schema_rules.specs.Kinds.{is_output_only}
 use Rattle.schema_model.specs.SchemaData.{SchemaData, type_at, type_named, argument_named, same_text}
@@ -51,7 +51,7 @@ abbrev pub repeated_name : List Definition → Option ℕ
 repeated_name ds = earlier (repeated_at (operation_names (operations_of ds))) (repeated_at (map name_of_fragment (fragments_of ds)))
 
 abbrev pub anonymous_at : Operation → Option ℕ
-anonymous_at o = told (not (is_some o.name)) o.at
+anonymous_at o = fault_where (not (is_some o.name)) o.at
 
 -- an operation without a name stands beside another one (5.2.2.1)
 abbrev pub lone_anonymous : List Definition → Option ℕ
@@ -66,7 +66,7 @@ is_subscription Subscription = true
 
 -- the operation is a subscription (5.2.3; none of them is answered here)
 abbrev pub subscription : Operation → Option ℕ
-subscription o = told (is_subscription o.kind) o.at
+subscription o = fault_where (is_subscription o.kind) o.at
 
 abbrev pub is_mutation : OperationKind → Bool
 is_mutation Query = false
@@ -75,13 +75,13 @@ is_mutation Subscription = false
 
 -- it is a mutation, and the schema has no type of mutations (3.3.1)
 abbrev pub no_root : SchemaData → Operation → Option ℕ
-no_root s o = told (is_mutation o.kind && not (is_some s.mutation)) o.at
+no_root s o = fault_where (is_mutation o.kind && not (is_some s.mutation)) o.at
 
 -- ---- 5, 6, 7: fragments
 
 -- a spread names no fragment (5.5.2.1)
 abbrev pub unknown_fragment : List FragmentData → Site → Option ℕ
-unknown_fragment fragments (spread_site within name directives) = told (not (has_name fragment_name fragments name.0)) name.1
+unknown_fragment fragments (spread_site within name directives) = fault_where (not (has_name fragment_name fragments name.0)) name.1
 unknown_fragment fragments site = None
 
 abbrev pub is_inside : List ℕ → Option ℕ → Bool
@@ -90,11 +90,11 @@ is_inside inside (Some number) = list_any (nat_eq number) inside
 
 -- a spread names a fragment that the walk is inside of (5.5.2.2)
 abbrev pub fragment_cycle : List FragmentData → List Met → Site → Option ℕ
-fragment_cycle fragments met (spread_site within name directives) = told (is_inside (inside_at met within) (place_of_name fragment_name fragments name.0)) name.1
+fragment_cycle fragments met (spread_site within name directives) = fault_where (is_inside (inside_at met within) (place_of_name fragment_name fragments name.0)) name.1
 fragment_cycle fragments met site = None
 
 abbrev pub no_composite : SchemaData → Identifier → Option ℕ
-no_composite s name = told (not (is_some (composite_named s name.0))) name.1
+no_composite s name = fault_where (not (is_some (composite_named s name.0))) name.1
 
 abbrev pub no_composite_if_there : SchemaData → Option Identifier → Option ℕ
 no_composite_if_there s None = None
@@ -116,21 +116,21 @@ abbrev pub is_defined : SchemaData → List ℕ → Bool
 is_defined s name = has_name same_text s.directives name
 
 abbrev pub unknown_at : SchemaData → DirectiveTree → Option ℕ
-unknown_at s d = told (not (is_condition d.0.0 || is_defined s d.0.0)) d.0.1
+unknown_at s d = fault_where (not (is_condition d.0.0 || is_defined s d.0.0)) d.0.1
 
 -- a directive is none of the two, and the schema doesn't define it (5.7.1)
 abbrev pub unknown_directive : SchemaData → Site → Option ℕ
 unknown_directive s site = first_of (unknown_at s) (directives_at site)
 
 abbrev pub custom_at : SchemaData → DirectiveTree → Option ℕ
-custom_at s d = told (not (is_condition d.0.0) && is_defined s d.0.0) d.0.1
+custom_at s d = fault_where (not (is_condition d.0.0) && is_defined s d.0.0) d.0.1
 
 -- a directive is none of the two, and the schema defines it
 abbrev pub custom_directive : SchemaData → Site → Option ℕ
 custom_directive s site = first_of (custom_at s) (directives_at site)
 
 abbrev pub condition_at : DirectiveTree → Option ℕ
-condition_at d = told (is_condition d.0.0) d.0.1
+condition_at d = fault_where (is_condition d.0.0) d.0.1
 
 abbrev pub is_boolean_or_variable : ValueTree → Bool
 is_boolean_or_variable (variable_value name at) = true
@@ -172,10 +172,14 @@ directive_use (inline_site on directives) = first_misused [] directives
 
 -- ---- 11 to 14: fields
 
--- a field other than `__typename` has a name that begins with two underscores (4; none of them is answered here)
-abbrev pub introspection : Site → Option ℕ
-introspection (field_site meaning name arguments directives below) = told (begins_reserved name.0 && not (bytes_eq name.0 typename)) name.1
-introspection site = None
+-- whether a schema is that of schemas themselves (4.2), whose own fields have such names; no other schema may have a type of this name
+abbrev pub is_meta_schema : SchemaData → Bool
+is_meta_schema s = is_some (type_named s (codes "__Schema"))
+
+-- A field other than `__typename` has a name that begins with two underscores. Such fields are asked of the schema of schemas alone (4).
+abbrev pub introspection : SchemaData → Site → Option ℕ
+introspection s (field_site meaning name arguments directives below) = fault_where (begins_reserved name.0 && not (bytes_eq name.0 typename) && not (is_meta_schema s)) name.1
+introspection s site = None
 
 abbrev pub is_no_such_field : Meaning → Bool
 is_no_such_field no_position = false
@@ -185,7 +189,7 @@ is_no_such_field (known_field field) = false
 
 -- the type has no such field (5.3.1)
 abbrev pub unknown_field : Site → Option ℕ
-unknown_field (field_site meaning name arguments directives below) = told (is_no_such_field meaning) name.1
+unknown_field (field_site meaning name arguments directives below) = fault_where (is_no_such_field meaning) name.1
 unknown_field site = None
 
 abbrev pub is_leaf : SchemaData → Meaning → Bool
@@ -196,7 +200,7 @@ is_leaf s (known_field field) = not (is_composite s (type_of_field s field))
 
 -- a field of a scalar or enum type, or `__typename`, has selections (5.3.3)
 abbrev pub leaf_with_selection : SchemaData → Site → Option ℕ
-leaf_with_selection s (field_site meaning name arguments directives below) = told (below && is_leaf s meaning) name.1
+leaf_with_selection s (field_site meaning name arguments directives below) = fault_where (below && is_leaf s meaning) name.1
 leaf_with_selection s site = None
 
 abbrev pub is_of_composite : SchemaData → Meaning → Bool
@@ -207,7 +211,7 @@ is_of_composite s (known_field field) = is_composite s (type_of_field s field)
 
 -- a field of a composite type has no selections (5.3.3)
 abbrev pub composite_without : SchemaData → Site → Option ℕ
-composite_without s (field_site meaning name arguments directives below) = told (not below && is_of_composite s meaning) name.1
+composite_without s (field_site meaning name arguments directives below) = fault_where (not below && is_of_composite s meaning) name.1
 composite_without s site = None
 
 -- ---- 15, 16, 17: variables
@@ -234,7 +238,7 @@ is_input s None = false
 is_input s (Some number) = not (is_output_only (type_at s number).kind)
 
 abbrev pub no_input : SchemaData → Identifier → Option ℕ
-no_input s name = told (bytes_eq name.0 (codes "Float") || not (is_input s (type_named s name.0))) name.1
+no_input s name = fault_where (bytes_eq name.0 (codes "Float") || not (is_input s (type_named s name.0))) name.1
 
 -- a variable's type names no scalar, enum or input object type, or names Float (5.8.2)
 abbrev pub variable_type : SchemaData → Site → Option ℕ
@@ -242,7 +246,7 @@ variable_type s (variable_site v) = no_input s (named_in v.1)
 variable_type s site = None
 
 abbrev pub undeclared : List VariableTree → Identifier → Option ℕ
-undeclared variables name = told (not (has_name variable_name variables name.0)) name.1
+undeclared variables name = fault_where (not (has_name variable_name variables name.0)) name.1
 
 abbrev pub undefined_in : List VariableTree → List NamedValue → Option ℕ
 undefined_in variables arguments = first_of (undeclared variables) (variables_in_fields (fields_from arguments))
@@ -266,7 +270,7 @@ is_unknown_argument s name_of_type name = true
 is_unknown_argument s (known_field field) name = not (is_some (argument_named s field name))
 
 abbrev pub unknown_argument_at : SchemaData → Meaning → NamedValue → Option ℕ
-unknown_argument_at s meaning a = told (is_unknown_argument s meaning a.0.0) a.0.1
+unknown_argument_at s meaning a = fault_where (is_unknown_argument s meaning a.0.0) a.0.1
 
 -- the field has no such argument (5.4.1)
 abbrev pub unknown_argument : SchemaData → Site → Option ℕ
@@ -282,7 +286,7 @@ repeated_argument site = None
 
 abbrev pub misplaced_variable : SchemaData → Use → Option VariableTree → Option ℕ
 misplaced_variable s u None = None
-misplaced_variable s u (Some v) = told (not (is_usable s v u)) u.variable.1
+misplaced_variable s u (Some v) = fault_where (not (is_usable s v u)) u.variable.1
 
 abbrev pub misplaced : SchemaData → List VariableTree → Use → Option ℕ
 misplaced s variables u = misplaced_variable s u (first_of_name variable_name variables u.variable.0)
@@ -308,7 +312,7 @@ fits_boolean v = fits_condition (has_value v.2) v.1
 
 abbrev pub no_condition : ℕ → Option VariableTree → Option ℕ
 no_condition at None = None
-no_condition at (Some v) = told (not (fits_boolean v)) at
+no_condition at (Some v) = fault_where (not (fits_boolean v)) at
 
 -- An argument of `@skip` and `@include` stands at `Boolean!`.
 abbrev pub misplaced_condition : List VariableTree → ValueTree → Option ℕ

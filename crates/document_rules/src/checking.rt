@@ -7,8 +7,8 @@ ghost use Rattle.schema_model.specs.SchemaViews.{schema_data};
 ghost use Rattle.document_rules.specs.Parts.{operation_at};
 ghost use Rattle.document_rules.specs.Rules.{repeated_name, lone_anonymous, subscription, no_root};
 ghost use Rattle.document_rules.specs.Sites.{type_of_kind};
-ghost use Rattle.document_rules.specs.Checking.{breach, first_breach, rules_of_fragments, rules_of_directives, rules_of_fields, rules_of_variables, rules_of_arguments, breach_of_sites, breach_of_parts, breach_before_parts, first_broken, IsCheckOf, IsChecked, Answers, PartsAnswer, TellsParts};
-ghost use Rattle.document_rules.specs.Views.{declared_tree, defined_data, met_data, site_data};
+ghost use Rattle.document_rules.specs.Checking.{breach, first_breach, rules_of_fragments, rules_of_directives, rules_of_fields, rules_of_variables, rules_of_arguments, breach_of_sites, breach_of_parts, breach_before_parts, first_broken, IsCheckOf, IsChecked, AnswersBreach, AnswersCheck, PartsAnswer, TellsParts};
+ghost use Rattle.document_rules.specs.Views.{declared_tree, defined_data, met_data, site_data, schema_named, fragments_named, met_named, variables_named};
 
 use crate::indexes::{Declared, Defined, declared_of, defined_in};
 use crate::lookups::type_of_kind;
@@ -96,7 +96,7 @@ fn breach_of_fragments(
     names: &Names<'_, '_>,
     sites: &[Site<'_>],
 ) -> Result<Option<(Rule, usize)>, AllocError>
-    ensures { IfOk result (λ b. b ≡ first_breach (rules_of_fragments (schema_data names.now.schema.now) (map defined_data names.now.fragments.now.items.items) (map met_data names.now.met.now)) (map site_data sites.now)) }
+    ensures { IfOk result (λ b. b ≡ first_breach (rules_of_fragments (schema_named names.now) (fragments_named names.now) (met_named names.now)) (map site_data sites.now)) }
 {
     let fragments = names.fragments;
     if let Some(at) = first_broken(alloc, &UnknownFragment { fragments }, sites)? {
@@ -139,7 +139,7 @@ fn breach_of_fields(
 ) -> Result<Option<(Rule, usize)>, AllocError>
     ensures { IfOk result (λ b. b ≡ first_breach (rules_of_fields (schema_data schema.now)) (map site_data sites.now)) }
 {
-    if let Some(at) = first_broken(alloc, &Introspection, sites)? {
+    if let Some(at) = first_broken(alloc, &Introspection { schema }, sites)? {
         return Ok(Some((Rule::Introspection, at)));
     }
     if let Some(at) = first_broken(alloc, &UnknownField, sites)? {
@@ -202,7 +202,7 @@ fn breach_of_sites(
     names: &Names<'_, '_>,
     sites: &[Site<'_>],
 ) -> Result<Option<(Rule, usize)>, AllocError>
-    ensures { IfOk result (λ b. b ≡ breach_of_sites (schema_data names.now.schema.now) (map defined_data names.now.fragments.now.items.items) (map met_data names.now.met.now) (map declared_tree names.now.variables.now.items.items) (map site_data sites.now)) }
+    ensures { IfOk result (λ b. b ≡ breach_of_sites (schema_named names.now) (fragments_named names.now) (met_named names.now) (variables_named names.now) (map site_data sites.now)) }
 {
     if let Some(found) = breach_of_fragments(alloc, names, sites)? {
         return Ok(Some(found));
@@ -297,7 +297,7 @@ fn check_operation<'a>(
     document: &'a Document,
     operation: &'a Operation,
 ) -> Result<Checked<'a>, RuleFault>
-    ensures { Answers (IsCheckOf (schema_data schema.now) document.now.definitions.items operation.now) result (first_broken (schema_data schema.now) document.now.definitions.items operation.now) }
+    ensures { AnswersBreach (IsCheckOf (schema_data schema.now) document.now.definitions.items operation.now) result (first_broken (schema_data schema.now) document.now.definitions.items operation.now) }
 {
     match breach_before_parts(alloc, schema, document.definitions.as_slice(), operation)? {
         Some((rule, at)) => Err(RuleFault::Broken { rule, at }),
@@ -332,7 +332,7 @@ pub fn check<'a>(
     picked: usize,
 ) -> Result<Checked<'a>, RuleFault>
     requires { IsSome (operation_at document.now.definitions.items picked) }
-    ensures answer { (o : Operation) → operation_at document.now.definitions.items picked ≡ Some o → Answers (IsCheckOf (schema_data schema.now) document.now.definitions.items o) result (first_broken (schema_data schema.now) document.now.definitions.items o) }
+    ensures answer { AnswersCheck (schema_data schema.now) document.now.definitions.items picked result }
     ensures checked { IfOk result (IsChecked (schema_data schema.now)) }
 {
     match operation_at(document.definitions.as_slice(), picked) {

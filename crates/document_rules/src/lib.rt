@@ -13,6 +13,6 @@ mod site_rule;
 mod sites;
 
 pub use checking::{Checked, check};
-pub use laws::what_is_reached_has_ranks;
+pub use laws::{what_is_met_is_reached, what_is_reached_has_ranks};
 pub use rule::{Rule, RuleFault};
 pub use sharing::what_is_checked_is_shared;

@@ -3,7 +3,7 @@
 ghost use Rattle.std.specs.Prelude.{◌≡◌, ◌<◌, ◌+◌, ◌++◌, [], ◌∷◌, true, false, length, map, replicate, slice_get, slice_set, option_map, IfOk, OnOk};
 ghost use Rattle.document_reader.specs.Trees.{selection_tree, set_tree};
 ghost use Rattle.document_rules.specs.Met.{is_met, spreads_within, spreads_within_one, spreads_of_data, reached, before_reached, fragments_met};
-ghost use Rattle.document_rules.specs.Steps.{to_come, unseen_spreads, AreSeen, ComesTo, LooksAt};
+ghost use Rattle.document_rules.specs.Steps.{to_come, AreSeen, KeepsToCome, EntersOrPasses, FollowsSpread, SpreadsBefore};
 ghost use Rattle.document_rules.specs.Views.{defined_data, defined_fragment, met_data, spread_data};
 
 use crate::indexes::{Defined, fragment_number, fragment_of};
@@ -92,9 +92,9 @@ fn enter<'a>(
     requires there { one.number < length fragments.now.items.items }
     requires unmet { is_met (map met_data met.old.items) one.number ≡ false }
     ensures seen { OnOk result (AreSeen (map defined_data fragments.now.items.items) met.new.items seen.new.items) }
-    ensures left { OnOk result (length spreads.new.items + unseen_spreads seen.new.items (map defined_data fragments.now.items.items) ≡ length spreads.old.items + unseen_spreads seen.old.items (map defined_data fragments.now.items.items)) }
+    ensures left { OnOk result (KeepsToCome fragments.now.items.items seen.old.items spreads.old.items seen.new.items spreads.new.items) }
     ensures met { OnOk result (map met_data met.new.items ≡ map met_data met.old.items ++ (met_data one ∷ [])) }
-    ensures spreads { OnOk result (to_come spreads.new.items ≡ spreads_of_data (length met.old.items) (slice_get (map defined_data fragments.now.items.items) one.number) ++ to_come spreads.old.items) }
+    ensures spreads { OnOk result (SpreadsBefore fragments.now.items.items (length met.old.items) one.number spreads.old.items spreads.new.items) }
 {
     let place = met.len();
     met.push(one)?;
@@ -116,8 +116,8 @@ fn come_to<'a>(
     requires seen { AreSeen (map defined_data fragments.now.items.items) met.old.items seen.old.items }
     requires there { one.number < length fragments.now.items.items }
     ensures seen { OnOk result (AreSeen (map defined_data fragments.now.items.items) met.new.items seen.new.items) }
-    ensures left { OnOk result (length spreads.new.items + unseen_spreads seen.new.items (map defined_data fragments.now.items.items) ≡ length spreads.old.items + unseen_spreads seen.old.items (map defined_data fragments.now.items.items)) }
-    ensures goes { OnOk result (ComesTo (map defined_data fragments.now.items.items) (map met_data met.old.items) (met_data one) (to_come spreads.old.items) (map met_data met.new.items) (to_come spreads.new.items)) }
+    ensures left { OnOk result (KeepsToCome fragments.now.items.items seen.old.items spreads.old.items seen.new.items spreads.new.items) }
+    ensures goes { OnOk result (EntersOrPasses fragments.now.items.items met.old.items one spreads.old.items met.new.items spreads.new.items) }
 {
     if seen[one.number] {
         return Ok(());
@@ -135,8 +135,8 @@ fn look_at<'a>(
 ) -> Result<(), AllocError>
     requires { AreSeen (map defined_data fragments.now.items.items) met.old.items seen.old.items }
     ensures seen { OnOk result (AreSeen (map defined_data fragments.now.items.items) met.new.items seen.new.items) }
-    ensures left { OnOk result (length spreads.new.items + unseen_spreads seen.new.items (map defined_data fragments.now.items.items) ≡ length spreads.old.items + unseen_spreads seen.old.items (map defined_data fragments.now.items.items)) }
-    ensures goes { OnOk result (LooksAt (map defined_data fragments.now.items.items) (map met_data met.old.items) (spread_data spread.entry) (to_come spreads.old.items) (map met_data met.new.items) (to_come spreads.new.items)) }
+    ensures left { OnOk result (KeepsToCome fragments.now.items.items seen.old.items spreads.old.items seen.new.items spreads.new.items) }
+    ensures goes { OnOk result (FollowsSpread fragments.now.items.items met.old.items spread.entry spreads.old.items met.new.items spreads.new.items) }
 {
     match fragment_number(fragments, spread.name) {
         Some(number) => {

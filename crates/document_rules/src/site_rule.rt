@@ -1,7 +1,7 @@
 //! Rules that look at one part at a time.
 
 ghost use Rattle.std.specs.Prelude.{◌≡◌, map, IfOk};
-ghost use Rattle.schema_rules.specs.First.{told, first_of};
+ghost use Rattle.schema_rules.specs.First.{fault_where, first_of};
 ghost use Rattle.document_rules.specs.Views.{site_data};
 
 use crate::sites::Site;
@@ -37,8 +37,8 @@ pub fn first_broken<R: SiteRule>(
 }
 
 /// An offset, where something is wrong there.
-pub fn told(wrong: bool, at: usize) -> Option<usize>
-    ensures { result ≡ told wrong at }
+pub fn fault_where(wrong: bool, at: usize) -> Option<usize>
+    ensures { result ≡ fault_where wrong at }
 {
     if wrong { Some(at) } else { None }
 }

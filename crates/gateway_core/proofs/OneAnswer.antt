@@ -14,7 +14,7 @@ use Rattle.response_model.specs.Bound.{IsSound}
 use Rattle.plan_model.specs.SelectedFields.{holds}
 use Rattle.plan_table.specs.declared.table.Plan.{Plan}
 use Rattle.plan_table.specs.Tables.{HasRows, setting_in}
-use Rattle.static_cost.specs.TableBound.{holds_in, HoldsSound}
+use Rattle.plan_table.specs.TableBounds.{holds_in, HoldsSound}
 use Rattle.acceptance.specs.Requests.{plan_tree}
 use Rattle.response_meter.specs.declared.metered.Metered.{Metered}
 use Rattle.response_meter.specs.declared.fault.MeterFault.{MeterFault}

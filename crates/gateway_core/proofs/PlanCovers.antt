@@ -14,8 +14,7 @@ use Rattle.plan_model.specs.Sound.{IsOfSchema}
 use Rattle.plan_model.specs.Visits.{planned_well}
 use Rattle.plan_model.specs.Operations.{operation_answer, planned_operation, IsOperationBound}
 use Rattle.plan_table.specs.declared.table.Plan.{Plan}
-use Rattle.static_cost.specs.TableBound.{holds_in, HoldsSound}
-use Rattle.static_cost.specs.Worst.{IsCounted}
+use Rattle.plan_table.specs.TableBounds.{holds_in, HoldsSound, IsWithinCap}
 use Rattle.acceptance.specs.Requests.{RequestData, setting, plan_tree}
 use Rattle.acceptance.specs.Bounds.{IsBoundFor, IsAccepted}
 use Rattle.response_meter.specs.Reply.{IsResponseOrNone, reply_cost}
@@ -46,7 +45,7 @@ module _ (laws : Counting) (r : RequestData) (plan : Plan) (bound : Cost) (weigh
       let greatest = (laws.of_operations (setting r p) p.root p.operation accepted.is_planned.well weighed.0.0 of_schema part n low).0 b in
       subst (IsBound (holds_in plan) part tree) greatest (laws.of_plans (holds_in plan) part tree sound.1)
 
-  pub covers : ((part : Part) → IsCounted plan part) → Covers plan bound
+  pub covers : ((part : Part) → IsWithinCap plan part) → Covers plan bound
   covers counted =
       let b = accepted.has_bound in
       record {

@@ -6,7 +6,7 @@ use Rattle.cost_num.specs.Within.{Within}
 use Rattle.upstream_link.specs.declared.fault.LinkFault.{LinkFault}
 use Rattle.upstream_link.specs.declared.fault.LinkFault.TheVariants.{Down, Failed, BadReplyHead, Coded, TooLarge, Truncated, BadChunk, Memory}
 use Rattle.response_model.specs.Plan.{Plan as PlanTree}
-use Rattle.static_cost.specs.TableBound.{HoldsSound}
+use Rattle.plan_table.specs.TableBounds.{HoldsSound}
 use Rattle.response_meter.specs.declared.fault.MeterFault.{MeterFault}
 use Rattle.response_meter.specs.declared.fault.MeterFault.TheVariants.{Memory as MeterMemory}
 use Rattle.response_meter.specs.Faults.{Tells}

@@ -7,7 +7,7 @@ use Rattle.account_core.specs.Machine.{done}
 use Rattle.account_core.specs.Numbers.{settlement_of}
 use Rattle.account_shared.specs.Gains.{ClientCall, client_call}
 use Rattle.response_model.specs.Plan.{Plan as PlanTree}
-use Rattle.static_cost.specs.TableBound.{HoldsSound}
+use Rattle.plan_table.specs.TableBounds.{HoldsSound}
 use Rattle.response_meter.specs.declared.metered.Metered.{Metered}
 use Rattle.response_meter.specs.declared.fault.MeterFault.{MeterFault}
 use Rattle.response_meter.specs.declared.fault.MeterFault.TheVariants.{Memory as MeterMemory}

@@ -5,8 +5,7 @@ use Rattle.cost_num.specs.Within.{Within}
 use Rattle.response_model.specs.Plan.{Plan as PlanTree}
 use Rattle.response_model.specs.Cost.{Part}
 use Rattle.plan_table.specs.declared.table.Plan.{Plan}
-use Rattle.static_cost.specs.TableBound.{HoldsSound}
-use Rattle.static_cost.specs.Worst.{IsCounted}
+use Rattle.plan_table.specs.TableBounds.{HoldsSound, IsWithinCap}
 use Rattle.response_meter.specs.declared.metered.Metered.{Metered}
 use Rattle.response_meter.specs.Metered.{IsMetered}
 use Rattle.gateway_core.specs.Rules.{greatest}
@@ -18,5 +17,5 @@ IsMeasuredBy plan alias reply metered = (tree : PlanTree) → HoldsSound plan tr
 -- Whatever is measured of a reply is within the bound, and the bound within the cap, as every response is.
 pub record Covers (plan : Plan) (bound : Cost) : Type 0 where
   pub replies : (alias reply : List ℕ) (metered : Metered) → IsMeasuredBy plan alias reply metered → Within bound metered.cost
-  pub counted : (part : Part) → IsCounted plan part
+  pub counted : (part : Part) → IsWithinCap plan part
   pub within : Within greatest bound

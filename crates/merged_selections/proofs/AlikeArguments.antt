@@ -14,7 +14,7 @@ use Rattle.schema_model.specs.Arguments.{ArgData, args_data}
 use Rattle.variable_coercion.specs.declared.faults.ArgFault.{ArgFault}
 use Rattle.variable_coercion.specs.Refusals.{Refusal, and_then, all_in_order}
 use Rattle.variable_coercion.specs.Arguments.{argument_answer, arguments_answer}
-use Rattle.variable_coercion.specs.Calls.{Answers, argument_told}
+use Rattle.variable_coercion.specs.Calls.{AnswersRefusal, argument_told}
 use Rattle.plan_model.specs.SelectedFields.{Setting, given_under, coerced_arguments, refusal_of, if_coerced}
 use Rattle.plan_model.specs.Collecting.{CollectedField}
 use Rattle.plan_model.specs.SameArguments.{same_arguments}
@@ -45,8 +45,8 @@ alike_is_same e field f g args alike is =
     let same : coerced_of e field g ≡ Ok args = sym (coerced_alike e.schema field e.values f.call.arguments g.call.arguments alike) ∙ is in
     (ap refusal_of same, sym (ap (λ a. not (same_arguments args (if_coerced a))) same ∙ ap not (same_themselves args)))
 
-pub answers_coerced : (e : Setting) (field : ℕ) (written listed : List Argument) (result : Result Args ArgFault) → listed ≡ written → Answers args_data argument_told result (arguments_answer e.schema field listed e.values) → Answers args_data argument_told result (coerced_arguments e.schema field (map named_value written) e.values)
-answers_coerced e field written listed result same h = subst (λ a. Answers args_data argument_told result a) (ap (λ l. arguments_answer e.schema field l e.values) same ∙ sym (same_arguments_written e.schema field written e.values)) h
+pub answers_coerced : (e : Setting) (field : ℕ) (written listed : List Argument) (result : Result Args ArgFault) → listed ≡ written → AnswersRefusal args_data argument_told result (arguments_answer e.schema field listed e.values) → AnswersRefusal args_data argument_told result (coerced_arguments e.schema field (map named_value written) e.values)
+answers_coerced e field written listed result same h = subst (λ a. AnswersRefusal args_data argument_told result a) (ap (λ l. arguments_answer e.schema field l e.values) same ∙ sym (same_arguments_written e.schema field written e.values)) h
 
 -- a call that is kept is that of a field whose arguments are given alike
 pub kept_call : (e : Setting) (field : ℕ) (f : CollectedField) (last : Option Call) (call : Call) → last ≡ Some call → IsAlike call field f → IsKept e last → Calls e field f (Ok call)

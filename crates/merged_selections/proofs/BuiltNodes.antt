@@ -9,7 +9,7 @@ use Rattle.schema_model.specs.Numbers.{type_number}
 use Rattle.schema_model.specs.declared.entries.FieldId.{FieldId}
 use Rattle.schema_model.specs.SchemaData.{possible}
 use Rattle.document_rules.specs.Sites.{Meaning, is_composite, type_of_field}
-use Rattle.plan_model.specs.SelectedFields.{Setting, HandedSize, FieldCall, leaf_of, object_place, types_of, form_of, place_of, weight_of, meaning_at, form_at, place_at, size_at, weight_at, cost_at}
+use Rattle.plan_model.specs.SelectedFields.{Setting, HandedSize, FieldCall, leaf_of, object_place, types_of, form_of, place_of, meaning_weight, meaning_at, form_at, place_at, size_at, weight_at, cost_at}
 use Rattle.plan_model.specs.Collecting.{CollectedField, WrittenSelections, nesting}
 use Rattle.plan_model.specs.Merging.{Position, first_call, selections_below, asks, position_below}
 use Rattle.plan_model.specs.MergingWalk.{IsAcyclic, AllRanked}
@@ -30,7 +30,7 @@ use Rattle.merged_selections.specs.declared.call.Call.{Call}
 use Rattle.merged_selections.specs.NodeParts.{handed_data, types_at, when_true}
 use Rattle.merged_selections.specs.NodeTests.{IsThere, IsFound, IsKept}
 use Rattle.merged_selections.specs.Outcomes.{Outcome, has_left, used_up, unless_fault, outcome, under_outcome, IsStop}
-use Rattle.merged_selections.specs.Stages.{levels_from, key_seen, types_rows, node_visits, node_row, node_rows, Frame, frame, setting_built, CanBuild, CanBuildNode, Builds, BuildsTypes, number_below, row_looked, PushesRow}
+use Rattle.merged_selections.specs.Stages.{levels_from, key_seen, types_rows, node_visits, node_row, node_rows, Frame, frame, setting_built, CanBuild, CanBuildNode, BuildsRows, BuildsTypes, number_below, row_looked, PushesRow}
 use Rattle.merged_selections.proofs.VisitedParts.{node_past_limit, deep_past_limit, deep_outcome, node_outcome, same_stop}
 use Rattle.merged_selections.proofs.BuiltParts.{rows_of_place, below_of_place}
 use Rattle.merged_selections.proofs.BuiltSteps.{setting_of, position_of, IsNumbered}
@@ -123,12 +123,12 @@ module _ (e : Setting) (depth T : ℕ) (first : Bool) (handed : HandedSize) (fie
   }
 
   abbrev row_by_call : Option ℕ → ℕ → Row
-  row_by_call size arguments = row_by (form_of e.schema own) (weight_of e own) size arguments (below_at e (place_of e T own))
+  row_by_call size arguments = row_by (form_of e.schema own) (meaning_weight e own) size arguments (below_at e (place_of e T own))
 
   row_there : (looked : Looked) (l : ℕ) → IsFound e T handed (first_call fields) looked → row_looked (setting_without_values e.schema e.weights) depth T first fields looked ≡ node_row e T handed (suc l) depth first fields
   unfolding form_at weight_at
   row_there looked l found =
-      ap (λ m. row_by (form_of e.schema m) (weight_of e m) looked.size looked.arguments (below_at e (place_of e T m))) found.meaning
+      ap (λ m. row_by (form_of e.schema m) (meaning_weight e m) looked.size looked.arguments (below_at e (place_of e T m))) found.meaning
       ∙ (ap (λ s. row_by_call s looked.arguments) found.size
       ∙ (ap (λ a. row_by_call (size_at e T (first_call fields) handed) a) found.arguments
       ∙ ap (λ b. row_by (form_at e T (first_call fields)) (weight_at e T (first_call fields)) (size_at e T (first_call fields) handed) (capped (cost_at e T (first_call fields))) b)
@@ -158,11 +158,11 @@ module _ (old mid new : Building) (depth T : ℕ) (first : Bool) (field : Collec
     place_types = is_types ∙ (sym (types_there e T looked.field) ∙ (ap (λ m. types_of (place_of e T m)) found.meaning ∙ ap types_of (sym (own_place e T call))))
 
     pub below_built : (result : Result (Unit {0}) Stop) → CanBuild mid → BuildsTypes mid (depth + 1) result new types lists (handed_data looked.hands)
-        → Builds result mid new (visits e (levels_from (depth + 1)) (types_of (place_at e T call)) (position_below e T fields)) (types_rows e (levels_from (depth + 1)) (depth + 1) (position_below e T fields) (types_of (place_at e T call)))
+        → BuildsRows result mid new (visits e (levels_from (depth + 1)) (types_of (place_at e T call)) (position_below e T fields)) (types_rows e (levels_from (depth + 1)) (depth + 1) (position_below e T fields) (types_of (place_at e T call)))
     below_built result can_mid h =
-        subst (λ (p : Position). Builds result mid new (visits e (levels_from (depth + 1)) (types_of (place_at e T call)) p) (types_rows e (levels_from (depth + 1)) (depth + 1) p (types_of (place_at e T call)))) position_there
-        (subst (λ (Ts : List ℕ). Builds result mid new (visits e (levels_from (depth + 1)) Ts (position_of (frame old) lists (handed_data looked.hands))) (types_rows e (levels_from (depth + 1)) (depth + 1) (position_of (frame old) lists (handed_data looked.hands)) Ts)) place_types
-        (subst (λ (f : Frame). Builds result mid new (visits (setting_of f) (levels_from (depth + 1)) (map type_number types) (position_of f lists (handed_data looked.hands))) (types_rows (setting_of f) (levels_from (depth + 1)) (depth + 1) (position_of f lists (handed_data looked.hands)) (map type_number types))) same
+        subst (λ (p : Position). BuildsRows result mid new (visits e (levels_from (depth + 1)) (types_of (place_at e T call)) p) (types_rows e (levels_from (depth + 1)) (depth + 1) p (types_of (place_at e T call)))) position_there
+        (subst (λ (Ts : List ℕ). BuildsRows result mid new (visits e (levels_from (depth + 1)) Ts (position_of (frame old) lists (handed_data looked.hands))) (types_rows e (levels_from (depth + 1)) (depth + 1) (position_of (frame old) lists (handed_data looked.hands)) Ts)) place_types
+        (subst (λ (f : Frame). BuildsRows result mid new (visits (setting_of f) (levels_from (depth + 1)) (map type_number types) (position_of f lists (handed_data looked.hands))) (types_rows (setting_of f) (levels_from (depth + 1)) (depth + 1) (position_of f lists (handed_data looked.hands)) (map type_number types))) same
         (h (can_mid, subst (λ (f : Frame). IsAcyclic (setting_of f) (position_of f lists None)) (sym same) acyclic_there))))
 
     -- its rows

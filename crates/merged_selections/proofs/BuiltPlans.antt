@@ -35,7 +35,7 @@ use Rattle.merged_selections.specs.Faults.{IsTold}
 use Rattle.merged_selections.specs.Building.{setting_for, answer_for, IsPlanned}
 use Rattle.merged_selections.specs.Outcomes.{Outcome, has_left, outcome, answer_from, IsStop}
 use Rattle.merged_selections.specs.NodeTests.{IsKept}
-use Rattle.merged_selections.specs.Stages.{types_rows, Frame, frame, setting_built, position_built, CanBuild, Builds, BuildsTypes}
+use Rattle.merged_selections.specs.Stages.{types_rows, Frame, frame, setting_built, position_built, CanBuild, BuildsRows, BuildsTypes}
 use Rattle.merged_selections.proofs.VisitedParts.{answer_of_outcome}
 
 pub seen_fragments : (fs : List (Bor Fragment)) → map fragment_seen fs ≡ map fragment_data (map (λ f. f.now) fs)
@@ -81,13 +81,13 @@ module _ (schema : Schema) (weights : Weights) (checked : Checked) (variables : 
         (subst (λ (p : Position). IsAcyclic e p) (sym position_there) (checked_is_acyclic (schema_data schema) (weights_data weights) (environment variables) checked.document.now.definitions.items checked.operation.now root kept.kept))
 
     abbrev Built : Result (Unit {0}) Stop → Type 0
-    Built result = Builds result building new (visits e level_limit (root ∷ []) (root_position root checked.operation.now)) (types_rows e level_limit 1 (root_position root checked.operation.now) (root ∷ []))
+    Built result = BuildsRows result building new (visits e level_limit (root ∷ []) (root_position root checked.operation.now)) (types_rows e level_limit 1 (root_position root checked.operation.now) (root ∷ []))
 
     built : (result : Result (Unit {0}) Stop) (types : List TypeId) (lists : List ℕ) → map type_number types ≡ root ∷ [] → lists ≡ list ∷ [] → BuildsTypes building 1 result new types lists None → Built result
     built result types lists is_root is_list h =
-        subst (λ (x : Setting). Builds result building new (visits x level_limit (root ∷ []) (root_position root checked.operation.now)) (types_rows x level_limit 1 (root_position root checked.operation.now) (root ∷ []))) setting_there
-        (subst (λ (p : Position). Builds result building new (visits (setting_built building) level_limit (root ∷ []) p) (types_rows (setting_built building) level_limit 1 p (root ∷ []))) position_there
-        (subst (λ (Ts : List ℕ). Builds result building new (visits (setting_built building) level_limit Ts (position_built building (list ∷ []) None)) (types_rows (setting_built building) level_limit 1 (position_built building (list ∷ []) None) Ts)) is_root
+        subst (λ (x : Setting). BuildsRows result building new (visits x level_limit (root ∷ []) (root_position root checked.operation.now)) (types_rows x level_limit 1 (root_position root checked.operation.now) (root ∷ []))) setting_there
+        (subst (λ (p : Position). BuildsRows result building new (visits (setting_built building) level_limit (root ∷ []) p) (types_rows (setting_built building) level_limit 1 p (root ∷ []))) position_there
+        (subst (λ (Ts : List ℕ). BuildsRows result building new (visits (setting_built building) level_limit Ts (position_built building (list ∷ []) None)) (types_rows (setting_built building) level_limit 1 (position_built building (list ∷ []) None) Ts)) is_root
         (subst (λ (ls : List ℕ). BuildsTypes building 1 result new types ls None) is_list h (can_begin, acyclic))))
 
     abbrev nodes_there : ℕ → Outcome

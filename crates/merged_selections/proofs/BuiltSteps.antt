@@ -21,7 +21,7 @@ use Rattle.collected_fields.specs.Gathering.{Gathers, HasField, AreNumbered}
 use Rattle.merged_selections.specs.declared.stop.Stop.{Stop}
 use Rattle.merged_selections.specs.declared.building.Building.{Building}
 use Rattle.merged_selections.specs.Outcomes.{has_left, outcome, IsStop}
-use Rattle.merged_selections.specs.Stages.{levels_from, type_visits, type_rows, types_rows, node_visits, node_rows, groups_visits, groups_rows, Frame, frame, setting_built, position_built, CanBuild, CanBuildAt, CanBuildNode, CanBuildGroup, Builds, BuildsTypes, BuildsType, BuildsGroups, BuildsGroup}
+use Rattle.merged_selections.specs.Stages.{levels_from, type_visits, type_rows, types_rows, node_visits, node_rows, groups_visits, groups_rows, Frame, frame, setting_built, position_built, CanBuild, CanBuildAt, CanBuildNode, CanBuildGroup, BuildsRows, BuildsTypes, BuildsType, BuildsGroups, BuildsGroup}
 use Rattle.merged_selections.proofs.VisitedParts.{goes_on, stays_stopped, same_stop, none_visited}
 use Rattle.merged_selections.proofs.BuiltParts.{visits_next, no_visits, rows_next, no_rows, gathered_visits, gathered_rows}
 
@@ -70,14 +70,14 @@ module _ (old now : Building) (same : frame now ≡ frame old) where
   -- a type
   module _ (depth : ℕ) (result : Result (Unit {0}) Stop) (new : Building) where
     one_type : (T : ℕ) (lists : List ℕ) (handed : HandedSize) → (CanBuild old → CanBuild now) → BuildsType now depth result new T lists handed → CanBuildAt old lists
-        → Builds result now new (type_visits (setting_built old) (levels_from depth) (position_built old lists handed) T) (type_rows (setting_built old) (levels_from depth) depth (position_built old lists handed) T)
+        → BuildsRows result now new (type_visits (setting_built old) (levels_from depth) (position_built old lists handed) T) (type_rows (setting_built old) (levels_from depth) depth (position_built old lists handed) T)
     one_type T lists handed ready h can =
-        subst (λ (f : Frame). Builds result now new (type_visits (setting_of f) (levels_from depth) (position_of f lists handed) T) (type_rows (setting_of f) (levels_from depth) depth (position_of f lists handed) T)) same (h (can_at lists ready can))
+        subst (λ (f : Frame). BuildsRows result now new (type_visits (setting_of f) (levels_from depth) (position_of f lists handed) T) (type_rows (setting_of f) (levels_from depth) depth (position_of f lists handed) T)) same (h (can_at lists ready can))
 
     one_group : (T : ℕ) (first : Bool) (g : Group) (handed : HandedSize) → (CanBuild old → CanBuild now) → BuildsGroup now depth result new T first g handed → CanBuild old → CanBuildGroup old T g
-        → Builds result now new (node_visits (setting_built old) T handed (levels_from depth) (group_view g)) (node_rows (setting_built old) T handed (levels_from depth) depth first (group_view g))
+        → BuildsRows result now new (node_visits (setting_built old) T handed (levels_from depth) (group_view g)) (node_rows (setting_built old) T handed (levels_from depth) depth first (group_view g))
     one_group T first g handed ready h can can_g =
-        subst (λ (f : Frame). Builds result now new (node_visits (setting_of f) T handed (levels_from depth) (group_view g)) (node_rows (setting_of f) T handed (levels_from depth) depth first (group_view g))) same (h (ready can, can_group T g can_g))
+        subst (λ (f : Frame). BuildsRows result now new (node_visits (setting_of f) T handed (levels_from depth) (group_view g)) (node_rows (setting_of f) T handed (levels_from depth) depth first (group_view g))) same (h (ready can, can_group T g can_g))
 
 -- ---- types one after another
 
@@ -215,7 +215,7 @@ module _ (old mid new : Building) (same : frame mid ≡ frame old) (left : mid.l
       let can_groups : All (CanBuildGroup old T) groups = all_three HasField (λ x. IsNumbered (frame old) x.fields.items) (λ x. AcyclicBelow (frame old) T x.fields.items) (CanBuildGroup old T) groups
       (λ x a b c. record { filled = a; fields = record { numbered = b; acyclic = c } }) filled (numbered can.0) (groups_acyclic none can.1 g) in
       let can_mid : All (CanBuildGroup mid T) groups = all_one (CanBuildGroup old T) (CanBuildGroup mid T) groups (can_group old mid same T) can_groups in
-      moved result (groups_visits (setting_built old) T handed (levels_from depth) (groups_view groups)) (type_visits (setting_built old) (levels_from depth) p T) (groups_rows (setting_built old) T handed (levels_from depth) depth true (groups_view groups)) (type_rows (setting_built old) (levels_from depth) depth p T) (subst (λ (f : Frame). Builds result mid new (groups_visits (setting_of f) T handed (levels_from depth) (groups_view groups)) (groups_rows (setting_of f) T handed (levels_from depth) depth true (groups_view groups))) same (h (ready can.0, can_mid)))
+      moved result (groups_visits (setting_built old) T handed (levels_from depth) (groups_view groups)) (type_visits (setting_built old) (levels_from depth) p T) (groups_rows (setting_built old) T handed (levels_from depth) depth true (groups_view groups)) (type_rows (setting_built old) (levels_from depth) depth p T) (subst (λ (f : Frame). BuildsRows result mid new (groups_visits (setting_of f) T handed (levels_from depth) (groups_view groups)) (groups_rows (setting_of f) T handed (levels_from depth) depth true (groups_view groups))) same (h (ready can.0, can_mid)))
       (gathered_visits (setting_built old) T p (groups_view groups) gathers (filled_views groups filled) (levels_from depth)) (gathered_rows (setting_built old) T p (groups_view groups) gathers (filled_views groups filled) (levels_from depth) depth)
     where
       all_one : {A : Type 0} (P Q : A → Type 0) (xs : List A) → ((x : A) → P x → Q x) → All P xs → All Q xs
@@ -225,6 +225,6 @@ module _ (old mid new : Building) (same : frame mid ≡ frame old) (left : mid.l
           none k lt = omega arith
       all_one P Q (x ∷ xs) h a = All-cons Q x xs (h x (All-head P x xs a)) (all_one P Q xs h (All-tail P x xs a))
 
-      moved : (result : Result (Unit {0}) Stop) (vs us : List Visit) (rows others : List Row) → Builds result mid new vs rows → vs ≡ us → rows ≡ others → Builds result old new us others
+      moved : (result : Result (Unit {0}) Stop) (vs us : List Visit) (rows others : List Row) → BuildsRows result mid new vs rows → vs ≡ us → rows ≡ others → BuildsRows result old new us others
       moved (Ok done) vs us rows others b v r = (ap (λ n. outcome n us) (sym left) ∙ (ap (λ x. outcome mid.left x) (sym v) ∙ b.0), b.1 ∙ (ap (λ x. x ++ rows) table ∙ ap (λ x. table_rows old.plan ++ x) r))
       moved (Err stop) vs us rows others b v r = same_stop stop (outcome mid.left vs) (outcome old.left us) (ap (λ x. outcome mid.left x) v ∙ ap (λ n. outcome n us) left) b

@@ -6,7 +6,7 @@ use Rattle.std.proofs.lemmas.Bool.{not-false}
 use Rattle.std.proofs.lemmas.Slice.Eq.{bytes_eq-Decides}
 use Rattle.cost_num.specs.Capped.{capped}
 use Rattle.response_model.specs.Plan.{Form, single, listed}
-use Rattle.schema_rules.specs.First.{or_else, told, first_of}
+use Rattle.schema_rules.specs.First.{or_else, fault_where, first_of}
 use Rattle.schema_model.specs.SchemaData.{possible}
 use Rattle.schema_model.specs.Arguments.{ArgData}
 use Rattle.cost_directives.specs.Weights.{argument_cost_in}
@@ -51,9 +51,9 @@ module _ (e : Setting) (T : ℕ) (m : Meaning) where
   abbrev fault_by : HandedSize → CollectedField → List CollectedField → Option NodeFault
   fault_by handed f fields =
       or_else (first_of refused_by fields)
-      (or_else (told (list_any (other_by (if_coerced (arguments_of e m f.call.arguments))) fields) conflict)
+      (or_else (fault_where (list_any (other_by (if_coerced (arguments_of e m f.call.arguments))) fields) conflict)
       (or_else (option_map refused_size (fault_in (sized_answer handed f.call)))
-      (told (lacks_types (place_of e T m)) no_possible_type)))
+      (fault_where (lacks_types (place_of e T m)) no_possible_type)))
 
   module _ (name : List ℕ) (means : meaning_at e T (record { name = name; arguments = [] }) ≡ m) where
     has_meaning : (g : CollectedField) → bytes_eq g.call.name name ≡ true → meaning_at e T g.call ≡ m
@@ -97,12 +97,12 @@ module _ (e : Setting) (T : ℕ) (m : Meaning) where
     fault_by_meaning handed others h =
         let all : names_not f.call.name (f ∷ others) ≡ false = own_name others h in
         let fields : List CollectedField = f ∷ others in
-        ap (λ b. or_else (told b conflict) (or_else (first_of (argument_fault e T) fields) (or_else (told (arguments_differ e T fields) conflict) (or_else (size_fault e T handed f.call) (told (lacks_types (place_at e T f.call)) no_possible_type))))) all
-        ∙ (ap (λ o. or_else o (or_else (told (arguments_differ e T fields) conflict) (or_else (size_fault e T handed f.call) (told (lacks_types (place_at e T f.call)) no_possible_type)))) (refused_alike f.call.name means fields all)
-        ∙ (ap (λ b. or_else (first_of refused_by fields) (or_else (told b conflict) (or_else (size_fault e T handed f.call) (told (lacks_types (place_at e T f.call)) no_possible_type))))
+        ap (λ b. or_else (fault_where b conflict) (or_else (first_of (argument_fault e T) fields) (or_else (fault_where (arguments_differ e T fields) conflict) (or_else (size_fault e T handed f.call) (fault_where (lacks_types (place_at e T f.call)) no_possible_type))))) all
+        ∙ (ap (λ o. or_else o (or_else (fault_where (arguments_differ e T fields) conflict) (or_else (size_fault e T handed f.call) (fault_where (lacks_types (place_at e T f.call)) no_possible_type)))) (refused_alike f.call.name means fields all)
+        ∙ (ap (λ b. or_else (first_of refused_by fields) (or_else (fault_where b conflict) (or_else (size_fault e T handed f.call) (fault_where (lacks_types (place_at e T f.call)) no_possible_type))))
         (ap (λ a. list_any (λ g. not (same_arguments (if_coerced a) (if_coerced (arguments_at e T g.call)))) fields) first_arguments ∙ differ_alike f.call.name means (if_coerced (arguments_of e m f.call.arguments)) fields all)
-        ∙ (ap (λ a. or_else (first_of refused_by fields) (or_else (told (list_any (other_by (if_coerced (arguments_of e m f.call.arguments))) fields) conflict) (or_else (option_map refused_size (fault_in a)) (told (lacks_types (place_at e T f.call)) no_possible_type)))) (own_size_answer handed)
-        ∙ ap (λ p. or_else (first_of refused_by fields) (or_else (told (list_any (other_by (if_coerced (arguments_of e m f.call.arguments))) fields) conflict) (or_else (option_map refused_size (fault_in (sized_answer handed f.call))) (told (lacks_types p) no_possible_type)))) own_place)))
+        ∙ (ap (λ a. or_else (first_of refused_by fields) (or_else (fault_where (list_any (other_by (if_coerced (arguments_of e m f.call.arguments))) fields) conflict) (or_else (option_map refused_size (fault_in a)) (fault_where (lacks_types (place_at e T f.call)) no_possible_type)))) (own_size_answer handed)
+        ∙ ap (λ p. or_else (first_of refused_by fields) (or_else (fault_where (list_any (other_by (if_coerced (arguments_of e m f.call.arguments))) fields) conflict) (or_else (option_map refused_size (fault_in (sized_answer handed f.call))) (fault_where (lacks_types p) no_possible_type)))) own_place)))
 
     -- what is found of it
     pub found_by_meaning : (handed : HandedSize) (looked : Looked) → meaning_of looked.field ≡ m → looked.size ≡ size_in (form_of e.schema m) (sized_answer handed f.call) → looked.arguments ≡ capped (cost_of e m (if_coerced (arguments_of e m f.call.arguments)))
@@ -152,15 +152,15 @@ module _ (e : Setting) (T field : ℕ) (handed : HandedSize) (f : CollectedField
   abbrev fault_from : Result (List ArgData) Refusal → Option NodeFault
   fault_from a =
       or_else (or_else (option_map refused_argument (refusal_of a)) (first_of (refused_by e T meant) others))
-      (or_else (told (not (same_arguments (if_coerced a) (if_coerced a)) || list_any (differs_from e field (if_coerced a)) others) conflict)
+      (or_else (fault_where (not (same_arguments (if_coerced a) (if_coerced a)) || list_any (differs_from e field (if_coerced a)) others) conflict)
       (or_else (option_map refused_size (fault_in (size_answer e meant (if_coerced a) (handed_in (form_of e.schema meant) handed f.call.name))))
-      (told (lacks_types (place_of e T meant)) no_possible_type)))
+      (fault_where (lacks_types (place_of e T meant)) no_possible_type)))
 
   fault_from_others : (args : List ArgData) → fault_from (Ok args) ≡ fault_of_others e field handed f.call.name args others
   fault_from_others args =
-      ap (λ b. or_else (first_of (refused_by e T meant) others) (or_else (told (not b || differ_from e field args others) conflict) (or_else (option_map refused_size (fault_in (own_size e field handed f.call.name args))) (told (lacks_types (place_of e T meant)) no_possible_type)))) (same_themselves args)
-      ∙ (ap (λ o. or_else o (or_else (told (differ_from e field args others) conflict) (or_else (option_map refused_size (fault_in (own_size e field handed f.call.name args))) (told (lacks_types (place_of e T meant)) no_possible_type)))) (mapped_refused others)
-      ∙ ap (λ b. or_else (option_map refused_argument (first_refused e field others)) (or_else (told (differ_from e field args others) conflict) (or_else (option_map refused_size (fault_in (own_size e field handed f.call.name args))) (told b no_possible_type)))) lacks_alike)
+      ap (λ b. or_else (first_of (refused_by e T meant) others) (or_else (fault_where (not b || differ_from e field args others) conflict) (or_else (option_map refused_size (fault_in (own_size e field handed f.call.name args))) (fault_where (lacks_types (place_of e T meant)) no_possible_type)))) (same_themselves args)
+      ∙ (ap (λ o. or_else o (or_else (fault_where (differ_from e field args others) conflict) (or_else (option_map refused_size (fault_in (own_size e field handed f.call.name args))) (fault_where (lacks_types (place_of e T meant)) no_possible_type)))) (mapped_refused others)
+      ∙ ap (λ b. or_else (option_map refused_argument (first_refused e field others)) (or_else (fault_where (differ_from e field args others) conflict) (or_else (option_map refused_size (fault_in (own_size e field handed f.call.name args))) (fault_where b no_possible_type)))) lacks_alike)
 
   module _ (means : meaning_at e T f.call ≡ meant) (names : names_not f.call.name others ≡ false) where
     abbrev IsFoundWith : List ArgData → Looked → Type 0
@@ -194,13 +194,13 @@ module _ (e : Setting) (T : ℕ) (m : Meaning) (bare : (w : CollectedField) → 
   no_other (g ∷ fields) = ap (λ a. not (same_arguments [] (if_coerced a)) || list_any (other_by e T m []) fields) (bare g) ∙ no_other fields
 
   pub fault_without_arguments : meaning_at e T f.call ≡ m → names_not f.call.name others ≡ false → (sized : Option NodeFault) → option_map refused_size (fault_in (sized_answer e T m handed f.call)) ≡ sized
-      → fault_of e T handed (f ∷ others) ≡ or_else sized (told (lacks_types (place_of e T m)) no_possible_type)
+      → fault_of e T handed (f ∷ others) ≡ or_else sized (fault_where (lacks_types (place_of e T m)) no_possible_type)
   fault_without_arguments means names sized is =
       fault_by_meaning e T m f means handed others names
-      ∙ (ap (λ o. or_else o (or_else (told (list_any (other_by e T m (if_coerced (arguments_of e m f.call.arguments))) (f ∷ others)) conflict) (or_else (option_map refused_size (fault_in (sized_answer e T m handed f.call))) (told (lacks_types (place_of e T m)) no_possible_type)))) (no_refused (f ∷ others))
-      ∙ (ap (λ a. or_else (told (list_any (other_by e T m (if_coerced a)) (f ∷ others)) conflict) (or_else (option_map refused_size (fault_in (sized_answer e T m handed f.call))) (told (lacks_types (place_of e T m)) no_possible_type))) (bare f)
-      ∙ (ap (λ b. or_else (told b conflict) (or_else (option_map refused_size (fault_in (sized_answer e T m handed f.call))) (told (lacks_types (place_of e T m)) no_possible_type))) (no_other (f ∷ others))
-      ∙ ap (λ o. or_else o (told (lacks_types (place_of e T m)) no_possible_type)) is)))
+      ∙ (ap (λ o. or_else o (or_else (fault_where (list_any (other_by e T m (if_coerced (arguments_of e m f.call.arguments))) (f ∷ others)) conflict) (or_else (option_map refused_size (fault_in (sized_answer e T m handed f.call))) (fault_where (lacks_types (place_of e T m)) no_possible_type)))) (no_refused (f ∷ others))
+      ∙ (ap (λ a. or_else (fault_where (list_any (other_by e T m (if_coerced a)) (f ∷ others)) conflict) (or_else (option_map refused_size (fault_in (sized_answer e T m handed f.call))) (fault_where (lacks_types (place_of e T m)) no_possible_type))) (bare f)
+      ∙ (ap (λ b. or_else (fault_where b conflict) (or_else (option_map refused_size (fault_in (sized_answer e T m handed f.call))) (fault_where (lacks_types (place_of e T m)) no_possible_type))) (no_other (f ∷ others))
+      ∙ ap (λ o. or_else o (fault_where (lacks_types (place_of e T m)) no_possible_type)) is)))
 
 module _ (e : Setting) (T : ℕ) (handed : HandedSize) (f : CollectedField) (others : List CollectedField) (names : names_not f.call.name others ≡ false) where
   pub name_is_planned : (looked : Looked) → meaning_at e T f.call ≡ name_of_type → looked.field ≡ None → looked.size ≡ None → looked.arguments ≡ 0 → handed_data looked.hands ≡ None → (fault_of e T handed (f ∷ others) ≡ None) × IsFound e T handed f.call looked
@@ -213,9 +213,9 @@ module _ (e : Setting) (T : ℕ) (handed : HandedSize) (f : CollectedField) (oth
   no_field_is_told means = fault_without_arguments e T no_such_field (λ w. refl) handed f others means names None refl
 
 pub other_names_are_told : (e : Setting) (T : ℕ) (handed : HandedSize) (f : CollectedField) (others : List CollectedField) → names_not f.call.name others ≡ true → fault_of e T handed (f ∷ others) ≡ Some conflict
-other_names_are_told e T handed f others h = ap (λ b. or_else (told (not (bytes_eq f.call.name f.call.name) || b) conflict) (or_else (first_of (argument_fault e T) (f ∷ others)) (or_else (told (arguments_differ e T (f ∷ others)) conflict) (or_else (size_fault e T handed f.call) (told (lacks_types (place_at e T f.call)) no_possible_type))))) h
+other_names_are_told e T handed f others h = ap (λ b. or_else (fault_where (not (bytes_eq f.call.name f.call.name) || b) conflict) (or_else (first_of (argument_fault e T) (f ∷ others)) (or_else (fault_where (arguments_differ e T (f ∷ others)) conflict) (or_else (size_fault e T handed f.call) (fault_where (lacks_types (place_at e T f.call)) no_possible_type))))) h
     ∙ either (not (bytes_eq f.call.name f.call.name))
   where
-    either : (b : Bool) → or_else (told (b || true) conflict) (or_else (first_of (argument_fault e T) (f ∷ others)) (or_else (told (arguments_differ e T (f ∷ others)) conflict) (or_else (size_fault e T handed f.call) (told (lacks_types (place_at e T f.call)) no_possible_type)))) ≡ Some conflict
+    either : (b : Bool) → or_else (fault_where (b || true) conflict) (or_else (first_of (argument_fault e T) (f ∷ others)) (or_else (fault_where (arguments_differ e T (f ∷ others)) conflict) (or_else (size_fault e T handed f.call) (fault_where (lacks_types (place_at e T f.call)) no_possible_type)))) ≡ Some conflict
     either true = refl
     either false = refl

@@ -43,6 +43,6 @@ IsTold answer (TooDeep at) = IsFaultAt answer at too_deep
 IsTold answer Memory = Unit {0}
 
 -- What is given where an operation is planned well, or a fault that tells the answer.
-abbrev pub Answers : {X : Type 0} → (X → Type 0) → Result X PlanFault → PlanAnswer → Type 0
-Answers IsGiven (Ok x) answer = (answer ≡ planned_well) × IsGiven x
-Answers IsGiven (Err fault) answer = IsTold answer fault
+abbrev pub AnswersPlan : {X : Type 0} → (X → Type 0) → Result X PlanFault → PlanAnswer → Type 0
+AnswersPlan IsGiven (Ok x) answer = (answer ≡ planned_well) × IsGiven x
+AnswersPlan IsGiven (Err fault) answer = IsTold answer fault

@@ -3,7 +3,7 @@ use Rattle.std.specs.Prelude.{◌≡◌, ℕ, Bool, not, List, ◌∷◌, map, o
 use Rattle.std.specs.List.{list_any}
 use Rattle.std.specs.Str.{bytes_eq}
 use Rattle.cost_num.specs.Capped.{capped}
-use Rattle.schema_rules.specs.First.{or_else, told, first_of}
+use Rattle.schema_rules.specs.First.{or_else, fault_where, first_of}
 use Rattle.schema_model.specs.Arguments.{ArgData, args_data}
 use Rattle.cost_directives.specs.Weights.{argument_cost_in}
 use Rattle.cost_directives.specs.declared.sizes.Size.{Size}
@@ -84,14 +84,14 @@ module _ (e : Setting) (field : ℕ) where
     own_size = size_answer e (known_field field) args (handed_in (form_of e.schema (known_field field)) handed name)
 
     abbrev pub fault_after_size : Option NodeFault
-    fault_after_size = told (lacks_types_below e.schema field) no_possible_type
+    fault_after_size = fault_where (lacks_types_below e.schema field) no_possible_type
 
     abbrev pub fault_after_arguments : Option NodeFault
     fault_after_arguments = or_else (option_map refused_size (fault_in own_size)) fault_after_size
 
     -- behind the first of the fields, whose arguments these are
     abbrev pub fault_of_others : List CollectedField → Option NodeFault
-    fault_of_others others = or_else (option_map refused_argument (first_refused others)) (or_else (told (differ_from args others) conflict) fault_after_arguments)
+    fault_of_others others = or_else (option_map refused_argument (first_refused others)) (or_else (fault_where (differ_from args others) conflict) fault_after_arguments)
 
     -- what is found of it
     pub record IsFoundOf (looked : Looked) : Type 0 where

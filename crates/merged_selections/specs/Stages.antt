@@ -6,7 +6,7 @@ use Rattle.input_values.specs.declared.inputs.shape.TypeId.{TypeId}
 use Rattle.schema_model.specs.declared.schema.Schema.{Schema}
 use Rattle.cost_directives.specs.declared.weights.Weights.{Weights}
 use Rattle.schema_model.specs.Numbers.{type_number}
-use Rattle.plan_model.specs.SelectedFields.{Setting, HandedSize, Place, types_of, form_of, place_of, weight_of, place_at}
+use Rattle.plan_model.specs.SelectedFields.{Setting, HandedSize, Place, types_of, form_of, place_of, meaning_weight, place_at}
 use Rattle.plan_model.specs.Collecting.{CollectedField, WrittenSelections}
 use Rattle.plan_model.specs.Merging.{Position, keys_at, first_call, selections_below, asks, position_below, selected_by}
 use Rattle.plan_model.specs.MergingWalk.{IsAcyclic}
@@ -121,9 +121,9 @@ pub record CanBuildGroup (b : Building) (T : ℕ) (g : Group) : Type 0 where
   pub fields : CanBuildNode b T g.fields.items
 
 -- These are visited, and where none is at fault these rows are added.
-abbrev pub Builds : Result (Unit {0}) Stop → Building → Building → List Visit → List Row → Type 0
-Builds (Ok done) old new vs rows = (outcome old.left vs ≡ has_left new.left) × (table_rows new.plan ≡ table_rows old.plan ++ rows)
-Builds (Err stop) old new vs rows = IsStop stop (outcome old.left vs)
+abbrev pub BuildsRows : Result (Unit {0}) Stop → Building → Building → List Visit → List Row → Type 0
+BuildsRows (Ok done) old new vs rows = (outcome old.left vs ≡ has_left new.left) × (table_rows new.plan ≡ table_rows old.plan ++ rows)
+BuildsRows (Err stop) old new vs rows = IsStop stop (outcome old.left vs)
 
 -- the row of a node of which this was found
 abbrev pub row_looked : Setting → ℕ → ℕ → Bool → List CollectedField → Looked → Row
@@ -138,7 +138,7 @@ row_looked e depth T first fields looked = record {
     asked = list_any (asks e) fields;
     form = form_of e.schema (meaning_of looked.field);
     size = looked.size;
-    weight = weight_of e (meaning_of looked.field);
+    weight = meaning_weight e (meaning_of looked.field);
     arguments = looked.arguments;
   };
   below = below_at e (place_of e T (meaning_of looked.field));
@@ -149,23 +149,23 @@ row_looked e depth T first fields looked = record {
 module _ (old : Building) (depth : ℕ) (result : Result (Unit {0}) Stop) (new : Building) where
   abbrev pub BuildsTypes : List TypeId → List ℕ → HandedSize → Type 0
   BuildsTypes types lists handed =
-      CanBuildAt old lists → Builds result old new (visits (setting_built old) (levels_from depth) (map type_number types) (position_built old lists handed)) (types_rows (setting_built old) (levels_from depth) depth (position_built old lists handed) (map type_number types))
+      CanBuildAt old lists → BuildsRows result old new (visits (setting_built old) (levels_from depth) (map type_number types) (position_built old lists handed)) (types_rows (setting_built old) (levels_from depth) depth (position_built old lists handed) (map type_number types))
 
   abbrev pub BuildsType : ℕ → List ℕ → HandedSize → Type 0
   BuildsType T lists handed =
-      CanBuildAt old lists → Builds result old new (type_visits (setting_built old) (levels_from depth) (position_built old lists handed) T) (type_rows (setting_built old) (levels_from depth) depth (position_built old lists handed) T)
+      CanBuildAt old lists → BuildsRows result old new (type_visits (setting_built old) (levels_from depth) (position_built old lists handed) T) (type_rows (setting_built old) (levels_from depth) depth (position_built old lists handed) T)
 
   abbrev pub BuildsGroups : ℕ → List Group → HandedSize → Type 0
   BuildsGroups T groups handed =
-      CanBuild old × All (CanBuildGroup old T) groups → Builds result old new (groups_visits (setting_built old) T handed (levels_from depth) (groups_view groups)) (groups_rows (setting_built old) T handed (levels_from depth) depth true (groups_view groups))
+      CanBuild old × All (CanBuildGroup old T) groups → BuildsRows result old new (groups_visits (setting_built old) T handed (levels_from depth) (groups_view groups)) (groups_rows (setting_built old) T handed (levels_from depth) depth true (groups_view groups))
 
   abbrev pub BuildsNode : ℕ → Bool → List Collected → HandedSize → Type 0
   BuildsNode T first fields handed =
-      CanBuild old × CanBuildNode old T fields → Builds result old new (node_visits (setting_built old) T handed (levels_from depth) (map collected_field fields)) (node_rows (setting_built old) T handed (levels_from depth) depth first (map collected_field fields))
+      CanBuild old × CanBuildNode old T fields → BuildsRows result old new (node_visits (setting_built old) T handed (levels_from depth) (map collected_field fields)) (node_rows (setting_built old) T handed (levels_from depth) depth first (map collected_field fields))
 
   abbrev pub BuildsGroup : ℕ → Bool → Group → HandedSize → Type 0
   BuildsGroup T first g handed =
-      CanBuild old × CanBuildGroup old T g → Builds result old new (node_visits (setting_built old) T handed (levels_from depth) (group_view g)) (node_rows (setting_built old) T handed (levels_from depth) depth first (group_view g))
+      CanBuild old × CanBuildGroup old T g → BuildsRows result old new (node_visits (setting_built old) T handed (levels_from depth) (group_view g)) (node_rows (setting_built old) T handed (levels_from depth) depth first (group_view g))
 
 abbrev pub number_below : Collected → ℕ
 number_below f = f.below

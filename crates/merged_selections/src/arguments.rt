@@ -1,7 +1,7 @@
 //! The arguments of a node's fields (GraphQL October 2021, 5.3.2 and 6.4.1).
 
 ghost use Rattle.schema_model.specs.Arguments.{args_data};
-ghost use Rattle.variable_coercion.specs.Calls.{Answers, argument_told};
+ghost use Rattle.variable_coercion.specs.Calls.{AnswersRefusal, argument_told};
 ghost use Rattle.collected_fields.specs.Views.{setting_of_planning, collected_field};
 ghost use Rattle.merged_selections.specs.NodeTests.{coerced_of, ComparesOne, ComparesAll};
 
@@ -19,7 +19,7 @@ pub fn arguments_of(
     of: FieldId,
     field: &Collected<'_>,
 ) -> Result<Args, ArgFault>
-    ensures { Answers args_data argument_told result (coerced_of (setting_of_planning planning.now) of.number (collected_field field.now)) }
+    ensures { AnswersRefusal args_data argument_told result (coerced_of (setting_of_planning planning.now) of.number (collected_field field.now)) }
 {
     let written = field.field.arguments.as_slice();
     coerce_arguments(alloc, planning.schema, of, written, planning.variables)

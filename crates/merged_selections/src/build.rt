@@ -3,7 +3,7 @@
 ghost use Rattle.std.specs.Prelude.{◌≡◌, IfOk};
 ghost use Rattle.schema_model.specs.SchemaViews.{schema_data};
 ghost use Rattle.document_rules.specs.Checking.{IsChecked};
-ghost use Rattle.merged_selections.specs.Faults.{Answers};
+ghost use Rattle.merged_selections.specs.Faults.{AnswersPlan};
 ghost use Rattle.merged_selections.specs.Building.{answer_for, IsPlanned};
 
 use crate::NODE_LIMIT;
@@ -32,7 +32,7 @@ pub fn build_plan<'a>(
     variables: &Variables,
 ) -> Result<Plan<'a>, PlanFault>
     requires checked { IsChecked (schema_data schema.now) checked.now }
-    ensures answer { Answers (IsPlanned schema.now weights.now checked.now variables.now) result (answer_for schema.now weights.now checked.now variables.now) }
+    ensures answer { AnswersPlan (IsPlanned schema.now weights.now checked.now variables.now) result (answer_for schema.now weights.now checked.now variables.now) }
     ensures schema { IfOk result (λ plan. plan.schema.now ≡ schema.now) }
     ensures weights { IfOk result (λ plan. plan.weights.now ≡ weights.now) }
 {

@@ -2,7 +2,7 @@
 
 ghost use Rattle.std.specs.Prelude.{◌≡◌, IsTrue, IfOk, IfSome, None, Some};
 ghost use Rattle.schema_model.specs.Arguments.{args_data};
-ghost use Rattle.variable_coercion.specs.Calls.{Answers, argument_told};
+ghost use Rattle.variable_coercion.specs.Calls.{AnswersRefusal, argument_told};
 ghost use Rattle.collected_fields.specs.Views.{setting_of_planning, collected_field};
 ghost use Rattle.merged_selections.specs.NodeParts.{handed_data};
 ghost use Rattle.merged_selections.specs.NodeTests.{coerced_of, handed_by, Calls, IsKept, IsAlike};

@@ -15,20 +15,19 @@ use Rattle.response_model.specs.Plan.{Plan as PlanTree}
 use Rattle.response_model.specs.Response.{Tree}
 use Rattle.response_model.specs.Cost.{Part, types, fields}
 use Rattle.plan_table.specs.declared.table.Plan.{Plan}
-use Rattle.static_cost.specs.TableBound.{holds_in, HoldsSound}
-use Rattle.static_cost.specs.Worst.{IsCounted}
+use Rattle.plan_table.specs.TableBounds.{holds_in, HoldsSound, IsWithinCap}
 use Rattle.response_meter.specs.Reply.{IsResponseOrNone, reply_cost}
 use Rattle.response_meter.specs.declared.metered.Metered.{Metered}
 use Rattle.response_meter.specs.Metered.{IsMetered}
 
-reply_within : (p : Plan) (part : Part) (tree : PlanTree) (content : Option Tree) → HoldsSound p tree → IsCounted p part → IsResponseOrNone (holds_in p) tree content → reply_cost part tree content ≤ CAP
+reply_within : (p : Plan) (part : Part) (tree : PlanTree) (content : Option Tree) → HoldsSound p tree → IsWithinCap p part → IsResponseOrNone (holds_in p) tree content → reply_cost part tree content ≤ CAP
 reply_within p part tree None held counted response = omega (arith)
 reply_within p part tree (Some t) held counted response = elim (cases_lt CAP (reply_cost part tree (Some t))) [
   | inl exceeds ↦ absurd (counted tree held (t, response, exceeds))
   | inr within ↦ within
 ]
 
-module _ (p : Plan) (alias bytes : List ℕ) (metered : Metered) (tree : PlanTree) (held : HoldsSound p tree) (counted : (part : Part) → IsCounted p part) (m : IsMetered p alias tree bytes metered) where
+module _ (p : Plan) (alias bytes : List ℕ) (metered : Metered) (tree : PlanTree) (held : HoldsSound p tree) (counted : (part : Part) → IsWithinCap p part) (m : IsMetered p alias tree bytes metered) where
   pub types_within : metered.cost.types ≤ CAP
   types_within = subst (λ n. n ≤ CAP) (sym m.types_cost) (reply_within p types tree m.content held (counted types) m.is_response)
 

@@ -16,7 +16,7 @@ use Rattle.plan_model.specs.SelectedFields.{holds}
 use Rattle.plan_table.specs.declared.table.Plan.{Plan}
 use Rattle.plan_table.specs.Tables.{HasRows, setting_in}
 use Rattle.typename_rewrite.specs.AddedNames.{names_of_document, is_taken, alias_with, IsAlias}
-use Rattle.static_cost.specs.TableBound.{holds_in}
+use Rattle.plan_table.specs.TableBounds.{holds_in}
 use Rattle.command_words.specs.declared.command.Asked.{Asked}
 use Rattle.acceptance.specs.Requests.{RequestData, Prepared, plan_tree}
 use Rattle.acceptance.specs.Bounds.{IsAccepted}
@@ -27,7 +27,7 @@ use Rattle.response_meter.specs.declared.fault.MeterFault.{MeterFault}
 use Rattle.response_meter.specs.declared.fault.MeterFault.TheVariants.{NotResponse, SizeBroken, Memory as MeterMemory}
 use Rattle.response_meter.specs.Faults.{Fault, not_response, size_broken, Tells}
 use Rattle.response_meter.specs.FirstFault.{AreNamed}
-use Rattle.response_meter.specs.Reply.{ReplyReads, IsResponseOrNone, ReadsOnce, PassesWhereReadable, first_fault, reply_cost}
+use Rattle.response_meter.specs.Reply.{ReplyReads, IsResponseOrNone, ReadsOnce, PassesWhereReadable, first_reply_fault, reply_cost}
 use Rattle.response_meter.specs.Metered.{name_in, TypesDiffer, first_fault_in, IsMetered}
 use Rattle.operation_commands.specs.declared.asked.AskedTexts.{AskedTexts}
 use Rattle.operation_commands.specs.declared.asking.Inputs.{Inputs}
@@ -123,7 +123,7 @@ measured_alike p q alias other tree tree_too bytes metered same m =
 fault_alike : (p q : Plan) (alias other : List ℕ) (tree tree_too : PlanTree) (bytes : List ℕ) → IsSame p alias tree q other tree_too → first_fault_in q other tree_too bytes ≡ first_fault_in p alias tree bytes
 fault_alike p q alias other tree tree_too bytes same =
     ap (λ a. first_fault_in q a tree_too bytes) same.alias
-    ∙ (ap (λ t. first_fault_in q alias t bytes) same.tree ∙ ap (λ s. first_fault (holds s) (λ T. (type_at s T).name) alias tree bytes) same.schema)
+    ∙ (ap (λ t. first_fault_in q alias t bytes) same.tree ∙ ap (λ s. first_reply_fault (holds s) (λ T. (type_at s T).name) alias tree bytes) same.schema)
 
 -- a measure by its parts
 abbrev made : ℕ → ℕ → List ℕ → Metered

@@ -6,9 +6,9 @@ use Rattle.response_model.specs.Response.{Tree}
 use Rattle.response_model.specs.Filled.{filled}
 use Rattle.response_model.specs.ResponseText.{response_text}
 use Rattle.plan_table.specs.declared.table.Plan.{Plan}
-use Rattle.static_cost.specs.declared.part.Part.{Part}
+use Rattle.response_model.specs.declared.part.Part.{Part}
 use Rattle.static_cost.specs.declared.filling.TheConstants.{VALUE_LIMIT}
-use Rattle.static_cost.specs.Components.{part_of}
+use Rattle.response_model.specs.Components.{part_of}
 use Rattle.static_cost.specs.Worst.{values}
 use Rattle.command_words.specs.declared.command.Asked.{Asked}
 use Rattle.acceptance.specs.Requests.{plan_tree}

@@ -6,8 +6,7 @@ ghost use Rattle.response_model.specs.Cost.{Part as PartOfCost};
 ghost use Rattle.response_model.specs.ResponseText.{response_text as text_of_response};
 ghost use Rattle.plan_table.specs.Trees.{tree_of};
 ghost use Rattle.plan_table.specs.Texts.{IsFloatless};
-ghost use Rattle.static_cost.specs.TableBound.{HoldsSound};
-ghost use Rattle.static_cost.specs.Worst.{IsCounted};
+ghost use Rattle.plan_table.specs.TableBounds.{HoldsSound, IsWithinCap};
 ghost use Rattle.command_outcomes.specs.Reading.{IsText};
 ghost use Rattle.command_outcomes.specs.Outcomes.{files_told, IsDone};
 ghost use Rattle.operation_commands.specs.Asked.{IsRefusalOf, IfAskedRefused};
@@ -37,7 +36,7 @@ fn written(alloc: Global, tree: &Tree) -> Outcome
 
 // What an operation that is accepted comes to.
 fn worst_of(alloc: Global, accepted: &Accepted, part: Part) -> Outcome
-    requires counted { (some : PartOfCost) → IsCounted accepted.now.plan some }
+    requires counted { (some : PartOfCost) → IsWithinCap accepted.now.plan some }
     ensures { (tree : PlanTree) → HoldsSound accepted.now.plan tree → WorstOfTree part tree result }
 {
     match static_cost::worst(alloc, &accepted.plan, part) {

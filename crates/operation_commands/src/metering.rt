@@ -4,8 +4,7 @@ ghost use Rattle.std.specs.Prelude.{◌≡◌, ◌≤◌, ℕ, List, IfOk, IfErr
 ghost use Rattle.cost_num.specs.declared.TheConstants.{CAP};
 ghost use Rattle.response_model.specs.Plan.{Plan as PlanTree};
 ghost use Rattle.response_model.specs.Cost.{Part as PartOfCost};
-ghost use Rattle.static_cost.specs.TableBound.{HoldsSound};
-ghost use Rattle.static_cost.specs.Worst.{IsCounted};
+ghost use Rattle.plan_table.specs.TableBounds.{HoldsSound, IsWithinCap};
 ghost use Rattle.command_outcomes.specs.Reading.{IsText};
 ghost use Rattle.command_outcomes.specs.Outcomes.{files_told, IsDone};
 ghost use Rattle.operation_commands.specs.Asked.{HoldTexts, IsRefusalOf, IfAskedRefused};
@@ -107,7 +106,7 @@ fn measured(alloc: Global, metered: Metered) -> Outcome
 // What a reply to an operation of this plan comes to.
 fn meter_plan(alloc: Global, plan: &Plan, alias: &str, reply: &[u8]) -> Outcome
     requires sound { (tree : PlanTree) × HoldsSound plan.now tree }
-    requires counted { (part : PartOfCost) → IsCounted plan.now part }
+    requires counted { (part : PartOfCost) → IsWithinCap plan.now part }
     ensures { (tree : PlanTree) → HoldsSound plan.now tree → MeterOfPlan plan.now alias.now tree reply.now result }
 {
     match response_meter::meter(alloc, plan, alias, reply) {

@@ -3,7 +3,7 @@
 ghost use Rattle.std.specs.Prelude.{◌≡◌, ◌≤◌, IfOk, IfErr};
 ghost use Rattle.cost_num.specs.CostText.{cost_text};
 ghost use Rattle.response_model.specs.Cost.{Part as PartOfCost};
-ghost use Rattle.static_cost.specs.Worst.{IsCounted};
+ghost use Rattle.plan_table.specs.TableBounds.{IsWithinCap};
 ghost use Rattle.acceptance.specs.Bounds.{IsAccepted};
 ghost use Rattle.acceptance.specs.Requests.{request_data, IsOfSchema, IsCheckFor};
 ghost use Rattle.command_outcomes.specs.Reading.{IsText};
@@ -53,7 +53,7 @@ fn accepted_request<'a>(
     ensures accepted { IfOk result (λ a. IsAccepted (request_data request.now) a.plan a.bound) }
     ensures checked { IfOk result (λ a. IsCheckFor (request_data request.now) a.checked) }
     ensures schema { IfOk result (λ a. a.plan.schema.now ≡ request.now.schema.now) }
-    ensures counted { IfOk result (λ a. (part : PartOfCost) → IsCounted a.plan part) }
+    ensures counted { IfOk result (λ a. (part : PartOfCost) → IsWithinCap a.plan part) }
     ensures refused { IfErr result (λ fault. IfAskedRefused fault (IsNoOperationOf (request_data request.now))) }
 {
     match accept(alloc, request) {
@@ -76,7 +76,7 @@ pub fn accepted<'a>(
     ensures accepted { IfOk result (λ a. IsAccepted (request_in asked.now inputs.now) a.plan a.bound) }
     ensures checked { IfOk result (λ a. IsCheckFor (request_in asked.now inputs.now) a.checked) }
     ensures schema { IfOk result (λ a. a.plan.schema.now ≡ inputs.now.weighed.schema) }
-    ensures counted { IfOk result (λ a. (part : PartOfCost) → IsCounted a.plan part) }
+    ensures counted { IfOk result (λ a. (part : PartOfCost) → IsWithinCap a.plan part) }
     ensures refused { IfErr result (λ fault. IfAskedRefused fault (IsRefusalOf asked.now texts.now)) }
 {
     built_schemas_can_be_filled();

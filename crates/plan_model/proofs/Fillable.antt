@@ -15,22 +15,23 @@ use Rattle.schema_reader.specs.Schemas.{NameText, FieldDefTree, EnumValueTree, B
 use Rattle.schema_rules.specs.declared.kind.Kind.{Kind}
 use Rattle.schema_rules.specs.declared.kind.Kind.TheVariants.{Scalar, Object, Interface, Union, Enum, Input}
 use Rattle.schema_rules.specs.Kinds.{is_input_only, is_output_only}
-use Rattle.schema_rules.specs.First.{told, first_of}
+use Rattle.schema_rules.specs.First.{fault_where, first_of}
 use Rattle.schema_rules.specs.Items.{ItemTree, type_item, field_item, interface_item, member_item, argument_item, input_field_item, directive_argument_item, root_item_of, field_type_of, enum_value_of, field_items, is_none_of, fielded_items, body_items, definition_items, items_of, place_of, innermost}
 use Rattle.schema_rules.specs.TypeNames.{NamedKind, name_of, with_type, types_defined, with_scalar, with_built_ins, types_of, kind_or_scalar, kind_named}
 use Rattle.schema_rules.specs.Roots.{has_schema}
 use Rattle.schema_rules.specs.WrongKind.{is_wrong, wrong_at, wrong_kind}
 use Rattle.schema_rules.specs.FloatScalar.{is_float_name, is_float, float_at, float_scalar}
 use Rattle.schema_rules.specs.EmptyType.{empty_at, empty_type}
-use Rattle.schema_rules.specs.DirectiveUses.{weight_of}
+use Rattle.schema_rules.specs.DirectiveUses.{given_weight}
 use Rattle.schema_rules.proofs.FirstFaults.{neither, not_told}
-use Rattle.schema_model.specs.Drafts.{FieldDraft, TypeDraft, number_named, or_past, shape_in, shape_of, field_draft, value_name, bare, body_draft, definition_draft, scalar_draft, defined_drafts, drafts_of}
+use Rattle.input_values.specs.inputs.Shapes.{shape_by}
+use Rattle.schema_model.specs.Drafts.{FieldDraft, TypeDraft, number_named, or_past, shape_of, field_draft, value_name, bare, body_draft, definition_draft, scalar_draft, defined_drafts, drafts_of}
 use Rattle.schema_model.specs.Implementing.{draft_at, field_among}
 use Rattle.schema_model.specs.Schemas.{types_from, no_type}
 use Rattle.schema_model.specs.SchemaData.{TypeData, SchemaData, type_at}
 use Rattle.schema_model.specs.SchemaViews.{schema_data}
 use Rattle.schema_model.specs.declared.schema.Schema.{Schema}
-use Rattle.schema_model.specs.Faults.{fault_of_items, fault_of_names, fault_of_types, fault_of_drafts, fault_from_types, fault_from_names, Builds}
+use Rattle.schema_model.specs.Faults.{fault_of_items, fault_of_names, fault_of_types, fault_of_drafts, fault_from_types, fault_from_names, SchemaBuilds}
 use Rattle.cost_directives.proofs.FittingSizes.{unmapped}
 use Rattle.cost_directives.proofs.FirstsFound.{never, found_passes, Standing, standing}
 use Rattle.cost_directives.proofs.DraftedFields.{made, field_or_none}
@@ -118,7 +119,7 @@ module _ (types : List NamedKind) (has : Bool) where
   body_filled name cost directives (interface_body interfaces fields) c = (record { fields = fielded_answered name Interface directives interfaces fields c; names = λ e. absurd (cc) }, tt)
   body_filled name cost directives (union_body members) c = (record { fields = tt; names = λ e. absurd (cc) }, tt)
   body_filled name cost directives (enum_body values) c =
-      let some = not_told (is_none_of values) name ((neither (told (is_none_of values) name) (first_of empty_at (map (enum_value_of name) values)) c.none_empty).0) in
+      let some = not_told (is_none_of values) name ((neither (fault_where (is_none_of values) name) (first_of empty_at (map (enum_value_of name) values)) c.none_empty).0) in
       (record { fields = tt; names = λ e. has_names values some }, tt)
   body_filled name cost directives (input_body fields) c = (record { fields = tt; names = λ e. absurd (cc) }, tt)
 
@@ -129,7 +130,7 @@ module _ (types : List NamedKind) (has : Bool) where
   text_filled : (text : List DefinitionTree) → Clear (items_of text) → AreFilled (defined_drafts types text)
   text_filled [] c = tt
   text_filled (d ∷ text) c = both_filled (definition_draft types d) (defined_drafts types text)
-      (body_filled d.1.0 (weight_of d.1.1) d.1.1 d.1.2 (front_clear (definition_items d) (items_of text) c))
+      (body_filled d.1.0 (given_weight d.1.1) d.1.1 d.1.2 (front_clear (definition_items d) (items_of text) c))
       (text_filled text (back_clear (definition_items d) (items_of text) c))
 
   scalars_filled : (some : List NamedKind) → AreFilled (map scalar_draft some)
@@ -191,7 +192,7 @@ module _ (types : List NamedKind) where
   text_named : (text : List DefinitionTree) → types_defined (items_of text) ≡ map named (defined_drafts types text)
   text_named [] = refl
   text_named (d ∷ text) =
-      body_named d.1.0 (weight_of d.1.1) d.1.1 d.1.2 (items_of text)
+      body_named d.1.0 (given_weight d.1.1) d.1.1 d.1.2 (items_of text)
       ∙ (ap (λ ts. map named (definition_draft types d) ++ ts) (text_named text) ∙ sym (map-append named (definition_draft types d) (defined_drafts types text)))
 
 -- The second list is the first, and scalars behind it.
@@ -236,8 +237,8 @@ drafts_named text =
 
 -- ---- types of the schema
 
-inside_shape : (types : List NamedKind) (nullable : Bool) (t : TypeTree) → inside (shape_in types nullable t) ≡ number_named types (innermost t)
-unfolding shape_in innermost
+inside_shape : (types : List NamedKind) (nullable : Bool) (t : TypeTree) → inside (shape_by (number_named types) nullable t) ≡ number_named types (innermost t)
+unfolding shape_by innermost
 inside_shape types nullable (named_type name at) = refl
 inside_shape types nullable (list_type t) = inside_shape types true t
 inside_shape types nullable (non_null_type t) = inside_shape types false t
@@ -316,8 +317,8 @@ module _ (form : ℕ → InputForm) (items : List ItemTree) (types : List NamedK
         subst (λ n. CanFill (type_at whole n).kind (type_at whole n)) (sym at) (named_filled (innermost a.type) a.no_float a.no_input (sym (ap (λ n. is_composite whole n) at) ∙ leaf))
   ]
 
-pub built_filled : (text : List DefinitionTree) (schema : Schema) → Builds text (Ok schema) → CanBeFilled (schema_data schema)
-unfolding Builds
+pub built_filled : (text : List DefinitionTree) (schema : Schema) → SchemaBuilds text (Ok schema) → CanBeFilled (schema_data schema)
+unfolding SchemaBuilds
 built_filled text schema built =
     let items = items_of text in
     let types = types_of items in

@@ -4,7 +4,7 @@ use Rattle.std.proofs.lemmas.Bool.{cases_Bool}
 use Rattle.std.proofs.lemmas.Slice.Eq.{bytes_eq-Decides}
 use Rattle.std.specs.List.{list_any}
 use Rattle.response_model.specs.Plan.{Selected, Plan, position, ObjectTypes, object_type, Nodes, node}
-use Rattle.schema_rules.specs.First.{or_else, told, first_of}
+use Rattle.schema_rules.specs.First.{or_else, fault_where, first_of}
 use Rattle.plan_model.specs.SelectedFields.{Setting, FieldCall, HandedSize, Place, leaf_place, object_place, types_of, lacks_types, place_at, arguments_at, if_coerced, form_at, size_at, weight_at, cost_at, hands_at}
 use Rattle.plan_model.specs.Collecting.{CollectedField, WrittenSelections, fields_written, fields_spread, collected, nesting}
 use Rattle.plan_model.specs.SameArguments.{same_arguments}
@@ -69,7 +69,7 @@ module _ (e : Setting) (T : ℕ) where
 
   abbrev fault_by : HandedSize → FieldCall → Bool → Option NodeFault → Bool → Option NodeFault
   fault_by handed c names refused arguments =
-      or_else (told names conflict) (or_else refused (or_else (told arguments conflict) (or_else (size_fault e T handed c) (told (lacks_types (place_at e T c)) no_possible_type))))
+      or_else (fault_where names conflict) (or_else refused (or_else (fault_where arguments conflict) (or_else (size_fault e T handed c) (fault_where (lacks_types (place_at e T c)) no_possible_type))))
 
   pub same_fault : (handed : HandedSize) (xs ys : List CollectedField) → LeavesOutRepeats xs ys → fault_of e T handed xs ≡ fault_of e T handed ys
   same_fault handed xs ys t =

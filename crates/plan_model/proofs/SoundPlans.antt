@@ -2,21 +2,21 @@
 use Rattle.std.proofs.Common.{◌≡◌, ℕ, zero, suc, List, [], ◌∷◌, map, flat_map, Bool, false, ◌||◌, eqb, Option, Some, None, refl, ap, ◌∙◌}
 use Rattle.response_model.specs.Plan.{Form, single, listed, Plan, is_possible}
 use Rattle.response_model.specs.Bound.{IsCountable, HasType, IsSound, TypesSound, NodesSound}
-use Rattle.schema_rules.specs.First.{or_else, told, first_of}
+use Rattle.schema_rules.specs.First.{or_else, fault_where, first_of}
 use Rattle.schema_rules.proofs.FirstFaults.{neither, not_told}
 use Rattle.plan_model.specs.SelectedFields.{Setting, Place, leaf_place, object_place, types_of, lacks_types, holds, form_at, place_at, size_at}
 use Rattle.plan_model.specs.Merging.{Position, keys_at, first_call, fields_under, call_under, below_key}
 use Rattle.plan_model.specs.Responses.{is_among}
 use Rattle.plan_model.specs.Visits.{NodeFault, conflict, no_possible_type, names_differ, argument_fault, arguments_differ, size_fault, fault_of, Visit, visits_of_key, visits_of_type, too_deep_at, deepest_visits, visits, planned_nodes, planned_types, planned_at, nothing_planned, planned}
-use Rattle.plan_model.specs.Sound.{AreDistinct, IsSoundPlace, IsCounted, IsSoundSetting}
+use Rattle.plan_model.specs.Sound.{AreDistinct, IsSoundPlace, IsCountablePlace, IsSoundSetting}
 use Rattle.plan_model.proofs.FaultlessPlans.{NoFault, none_in_front, none_behind, own_none, inner_none}
 
-last_of_five : (a b c d : Option NodeFault) (test : Bool) (fault : NodeFault) → or_else a (or_else b (or_else c (or_else d (told test fault)))) ≡ None → test ≡ false
+last_of_five : (a b c d : Option NodeFault) (test : Bool) (fault : NodeFault) → or_else a (or_else b (or_else c (or_else d (fault_where test fault)))) ≡ None → test ≡ false
 last_of_five a b c d test fault h =
-    let after_a = (neither a (or_else b (or_else c (or_else d (told test fault)))) h).1 in
-    let after_b = (neither b (or_else c (or_else d (told test fault))) after_a).1 in
-    let after_c = (neither c (or_else d (told test fault)) after_b).1 in
-    not_told test fault ((neither d (told test fault) after_c).1)
+    let after_a = (neither a (or_else b (or_else c (or_else d (fault_where test fault)))) h).1 in
+    let after_b = (neither b (or_else c (or_else d (fault_where test fault))) after_a).1 in
+    let after_c = (neither c (or_else d (fault_where test fault)) after_b).1 in
+    not_told test fault ((neither d (fault_where test fault) after_c).1)
 
 module _ (e : Setting) where
   same_possible : (made : Place → Position → Plan) (p : Position) (T : ℕ) (Ts : List ℕ) → is_possible T (planned_types e made p Ts) ≡ is_among T Ts
@@ -30,15 +30,15 @@ module _ (e : Setting) where
   has_some : (T : ℕ) (p : Position) (k : List ℕ) → fault_of e T p.handed (fields_under e T k p) ≡ None → lacks_types (place_at e T (call_under e T k p)) ≡ false
   has_some T p k h =
       let fs = fields_under e T k p in
-      last_of_five (told (names_differ fs) conflict) (first_of (argument_fault e T) fs) (told (arguments_differ e T fs) conflict) (size_fault e T p.handed (first_call fs)) (lacks_types (place_at e T (first_call fs))) no_possible_type h
+      last_of_five (fault_where (names_differ fs) conflict) (first_of (argument_fault e T) fs) (fault_where (arguments_differ e T fs) conflict) (size_fault e T p.handed (first_call fs)) (lacks_types (place_at e T (first_call fs))) no_possible_type h
 
-  countable : (made : Place → Position → Plan) (form : Form) (size : Option ℕ) (place : Place) (p : Position) → IsCounted form size place → IsCountable form size (planned_at e made place p)
+  countable : (made : Place → Position → Plan) (form : Form) (size : Option ℕ) (place : Place) (p : Position) → IsCountablePlace form size place → IsCountable form size (planned_at e made place p)
   countable made (single nullable) size place p h = tt
   countable made (listed nullable item_nullable) (Some size) place p h = tt
   countable made (listed nullable item_nullable) None (leaf_place type weight fill) p h = h
   countable made (listed nullable item_nullable) None (object_place Ts) p h = absurd h
 
-  countable_to : (levels : ℕ) (form : Form) (size : Option ℕ) (place : Place) (p : Position) → IsCounted form size place → IsCountable form size (planned e levels place p)
+  countable_to : (levels : ℕ) (form : Form) (size : Option ℕ) (place : Place) (p : Position) → IsCountablePlace form size place → IsCountable form size (planned e levels place p)
   unfolding planned
   countable_to zero form size place p h = countable nothing_planned form size place p h
   countable_to (suc levels) form size place p h = countable (planned e levels) form size place p h
@@ -47,7 +47,7 @@ module _ (e : Setting) where
     -- in these what is planned deeper is sound where what is visited deeper has no fault
     module _ (seen : List ℕ → Position → List Visit) (made : Place → Position → Plan)
         (deeper : (place : Place) (p : Position) → IsSoundPlace e place → lacks_types place ≡ false → NoFault (seen (types_of place) p) → IsSound (holds e.schema) (made place p))
-        (counted : (form : Form) (size : Option ℕ) (place : Place) (p : Position) → IsCounted form size place → IsCountable form size (made place p)) where
+        (counted : (form : Form) (size : Option ℕ) (place : Place) (p : Position) → IsCountablePlace form size place → IsCountable form size (made place p)) where
       nodes_sound : (T : ℕ) (p : Position) (ks : List (List ℕ)) → NoFault (flat_map (visits_of_key e seen p T) ks) → NodesSound (holds e.schema) (planned_nodes e made p T ks)
       nodes_sound T p [] h = tt
       nodes_sound T p (k ∷ ks) h =

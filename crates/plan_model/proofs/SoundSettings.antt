@@ -26,7 +26,7 @@ use Rattle.cost_directives.proofs.LookedUp.{holds_free_leaves}
 use Rattle.document_rules.specs.Sites.{typename, Meaning, no_position, no_such_field, name_of_type, known_field, is_composite, field_or_none, meaning_on, type_of_field}
 use Rattle.plan_model.specs.SelectedFields.{Setting, FieldCall, HandedSize, form_of_shape, form_of, scalar_fill, first_name, fill_by, fill_of, scalar_holds, holds_by, holds, place_of_type, place_of, if_coerced, handed_in, size_answer, length_in, size_in, meaning_at, form_at, place_at, arguments_at, size_answer_at, size_at}
 use Rattle.plan_model.specs.Responses.{is_among}
-use Rattle.plan_model.specs.Sound.{AreDistinct, IsSoundPlace, IsCounted, IsSoundSetting, HasName, CanFill, IsOfSchema}
+use Rattle.plan_model.specs.Sound.{AreDistinct, IsSoundPlace, IsCountablePlace, IsSoundSetting, HasName, CanFill, IsOfSchema}
 
 -- ---- possible types
 
@@ -158,13 +158,13 @@ module _ (e : Setting) (undeclared : ℕ) (of_schema : IsOfSchema undeclared e) 
 
   -- ---- lists
 
-  weighs_nothing : (field : ℕ) → HoldsFreeLeaves e.schema e.weights (field_at e.schema field) → (nullable item_nullable : Bool) → IsCounted (listed nullable item_nullable) None (place_of_type e (type_of_field e.schema field))
+  weighs_nothing : (field : ℕ) → HoldsFreeLeaves e.schema e.weights (field_at e.schema field) → (nullable item_nullable : Bool) → IsCountablePlace (listed nullable item_nullable) None (place_of_type e (type_of_field e.schema field))
   weighs_nothing field free nullable item_nullable =
       let same : type_inside (field_at e.schema field).shape ≡ type_of_field e.schema field = same_inside (field_at e.schema field).shape in
       let leaf : is_composite e.schema (type_of_field e.schema field) ≡ false = leaf_is_no_object (type_at e.schema (type_of_field e.schema field)).kind (subst (λ of. is_leaf (type_at e.schema of).kind ≡ true) same free.of_leaves) in
       rw (leaf) (subst (λ of. (type_in e.weights of).weight ≡ 0) same free.free)
 
-  any_counted : (field : ℕ) (answer : Result Size SizeFault) → (answer ≡ Ok Any → HoldsFreeLeaves e.schema e.weights (field_at e.schema field)) → (nullable item_nullable : Bool) → IsCounted (listed nullable item_nullable) (length_in answer) (place_of_type e (type_of_field e.schema field))
+  any_counted : (field : ℕ) (answer : Result Size SizeFault) → (answer ≡ Ok Any → HoldsFreeLeaves e.schema e.weights (field_at e.schema field)) → (nullable item_nullable : Bool) → IsCountablePlace (listed nullable item_nullable) (length_in answer) (place_of_type e (type_of_field e.schema field))
   any_counted field (Ok Any) free nullable item_nullable = weighs_nothing field (free refl) nullable item_nullable
   any_counted field (Ok (At size)) free nullable item_nullable = tt
   any_counted field (Err fault) free nullable item_nullable = tt
@@ -173,11 +173,11 @@ module _ (e : Setting) (undeclared : ℕ) (of_schema : IsOfSchema undeclared e) 
   free_leaves field args handed any = subst (λ (w : WeightsData). HoldsFreeLeaves e.schema w (field_at e.schema field)) (sym of_schema.weights)
       (holds_free_leaves e.schema undeclared field args handed (subst (λ (w : WeightsData). declared_size_in w field args handed ≡ Ok Any) of_schema.weights any))
 
-  shape_counted : (field : ℕ) (shape : ShapeTree) (answer : Result Size SizeFault) → (answer ≡ Ok Any → HoldsFreeLeaves e.schema e.weights (field_at e.schema field)) → IsCounted (form_of_shape shape) (size_in (form_of_shape shape) answer) (place_of_type e (type_of_field e.schema field))
+  shape_counted : (field : ℕ) (shape : ShapeTree) (answer : Result Size SizeFault) → (answer ≡ Ok Any → HoldsFreeLeaves e.schema e.weights (field_at e.schema field)) → IsCountablePlace (form_of_shape shape) (size_in (form_of_shape shape) answer) (place_of_type e (type_of_field e.schema field))
   shape_counted field (named_shape of nullable) answer free = tt
   shape_counted field (list_shape item nullable) answer free = any_counted field answer free nullable (is_nullable item)
 
-  meaning_counted : (T : ℕ) (m : Meaning) (args : List ArgData) (handed : Option ℕ) → IsCounted (form_of e.schema m) (size_in (form_of e.schema m) (size_answer e m args handed)) (place_of e T m)
+  meaning_counted : (T : ℕ) (m : Meaning) (args : List ArgData) (handed : Option ℕ) → IsCountablePlace (form_of e.schema m) (size_in (form_of e.schema m) (size_answer e m args handed)) (place_of e T m)
   meaning_counted T (known_field field) args handed = shape_counted field (field_at e.schema field).shape (declared_size_in e.weights field args handed) (free_leaves field args handed)
   meaning_counted T name_of_type args handed = tt
   meaning_counted T no_such_field args handed = tt
@@ -187,7 +187,7 @@ module _ (e : Setting) (undeclared : ℕ) (of_schema : IsOfSchema undeclared e) 
   unfolding place_at
   place_sound_at T c = meaning_sound T c.name
 
-  list_counted_at : (T : ℕ) (c : FieldCall) (handed : HandedSize) → IsCounted (form_at e T c) (size_at e T c handed) (place_at e T c)
+  list_counted_at : (T : ℕ) (c : FieldCall) (handed : HandedSize) → IsCountablePlace (form_at e T c) (size_at e T c handed) (place_at e T c)
   unfolding form_at size_at size_answer_at place_at
   list_counted_at T c handed = meaning_counted T (meaning_at e T c) (if_coerced (arguments_at e T c)) (handed_in (form_of e.schema (meaning_at e T c)) handed c.name)
 

@@ -8,6 +8,7 @@ pub mod Responses
 pub mod SameArguments
 pub mod Visits
 pub mod Operations
+pub mod PlanLaws
 -- What plans rest on: sound settings, and the walk that enters each fragment once.
 pub mod Sound
 pub mod Repeats

@@ -1,6 +1,6 @@
 -- A field where it is selected for objects of an object type: what its value is, what it weighs, how long its lists are, and
 -- what is refused (GraphQL October 2021, 6.4; IBM GraphQL Cost Directives Specification).
-use Rattle.std.specs.Prelude.{ℕ, ◌^◌, pos, neg_ℤ, ℤ, int_le, int_lt, Bool, true, false, not, ◌&&◌, is_some, List, [], ◌∷◌, option_map, Option, None, Some, Result, Ok, Err, if◌then◌else◌}
+use Rattle.std.specs.Prelude.{ℕ, ℤ, Bool, true, false, not, ◌&&◌, is_some, List, [], ◌∷◌, option_map, Option, None, Some, Result, Ok, Err, if◌then◌else◌}
 use Rattle.std.specs.List.{list_any}
 use Rattle.std.specs.Str.{bytes_eq}
 use Rattle.serde_json.specs.Data.{Data, boolean, number, string, unsigned}
@@ -8,6 +8,7 @@ use Rattle.serde_json.specs.Find.{as_integer}
 use Rattle.serde_json.specs.Written.{has_float}
 use Rattle.gql_base.specs.names.Names.{first_of_name}
 use Rattle.gql_base.specs.parts.Values.{NamedValue}
+use Rattle.gql_base.specs.parts.Ints.{is_int}
 use Rattle.input_values.specs.inputs.Shapes.{ShapeTree, named_shape, list_shape, is_nullable}
 use Rattle.input_values.specs.coercion.Given.{Given}
 use Rattle.input_values.specs.coercion.Literals.{Environment, literal_given}
@@ -81,14 +82,14 @@ fill_by kind t = scalar_fill (scalar_kind t.name)
 abbrev pub fill_of : SchemaData → ℕ → Data
 fill_of s of = fill_by (type_at s of).kind (type_at s of)
 
--- a whole number of 32 bits with its sign
-abbrev pub has_32_bits : Option ℤ → Bool
-has_32_bits None = false
-has_32_bits (Some z) = int_le (neg_ℤ (pos (2 ^ 31))) z && int_lt z (pos (2 ^ 31))
+-- a whole number, and an Int
+abbrev pub is_some_int : Option ℤ → Bool
+is_some_int None = false
+is_some_int (Some z) = is_int z
 
 -- What a scalar holds (GraphQL October 2021, 3.5). A custom scalar holds every value whose numbers are whole.
 abbrev pub scalar_holds : InputKind → Data → Bool
-scalar_holds Int (number n) = has_32_bits (as_integer n)
+scalar_holds Int (number n) = is_some_int (as_integer n)
 scalar_holds String (string text) = true
 scalar_holds Boolean (boolean b) = true
 scalar_holds Id (string text) = true
@@ -202,11 +203,11 @@ sized_by e no_position = []
 
 -- ---- its weight, and what its arguments cost
 
-abbrev pub weight_of : Setting → Meaning → ℕ
-weight_of e (known_field field) = (field_in e.weights field).weight
-weight_of e name_of_type = 0
-weight_of e no_such_field = 0
-weight_of e no_position = 0
+abbrev pub meaning_weight : Setting → Meaning → ℕ
+meaning_weight e (known_field field) = (field_in e.weights field).weight
+meaning_weight e name_of_type = 0
+meaning_weight e no_such_field = 0
+meaning_weight e no_position = 0
 
 abbrev pub cost_of : Setting → Meaning → List ArgData → ℕ
 cost_of e (known_field field) args = argument_cost_in e.weights field args
@@ -240,7 +241,7 @@ module _ (e : Setting) (T : ℕ) (c : FieldCall) where
   hands_at = option_map (λ size. (sized_by e meaning_at, size)) (length_in (size_answer_at None))
 
   unfoldable pub weight_at : ℕ
-  weight_at = weight_of e meaning_at
+  weight_at = meaning_weight e meaning_at
 
   unfoldable pub cost_at : ℕ
   cost_at = cost_of e meaning_at (if_coerced arguments_at)

@@ -22,16 +22,16 @@ IsSoundPlace e (leaf_place type weight fill) = (is_null fill ≡ false) × IsLea
 IsSoundPlace e (object_place Ts) = AreDistinct Ts
 
 -- Only lists of leaves that weigh nothing may have any length.
-abbrev pub IsCounted : Form → Option ℕ → Place → Type 0
-IsCounted (single nullable) size place = Unit {0}
-IsCounted (listed nullable item_nullable) (Some size) place = Unit {0}
-IsCounted (listed nullable item_nullable) None (leaf_place type weight fill) = weight ≡ 0
-IsCounted (listed nullable item_nullable) None (object_place Ts) = ⊥
+abbrev pub IsCountablePlace : Form → Option ℕ → Place → Type 0
+IsCountablePlace (single nullable) size place = Unit {0}
+IsCountablePlace (listed nullable item_nullable) (Some size) place = Unit {0}
+IsCountablePlace (listed nullable item_nullable) None (leaf_place type weight fill) = weight ≡ 0
+IsCountablePlace (listed nullable item_nullable) None (object_place Ts) = ⊥
 
 -- So it is of every field for objects of every type.
 pub record IsSoundSetting (e : Setting) : Type 0 where
   pub places : (T : ℕ) (c : FieldCall) → IsSoundPlace e (place_at e T c)
-  pub lists : (T : ℕ) (c : FieldCall) (handed : HandedSize) → IsCounted (form_at e T c) (size_at e T c handed) (place_at e T c)
+  pub lists : (T : ℕ) (c : FieldCall) (handed : HandedSize) → IsCountablePlace (form_at e T c) (size_at e T c handed) (place_at e T c)
 
 -- A leaf can be filled where it is an enum that has a name, or a scalar other than `Float`.
 abbrev pub HasName : List (List ℕ) → Type 0

@@ -3,7 +3,7 @@ use Rattle.std.specs.Prelude.{ℕ, zero, suc, Bool, true, false, not, List, [], 
 use Rattle.std.specs.List.{list_any}
 use Rattle.std.specs.Str.{bytes_eq}
 use Rattle.response_model.specs.Plan.{Plan, leaf_plan, position, ObjectTypes, no_type, object_type, Nodes, no_node, node}
-use Rattle.schema_rules.specs.First.{or_else, told, first_of}
+use Rattle.schema_rules.specs.First.{or_else, fault_where, first_of}
 use Rattle.cost_directives.specs.declared.sizes.SizeFault.{SizeFault}
 use Rattle.variable_coercion.specs.Refusals.{Refusal}
 use Rattle.plan_model.specs.SelectedFields.{Setting, FieldCall, HandedSize, Place, leaf_place, object_place, types_of, lacks_types, place_at, arguments_at, size_answer_at, if_coerced, refusal_of, fault_in}
@@ -40,11 +40,11 @@ module _ (e : Setting) (T : ℕ) where
   -- object can stand there.
   abbrev pub fault_of : HandedSize → List CollectedField → Option NodeFault
   fault_of handed fields =
-      or_else (told (names_differ fields) conflict)
+      or_else (fault_where (names_differ fields) conflict)
       (or_else (first_of argument_fault fields)
-      (or_else (told (arguments_differ fields) conflict)
+      (or_else (fault_where (arguments_differ fields) conflict)
       (or_else (size_fault handed (first_call fields))
-      (told (lacks_types (place_at e T (first_call fields))) no_possible_type))))
+      (fault_where (lacks_types (place_at e T (first_call fields))) no_possible_type))))
 
 -- ---- all nodes
 

@@ -5,18 +5,17 @@ ghost use Rattle.gql_base.specs.declared.parts.trees.Argument.{Argument};
 ghost use Rattle.gql_base.specs.parts.Trees.{named_value};
 ghost use Rattle.document_reader.specs.declared.trees.Definition.{Definition};
 ghost use Rattle.document_reader.specs.declared.trees.Operation.{Operation};
-ghost use Rattle.cost_num.specs.Capped.{capped};
 ghost use Rattle.input_values.specs.coercion.Literals.{Environment};
 ghost use Rattle.response_model.specs.Plan.{Form, Plan};
-ghost use Rattle.response_model.specs.Response.{Tree, Fits, SizesKept};
-ghost use Rattle.response_model.specs.Cost.{Part, cost};
-ghost use Rattle.response_model.specs.Bound.{IsSound, greatest_cost};
+ghost use Rattle.response_model.specs.Response.{Tree, Fits};
+ghost use Rattle.response_model.specs.Cost.{Part};
+ghost use Rattle.response_model.specs.Bound.{IsSound};
 ghost use Rattle.schema_rules.specs.First.{first_of};
 ghost use Rattle.schema_model.specs.SchemaData.{SchemaData};
 ghost use Rattle.schema_reader.specs.Schemas.{DefinitionTree};
 ghost use Rattle.schema_model.specs.SchemaViews.{schema_data};
 ghost use Rattle.schema_model.specs.declared.schema.Schema.{Schema};
-ghost use Rattle.schema_model.specs.Faults.{Builds};
+ghost use Rattle.schema_model.specs.Faults.{SchemaBuilds};
 ghost use Rattle.schema_model.specs.Arguments.{ArgData};
 ghost use Rattle.cost_directives.specs.Weights.{WeightsData};
 ghost use Rattle.document_rules.specs.Checking.{first_broken};
@@ -26,14 +25,13 @@ ghost use Rattle.plan_model.specs.SameArguments.{value_of, same_arguments};
 ghost use Rattle.plan_model.specs.Collecting.{CollectedField};
 ghost use Rattle.plan_model.specs.Merging.{Position, fields_at, keys_at, fields_of_key, call_under, selected_under, below_key, position_below};
 ghost use Rattle.plan_model.specs.Plans.{IsPlan, node_count};
-ghost use Rattle.plan_model.specs.Responses.{FitsSelections, KeepsSizes, response_cost, IsBoundOf};
+ghost use Rattle.plan_model.specs.Responses.{FitsSelections};
 ghost use Rattle.plan_model.specs.Visits.{Visit, visits, fault_at, planned, planned_well, answer_of};
-ghost use Rattle.plan_model.specs.Operations.{setting_of, root_position, operation_answer, planned_operation, IsOperationPlan, IsOperationBound};
+ghost use Rattle.plan_model.specs.Operations.{setting_of, root_position, IsPlannedWell, planned_operation, IsOperationPlan, HasGreatestBounds};
+ghost use Rattle.plan_model.specs.PlanLaws.{KeepsAsPlanned, CostsAsPlanned, IsBoundByPlan, IsFaultless};
 ghost use Rattle.plan_model.specs.Sound.{IsSoundSetting, IsSoundPlace, CanBeFilled, IsOfSchema};
 ghost use Rattle.plan_model.specs.Repeats.{LeavesOutRepeats};
 ghost use Rattle.plan_model.specs.MergingWalk.{IsShortened, walked, IsAcyclic};
-
-use cost_num::CAP;
 
 /// The arguments that a document's tree has come to what the written arguments come to.
 pub fn arguments_of_trees()
@@ -54,30 +52,30 @@ pub fn one_plan()
 /// costs the same, up to just above the cap.
 pub fn responses_of_a_plan()
     ensures fit { (e : Setting) (form : Form) (place : Place) (p : Position) (plan : Plan) (t : Tree) → IsPlan e place p plan → FitsSelections e form place p t ↔ Fits (holds e.schema) form plan t }
-    ensures keep { (e : Setting) (form : Form) (size : Option ℕ) (place : Place) (p : Position) (plan : Plan) (t : Tree) → IsPlan e place p plan → FitsSelections e form place p t → KeepsSizes e size place p t ↔ SizesKept size plan t }
-    ensures costs { (e : Setting) (part : Part) (form : Form) (place : Place) (p : Position) (plan : Plan) (t : Tree) → IsPlan e place p plan → FitsSelections e form place p t → capped (cost part plan t) ≡ capped (response_cost e part place p t) }
+    ensures keep { (e : Setting) (form : Form) (size : Option ℕ) (place : Place) (p : Position) (plan : Plan) (t : Tree) → IsPlan e place p plan → KeepsAsPlanned e form size place p plan t }
+    ensures costs { (e : Setting) (part : Part) (form : Form) (place : Place) (p : Position) (plan : Plan) (t : Tree) → IsPlan e place p plan → CostsAsPlanned e part form place p plan t }
 {}
 
 /// A number within the cap is the bound of selections exactly where it is the greatest cost of their plan.
 pub fn bound_of_a_plan()
-    ensures { (e : Setting) (part : Part) (place : Place) (p : Position) (plan : Plan) (n : ℕ) → IsPlan e place p plan → IsSound (holds e.schema) plan → n ≤ CAP → IsBoundOf e part place p n ↔ (greatest_cost part plan ≡ n) }
+    ensures { (e : Setting) (part : Part) (place : Place) (p : Position) (plan : Plan) (n : ℕ) → IsPlan e place p plan → IsSound (holds e.schema) plan → IsBoundByPlan e part place p plan n }
 {}
 
 /// Where no node has a fault, what is planned is the plan; it is sound where the setting is.
 pub fn faultless_plan()
-    ensures is_plan { (e : Setting) (levels : ℕ) (place : Place) (p : Position) → first_of fault_at (visits e levels (types_of place) p) ≡ None → IsPlan e place p (planned e levels place p) }
-    ensures sound { (e : Setting) (levels : ℕ) (place : Place) (p : Position) → IsSoundSetting e → IsSoundPlace e place → lacks_types place ≡ false → first_of fault_at (visits e levels (types_of place) p) ≡ None → IsSound (holds e.schema) (planned e levels place p) }
+    ensures is_plan { (e : Setting) (levels : ℕ) (place : Place) (p : Position) → IsFaultless e levels place p → IsPlan e place p (planned e levels place p) }
+    ensures sound { (e : Setting) (levels : ℕ) (place : Place) (p : Position) → IsSoundSetting e → IsSoundPlace e place → lacks_types place ≡ false → IsFaultless e levels place p → IsSound (holds e.schema) (planned e levels place p) }
 {}
 
 /// Where no node has a fault, what is planned has as many nodes as are visited.
 pub fn nodes_are_counted()
-    ensures { (e : Setting) (levels : ℕ) (place : Place) (p : Position) → first_of fault_at (visits e levels (types_of place) p) ≡ None → node_count (planned e levels place p) ≡ length (visits e levels (types_of place) p) }
+    ensures { (e : Setting) (levels : ℕ) (place : Place) (p : Position) → IsFaultless e levels place p → node_count (planned e levels place p) ≡ length (visits e levels (types_of place) p) }
 {}
 
 /// In a schema that a text says each leaf that a field returns is an enum with a name, or a scalar that isn't `Float`. So
 /// leaves can be filled.
 pub fn built_schemas_can_be_filled()
-    ensures { (text : List DefinitionTree) (schema : Schema) → Builds text (Ok schema) → CanBeFilled (schema_data schema) }
+    ensures { (text : List DefinitionTree) (schema : Schema) → SchemaBuilds text (Ok schema) → CanBeFilled (schema_data schema) }
 {}
 
 /// A setting is sound where its weights are those of its schema, and leaves can be filled.
@@ -94,9 +92,9 @@ pub fn planned_well_is_faultless()
 /// An operation that is planned well has the plan that is planned, which is sound, and a number within the cap is its bound
 /// exactly where it is the greatest cost of this plan.
 pub fn operations_planned_well()
-    ensures plan { (e : Setting) (root : ℕ) (o : Operation) → operation_answer e root o ≡ planned_well → IsOperationPlan e root o (planned_operation e root o) }
-    ensures sound { (e : Setting) (root : ℕ) (o : Operation) → operation_answer e root o ≡ planned_well → (undeclared : ℕ) → IsOfSchema undeclared e → IsSound (holds e.schema) (planned_operation e root o) }
-    ensures bound { (e : Setting) (root : ℕ) (o : Operation) → operation_answer e root o ≡ planned_well → (undeclared : ℕ) → IsOfSchema undeclared e → (part : Part) (n : ℕ) → n ≤ CAP → IsOperationBound e part root o n ↔ (greatest_cost part (planned_operation e root o) ≡ n) }
+    ensures plan { (e : Setting) (root : ℕ) (o : Operation) → IsPlannedWell e root o → IsOperationPlan e root o (planned_operation e root o) }
+    ensures sound { (e : Setting) (root : ℕ) (o : Operation) → IsPlannedWell e root o → (undeclared : ℕ) → IsOfSchema undeclared e → IsSound (holds e.schema) (planned_operation e root o) }
+    ensures bound { (e : Setting) (root : ℕ) (o : Operation) → IsPlannedWell e root o → (undeclared : ℕ) → IsOfSchema undeclared e → HasGreatestBounds e root o }
 {}
 
 /// A position where repeats are left out has the same keys, and at each key the same node, and below it again a position where

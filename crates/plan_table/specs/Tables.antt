@@ -8,7 +8,7 @@ use Rattle.schema_model.specs.SchemaViews.{schema_data}
 use Rattle.cost_directives.specs.Weights.{WeightsData}
 use Rattle.cost_directives.specs.WeightViews.{weights_data}
 use Rattle.document_rules.specs.Sites.{Meaning, name_of_type, known_field}
-use Rattle.plan_model.specs.SelectedFields.{Setting, Place, leaf_place, object_place, form_of, place_of, weight_of}
+use Rattle.plan_model.specs.SelectedFields.{Setting, Place, leaf_place, object_place, form_of, place_of, meaning_weight}
 use Rattle.plan_model.specs.Plans.{type_weight}
 use Rattle.plan_table.specs.declared.rows.NodeRow.{NodeRow}
 use Rattle.plan_table.specs.declared.table.Plan.{Plan}
@@ -36,7 +36,7 @@ selected_of e n = record {
   asked = n.asked;
   form = form_of e.schema (meaning_of n.field);
   size = n.size;
-  weight = weight_of e (meaning_of n.field);
+  weight = meaning_weight e (meaning_of n.field);
   arguments = n.arguments;
 }
 

@@ -3,7 +3,7 @@
 ghost use Rattle.std.specs.Prelude.{◌≡◌, ◌++◌, ◌∷◌, List, [], IfOk, Ok};
 ghost use Rattle.cost_num.specs.CostText.{cost_text};
 ghost use Rattle.schema_reader.specs.Schemas.{DefinitionTree};
-ghost use Rattle.schema_model.specs.Faults.{Builds};
+ghost use Rattle.schema_model.specs.Faults.{SchemaBuilds};
 ghost use Rattle.schema_model.specs.SchemaViews.{schema_data};
 ghost use Rattle.cost_directives.specs.Weights.{weights_of};
 ghost use Rattle.cost_directives.specs.WeightViews.{weights_data};
@@ -24,7 +24,7 @@ use std::alloc::{AllocError, Global};
 const UNDECLARED: u32 = 10;
 
 fn schema_in(alloc: Global, text: &str) -> Result<Schema, &'static str>
-    ensures { IfOk result (λ schema. (text : List DefinitionTree) × Builds text (Ok schema)) }
+    ensures { IfOk result (λ schema. (text : List DefinitionTree) × SchemaBuilds text (Ok schema)) }
 {
     let Ok(text) = read_schema_text(alloc, text) else {
         return Err("the schema file is no schema text");

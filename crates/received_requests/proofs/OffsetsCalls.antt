@@ -5,7 +5,7 @@ use Rattle.gql_base.specs.parts.Values.{NamedValue}
 use Rattle.document_reader.specs.PlacelessDocuments.{argument_placeless}
 use Rattle.schema_model.specs.Arguments.{ArgData}
 use Rattle.document_rules.specs.Sites.{Meaning, no_position, no_such_field, name_of_type, known_field, meaning_on}
-use Rattle.plan_model.specs.SelectedFields.{Setting, FieldCall, HandedSize, place_of, arguments_of, size_answer, sized_by, weight_of, cost_of, form_at, place_at, arguments_at, size_answer_at, size_at, hands_at, weight_at, cost_at, handed_in, if_coerced, length_in, size_in, written_below}
+use Rattle.plan_model.specs.SelectedFields.{Setting, FieldCall, HandedSize, place_of, arguments_of, size_answer, sized_by, meaning_weight, cost_of, form_at, place_at, arguments_at, size_answer_at, size_at, hands_at, weight_at, cost_at, handed_in, if_coerced, length_in, size_in, written_below}
 use Rattle.received_requests.proofs.OffsetsLiterals.{same_coerced}
 use Rattle.received_requests.proofs.OffsetsFields.{e', call_placeless}
 
@@ -34,7 +34,7 @@ module _ (e : Setting) where
   same_sized no_such_field = refl
   same_sized no_position = refl
 
-  weight_by : (m : Meaning) → weight_of (e' e) m ≡ weight_of e m
+  weight_by : (m : Meaning) → meaning_weight (e' e) m ≡ meaning_weight e m
   weight_by (known_field field) = refl
   weight_by name_of_type = refl
   weight_by no_such_field = refl

@@ -18,11 +18,11 @@ use Rattle.input_values.specs.coercion.Forms.{InputForm}
 use Rattle.input_values.specs.coercion.Literals.{no_variables, literal_given, literal_items, literal_fields}
 use Rattle.input_values.specs.coercion.Coercion.{coerced}
 use Rattle.input_values.specs.coercion.Given.{given_list, given_object, given_then, given_field_then, Given}
-use Rattle.input_values.specs.inputs.Shapes.{ShapeTree, list_shape}
+use Rattle.input_values.specs.inputs.Shapes.{ShapeTree, list_shape, shape_by}
 use Rattle.schema_model.specs.SchemaData.{SchemaData}
 use Rattle.schema_model.specs.InputForms.{input_forms}
 use Rattle.variable_coercion.specs.Refusals.{Refusal, fitting, given_value, and_then, all_in_order}
-use Rattle.variable_coercion.specs.Variables.{Declared, VariableData, shape_in, declared_of, variable_refusal, default_answer, value_answer, named_answer, variable_answer, variables_answer}
+use Rattle.variable_coercion.specs.Variables.{Declared, VariableData, number_in, declared_of, variable_refusal, default_answer, value_answer, named_answer, variable_answer, variables_answer}
 use Rattle.typename_rewrite.specs.ForwardedBodies.{members_of, members_where, declares, sent_variables}
 use Rattle.acceptance.specs.Requests.{RequestData, Prepared, AsksFor, AreValues}
 use Rattle.acceptance.proofs.FoundMembers.{equal_bytes, found_later}
@@ -52,8 +52,8 @@ mutual
   fields_alike no_field = refl
   fields_alike (field_then name at v others) = ap₂ (given_field_then name) (literal_alike v) (fields_alike others)
 
-shape_alike : (s : SchemaData) (nullable : Bool) (t : TypeTree) → shape_in s nullable (type_placeless t) ≡ shape_in s nullable t
-unfolding shape_in type_placeless
+shape_alike : (s : SchemaData) (nullable : Bool) (t : TypeTree) → shape_by (number_in s) nullable (type_placeless t) ≡ shape_by (number_in s) nullable t
+unfolding shape_by type_placeless
 shape_alike s nullable (named_type name at) = refl
 shape_alike s nullable (list_type t) = ap (λ (x : ShapeTree). list_shape x nullable) (shape_alike s true t)
 shape_alike s nullable (non_null_type t) = shape_alike s false t
@@ -64,7 +64,7 @@ default_alike form name shape (Some v) = ap (λ (g : Given). given_value (variab
 
 -- a variable as its tree declares it
 abbrev declared_by : SchemaData → VariableTree → Declared
-declared_by s t = record { name = t.0.0; shape = shape_in s true t.1; default = t.2 }
+declared_by s t = record { name = t.0.0; shape = shape_by (number_in s) true t.1; default = t.2 }
 
 abbrev answer_with : (ℕ → InputForm) → List ℕ → Option ValueTree → Option Data → ShapeTree → Result VariableData Refusal
 answer_with form name default given shape = named_answer name (value_answer form record { name = name; shape = shape; default = default } given)
@@ -76,7 +76,7 @@ value_alike form name shape default None = ap (named_answer name) (default_alike
 
 variable_alike : (s : SchemaData) (form : ℕ → InputForm) (given : Data) (t : VariableTree) → variable_answer form given (declared_by s (variable_placeless t)) ≡ variable_answer form given (declared_by s t)
 variable_alike s form given t =
-    value_alike form t.0.0 (shape_in s true (type_placeless t.1)) t.2 (get t.0.0 given) ∙ ap (answer_with form t.0.0 t.2 (get t.0.0 given)) (shape_alike s true t.1)
+    value_alike form t.0.0 (shape_by (number_in s) true (type_placeless t.1)) t.2 (get t.0.0 given) ∙ ap (answer_with form t.0.0 t.2 (get t.0.0 given)) (shape_alike s true t.1)
 
 -- the answer of variables without offsets
 variables_alike : (s : SchemaData) (form : ℕ → InputForm) (given : Data) (vs : List VariableDef)

@@ -19,14 +19,14 @@ use Rattle.schema_rules.specs.declared.kind.Kind.TheVariants.{Scalar}
 use Rattle.schema_rules.specs.Items.{ItemTree, schema_item, root_item, type_item, interface_item, member_item, field_item, argument_item, field_type_item, enum_value_item, input_field_item, directive_item, directive_argument_item, root_item_of, enum_value_of, field_items, field_type_of, body_items, definition_items, items_of, place_of}
 use Rattle.schema_rules.specs.TypeNames.{NamedKind, name_of, with_type, types_defined, with_scalar, with_built_ins, types_of}
 use Rattle.schema_rules.specs.Repeated.{key_of, takes_built_in, earlier, place_at, repeated}
-use Rattle.schema_rules.specs.DirectiveUses.{weight_of}
+use Rattle.schema_rules.specs.DirectiveUses.{given_weight}
 use Rattle.schema_rules.proofs.FirstFaults.{neither}
 use Rattle.schema_model.specs.Drafts.{TypeDraft, body_draft, definition_draft, scalar_draft, defined_drafts, drafts_of}
 use Rattle.schema_model.specs.SchemaData.{TypeData, SchemaData}
 use Rattle.schema_model.specs.SchemaViews.{schema_data}
 use Rattle.schema_model.specs.Schemas.{types_from}
 use Rattle.schema_model.specs.declared.schema.Schema.{Schema}
-use Rattle.schema_model.specs.Faults.{fault_of_items, fault_from_names, Builds}
+use Rattle.schema_model.specs.Faults.{fault_of_items, fault_from_names, SchemaBuilds}
 use Rattle.cost_directives.proofs.FittingSizes.{unmapped}
 use Rattle.cost_directives.proofs.FirstsFound.{both, never}
 use Rattle.response_meter.specs.Metered.{TypesDiffer}
@@ -222,7 +222,7 @@ module _ (types : List NamedKind) where
   text_named (d ∷ text) =
       ap names_of (defined_both (definition_items d) (items_of text))
       ∙ (map-append name_of (types_defined (definition_items d)) (types_defined (items_of text))
-      ∙ (ap₂ (λ (xs ys : List (List ℕ)). xs ++ ys) (body_named d.1.0 (weight_of d.1.1) d.1.1 d.1.2) (text_named text) ∙ sym (map-append draft_name (definition_draft types d) (defined_drafts types text))))
+      ∙ (ap₂ (λ (xs ys : List (List ℕ)). xs ++ ys) (body_named d.1.0 (given_weight d.1.1) d.1.1 d.1.2) (text_named text) ∙ sym (map-append draft_name (definition_draft types d) (defined_drafts types text))))
 
 scalars_named : (types : List NamedKind) → map draft_name (map scalar_draft types) ≡ names_of types
 scalars_named [] = refl
@@ -255,8 +255,8 @@ differ_by_number s differ T U t u same =
     one_place (map type_name s.types) differ T U (omega (arith, t, long)) (omega (arith, u, long))
     (get_or-map type_name s.types T s.other_type [] t ∙ (same ∙ sym (get_or-map type_name s.types U s.other_type [] u)))
 
-pub built_differ : (text : List DefinitionTree) (schema : Schema) → Builds text (Ok schema) → TypesDiffer (schema_data schema)
-unfolding Builds
+pub built_differ : (text : List DefinitionTree) (schema : Schema) → SchemaBuilds text (Ok schema) → TypesDiffer (schema_data schema)
+unfolding SchemaBuilds
 built_differ text schema built =
     let items = items_of text in
     let types = types_of items in

@@ -9,7 +9,7 @@ use Rattle.response_meter.specs.declared.fault.Why.TheVariants.{NotJson, NotObje
 use Rattle.response_meter.specs.Faults.{Fault, at_step, given}
 use Rattle.response_meter.specs.FirstFault.{AreNamed}
 use Rattle.response_model.specs.Errors.{ResponseError, errors_of}
-use Rattle.response_meter.specs.Reply.{json_of, errors_entry, data_entry, DataReads, ReplyReads, IsResponseOrNone, IsReadable, content_fault, reply_fault, first_fault}
+use Rattle.response_meter.specs.Reply.{json_of, errors_entry, data_entry, DataReads, ReplyReads, IsResponseOrNone, IsReadable, content_fault, reply_fault, first_reply_fault}
 use Rattle.response_meter.proofs.Passing.{some_none, step_none, content_reads}
 use Rattle.response_meter.proofs.Reading.{place_passes, value_passes}
 use Rattle.response_meter.proofs.ReadTrees.{data_read}
@@ -31,7 +31,7 @@ object_same (json_object ns) ms h = ap (λ (o : Option Members). json_object (me
     members_in (Some ms) = ms
 
 module _ (holds : ℕ → Data → Bool) (name : ℕ → List ℕ) (alias : List ℕ) where
-  passes_reads : (plan : Plan) (bytes : List ℕ) → first_fault holds name alias plan bytes ≡ None → IsReadable holds name alias plan bytes
+  passes_reads : (plan : Plan) (bytes : List ℕ) → first_reply_fault holds name alias plan bytes ≡ None → IsReadable holds name alias plan bytes
   passes_reads plan bytes h =
       let a = given_some (json_of bytes) NotJson (λ json. given (as_object json) NotObject (λ ms. given (errors_of (errors_entry ms)) BadErrors (λ errors. content_fault holds name alias plan errors (data_entry ms))))
       (step_none (codes "data") (reply_fault holds name alias plan bytes) h) in
@@ -51,7 +51,7 @@ module _ (holds : ℕ → Data → Bool) (name : ℕ → List ℕ) (alias : List
   content_passes plan named [] (Some d) (Some t) r k = place_passes holds name alias (single true) false plan (value_passes holds name alias false plan named) None d t r k.0 k.1
   content_passes plan named (e ∷ es) (Some d) (Some t) r k = place_passes holds name alias (single true) false plan (value_passes holds name alias false plan named) None d t r k.0 k.1
 
-  reads_passes : (plan : Plan) (bytes : List ℕ) → AreNamed name plan → IsReadable holds name alias plan bytes → first_fault holds name alias plan bytes ≡ None
+  reads_passes : (plan : Plan) (bytes : List ℕ) → AreNamed name plan → IsReadable holds name alias plan bytes → first_reply_fault holds name alias plan bytes ≡ None
   reads_passes plan bytes named read =
       let r = read.2 in
       ap (at_step (codes "data"))
@@ -59,7 +59,7 @@ module _ (holds : ℕ → Data → Bool) (name : ℕ → List ℕ) (alias : List
       ∙ ap (λ o. given o BadErrors (λ errors. content_fault holds name alias plan errors (data_entry r.members))) r.errors_read
       ∙ content_passes plan named read.1 (data_entry r.members) read.0 r.data_read read.3)
 
-  pub fault_or_reads : (plan : Plan) (bytes : List ℕ) → AreNamed name plan → (first_fault holds name alias plan bytes ≡ None) ↔ IsReadable holds name alias plan bytes
+  pub fault_or_reads : (plan : Plan) (bytes : List ℕ) → AreNamed name plan → (first_reply_fault holds name alias plan bytes ≡ None) ↔ IsReadable holds name alias plan bytes
   fault_or_reads plan bytes named = (passes_reads plan bytes, reads_passes plan bytes named)
 
 told : (o : Option Fault) (P : Type 0) → (o ≡ None → P) → (P → ⊥) → (f : Fault) × (o ≡ Some f)

@@ -19,7 +19,7 @@ use Rattle.plan_table.specs.declared.rows.NodeRow.{NodeRow}
 use Rattle.plan_table.specs.Rows.{PossibleType, Row, types_in, below_in, rows_below, rows_of_types, rows_of_nodes}
 use Rattle.plan_table.specs.Tables.{IsAlone, row_of, setting_in, weighed}
 use Rattle.plan_model.specs.Plans.{type_weight}
-use Rattle.static_cost.specs.TableBound.{holds_in, HoldsSound}
+use Rattle.plan_table.specs.TableBounds.{holds_in, HoldsSound}
 use Rattle.plan_table.proofs.RowOrder.{ends_deeper, nodes_end, types_end}
 use Rattle.plan_table.proofs.RowTotals.{row_at}
 use Rattle.plan_table.proofs.TreesAgain.{no_nodes_of}

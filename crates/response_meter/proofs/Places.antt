@@ -19,7 +19,7 @@ use Rattle.plan_table.specs.Looked.{below_seen}
 use Rattle.plan_model.specs.Plans.{type_weight}
 use Rattle.plan_table.specs.Rows.{PossibleType, Below, leaf_below, objects_below}
 use Rattle.plan_table.specs.Tables.{row_in, weighed}
-use Rattle.static_cost.specs.TableBound.{holds_in}
+use Rattle.plan_table.specs.TableBounds.{holds_in}
 use Rattle.response_meter.specs.declared.fault.MeterFault.{MeterFault}
 use Rattle.response_meter.specs.declared.fault.Why.TheVariants.{BadLeaf, NullHere, NotList, MissingKey, BadType, BadObject}
 use Rattle.response_meter.specs.declared.nested.Node.{Node}

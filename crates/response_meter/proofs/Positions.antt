@@ -9,7 +9,7 @@ use Rattle.response_model.specs.Response.{null, is_null}
 use Rattle.input_values.specs.declared.inputs.shape.TypeId.{TypeId}
 use Rattle.plan_table.specs.Rows.{PossibleType}
 use Rattle.plan_table.specs.Tables.{row_in, weighed}
-use Rattle.static_cost.specs.TableBound.{holds_in}
+use Rattle.plan_table.specs.TableBounds.{holds_in}
 use Rattle.response_meter.specs.declared.fault.MeterFault.{MeterFault}
 use Rattle.response_meter.specs.declared.fault.Why.TheVariants.{NullHere, BadType, BadObject}
 use Rattle.response_meter.specs.declared.nested.Node.{Node}

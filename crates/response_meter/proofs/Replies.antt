@@ -13,8 +13,7 @@ use Rattle.response_model.specs.Response.{Tree}
 use Rattle.response_model.specs.Cost.{Part, types, fields, cost}
 use Rattle.response_model.specs.Bound.{IsBound}
 use Rattle.plan_table.specs.declared.table.Plan.{Plan as Table}
-use Rattle.static_cost.specs.TableBound.{holds_in, HoldsSound}
-use Rattle.static_cost.specs.Worst.{IsCounted}
+use Rattle.plan_table.specs.TableBounds.{holds_in, HoldsSound, IsWithinCap}
 use Rattle.response_meter.specs.declared.metered.Metered.{Metered}
 use Rattle.response_meter.specs.declared.readings.Reading.{Reading}
 use Rattle.response_model.specs.Errors.{ResponseError, errors_of, has_errors}
@@ -65,7 +64,7 @@ reply_found by bytes start first second whole plan m some (array ds) o p j h s e
 reply_found by bytes start first second whole plan m some (json_object ms) o p j h s eo w ep measured t text = object_found by bytes start first second whole plan m some ms o p j s eo w ep measured t text
 
 -- what a response of a plan that is counted costs
-counted : (p : Table) (part : Part) (plan : Plan) (t : Option Tree) → IsCounted p part → HoldsSound p plan → IsResponseOrNone (holds_in p) plan t → reply_cost part plan t ≤ CAP
+counted : (p : Table) (part : Part) (plan : Plan) (t : Option Tree) → IsWithinCap p part → HoldsSound p plan → IsResponseOrNone (holds_in p) plan t → reply_cost part plan t ≤ CAP
 counted p part plan None within sound is = zero-le
 counted p part plan (Some t) within sound is = ⊎_elim
     (λ (more : CAP < cost part plan t). absurd (within plan sound (t, is, more)))
@@ -82,7 +81,7 @@ exact c x b e l m = omega arith
 capped_within : (c x b : ℕ) → c ≡ capped x → x ≤ b → c ≤ b
 capped_within c x b e l = omega arith
 
-pub found_metered : (by : Reading) (plan : Plan) (bytes : List ℕ) (m : Metered) → Found by plan bytes m → ((part : Part) → IsCounted by.of.now part) → HoldsSound by.of.now plan → IsMetered by.of.now by.alias.now plan bytes m
+pub found_metered : (by : Reading) (plan : Plan) (bytes : List ℕ) (m : Metered) → Found by plan bytes m → ((part : Part) → IsWithinCap by.of.now part) → HoldsSound by.of.now plan → IsMetered by.of.now by.alias.now plan bytes m
 found_metered by plan bytes m f within sound =
     let tree = content_tree by plan (data_entry f.members) in
     let r = content_reads (holds_in by.of.now) (name_in by.of.now) by.alias.now plan f.errors (data_entry f.members) f.no_fault in

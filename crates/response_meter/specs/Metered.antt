@@ -9,9 +9,9 @@ use Rattle.response_model.specs.Errors.{ResponseError}
 use Rattle.response_model.specs.ResponseText.{response_text}
 use Rattle.plan_table.specs.declared.table.Plan.{Plan}
 use Rattle.plan_table.specs.Tables.{setting_in}
-use Rattle.static_cost.specs.TableBound.{holds_in}
+use Rattle.plan_table.specs.TableBounds.{holds_in}
 use Rattle.response_meter.specs.Faults.{Fault}
-use Rattle.response_meter.specs.Reply.{ReplyReads, IsResponseOrNone, IsReadable, first_fault, reply_cost}
+use Rattle.response_meter.specs.Reply.{ReplyReads, IsResponseOrNone, IsReadable, first_reply_fault, reply_cost}
 use Rattle.response_meter.specs.declared.metered.Metered.{Metered}
 
 -- The name of the type of a number, in the plan's schema.
@@ -24,7 +24,7 @@ TypesDiffer s = (T U : ℕ) → T < length s.types → U < length s.types → (t
 
 -- The first test that a reply does not pass, where the type names of objects were added under this alias.
 abbrev pub first_fault_in : Plan → List ℕ → PlanTree → List ℕ → Option Fault
-first_fault_in p alias tree bytes = first_fault (holds_in p) (name_in p) alias tree bytes
+first_fault_in p alias tree bytes = first_reply_fault (holds_in p) (name_in p) alias tree bytes
 
 -- A reply reads, and its data, if any, is a response.
 abbrev pub IsReadableIn : Plan → List ℕ → PlanTree → List ℕ → Type 0

@@ -69,16 +69,16 @@ module _ (holds : ℕ → Data → Bool) (name : ℕ → List ℕ) (alias : List
   reply_fault plan bytes = given (json_of bytes) NotJson (λ json. given (as_object json) NotObject (λ ms. entries_fault plan ms))
 
   -- Its path begins at the data.
-  abbrev pub first_fault : Plan → List ℕ → Option Fault
-  first_fault plan bytes = at_step (codes "data") (reply_fault plan bytes)
+  abbrev pub first_reply_fault : Plan → List ℕ → Option Fault
+  first_reply_fault plan bytes = at_step (codes "data") (reply_fault plan bytes)
 
   -- A reply passes every test exactly where it reads and its data, if any, is a response.
   abbrev pub PassesWhereReadable : Plan → List ℕ → Type 0
-  PassesWhereReadable plan bytes = (first_fault plan bytes ≡ None) ↔ IsReadable holds name alias plan bytes
+  PassesWhereReadable plan bytes = (first_reply_fault plan bytes ≡ None) ↔ IsReadable holds name alias plan bytes
 
   -- There is a first fault exactly where it doesn't, or its data is no response.
   abbrev pub FailsWhereUnreadable : Plan → List ℕ → Type 0
-  FailsWhereUnreadable plan bytes = ((fault : Fault) × (first_fault plan bytes ≡ Some fault)) ↔ (IsReadable holds name alias plan bytes → ⊥)
+  FailsWhereUnreadable plan bytes = ((fault : Fault) × (first_reply_fault plan bytes ≡ Some fault)) ↔ (IsReadable holds name alias plan bytes → ⊥)
 
 -- What a reply costs: that of its data, or nothing where it has none.
 abbrev pub reply_cost : Part → Plan → Option Tree → ℕ

@@ -12,7 +12,7 @@ use Rattle.response_model.specs.ResponseText.{key_text, tree_text, elements_text
 use Rattle.plan_model.specs.SelectedFields.{Setting}
 use Rattle.plan_model.specs.Plans.{type_weight}
 use Rattle.plan_table.specs.Tables.{setting_in, row_in, weighed}
-use Rattle.static_cost.specs.TableBound.{holds_in}
+use Rattle.plan_table.specs.TableBounds.{holds_in}
 use Rattle.response_meter.specs.declared.fault.MeterFault.{MeterFault}
 use Rattle.response_meter.specs.declared.fault.Why.TheVariants.{BadErrors, MissingKey, ExtraKey}
 use Rattle.response_meter.specs.declared.forms.ValueForm.{ValueForm}

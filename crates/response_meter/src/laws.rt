@@ -5,7 +5,7 @@ ghost use Rattle.serde_json.specs.Data.{Data};
 ghost use Rattle.response_model.specs.Plan.{Plan};
 ghost use Rattle.schema_reader.specs.Schemas.{DefinitionTree};
 ghost use Rattle.schema_model.specs.declared.schema.Schema.{Schema};
-ghost use Rattle.schema_model.specs.Faults.{Builds};
+ghost use Rattle.schema_model.specs.Faults.{SchemaBuilds};
 ghost use Rattle.schema_model.specs.SchemaViews.{schema_data};
 ghost use Rattle.plan_table.specs.declared.table.Plan.{Plan as PlanTable};
 ghost use Rattle.plan_table.specs.Tables.{HasRows, setting_in};
@@ -35,6 +35,6 @@ pub fn named_tables()
 /// The types of a schema that a text says have different names. So have the possible types of each position of what a table of this
 /// schema holds, and what fills a type name there is a string.
 pub fn types_of_built_schemas_differ()
-    ensures differ { (text : List DefinitionTree) (schema : Schema) → Builds text (Ok schema) → TypesDiffer (schema_data schema) }
-    ensures named { (text : List DefinitionTree) (table : PlanTable) (tree : Plan) → Builds text (Ok table.schema.now) → HasRows table tree → AreNamed (name_in table) tree }
+    ensures differ { (text : List DefinitionTree) (schema : Schema) → SchemaBuilds text (Ok schema) → TypesDiffer (schema_data schema) }
+    ensures named { (text : List DefinitionTree) (table : PlanTable) (tree : Plan) → SchemaBuilds text (Ok table.schema.now) → HasRows table tree → AreNamed (name_in table) tree }
 {}

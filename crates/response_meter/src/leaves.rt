@@ -9,6 +9,7 @@ ghost use Rattle.schema_model.specs.SchemaViews.{schema_data};
 ghost use Rattle.plan_model.specs.SelectedFields.{scalar_holds, enum_holds, holds};
 ghost use Rattle.response_meter.specs.FirstFault.{is_text};
 
+use gql_base::is_int;
 use input_values::{InputKind, InputTypes, TypeId, scalar_kind};
 use schema_model::{Kind, Schema};
 use serde_json::{Map, Value};
@@ -55,9 +56,7 @@ fn scalar_holds(kind: InputKind, value: &Value) -> bool
     ensures { result ≡ scalar_holds kind (view value.now) }
 {
     match (kind, value) {
-        (InputKind::Int, Value::Number(number)) => {
-            number.as_i128().is_some_and(|n| i32::try_from(n).is_ok())
-        }
+        (InputKind::Int, Value::Number(number)) => number.as_i128().is_some_and(is_int),
         (InputKind::String | InputKind::Id, Value::String(_)) => true,
         (InputKind::Boolean, Value::Bool(_)) => true,
         (InputKind::Id, Value::Number(number)) => number.as_i128().is_some(),

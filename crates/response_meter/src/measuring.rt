@@ -5,8 +5,7 @@ ghost use Rattle.serde_json.specs.View.{view};
 ghost use Rattle.cost_num.specs.declared.Cost.{Cost as CostType};
 ghost use Rattle.response_model.specs.Plan.{Plan as PlanTree};
 ghost use Rattle.response_model.specs.Cost.{Part};
-ghost use Rattle.static_cost.specs.TableBound.{HoldsSound, IsBoundIn};
-ghost use Rattle.static_cost.specs.Worst.{IsCounted};
+ghost use Rattle.plan_table.specs.TableBounds.{HoldsSound, IsBoundIn, IsWithinCap};
 ghost use Rattle.response_model.specs.Errors.{ResponseError, has_errors};
 ghost use Rattle.response_meter.specs.declared.fault.Why.TheVariants.{NotJson};
 ghost use Rattle.response_meter.specs.Faults.{Tells, given};
@@ -38,7 +37,7 @@ use std::alloc::Global;
 /// The first test that the reply does not pass, in reading order, with the path of the value it stood at: `NotResponse`, or
 /// `SizeBroken` where a list is longer than its declared size. `Memory` for want of memory alone.
 pub fn meter(alloc: Global, plan: &Plan, alias: &str, body: &[u8]) -> Result<Metered, MeterFault>
-    requires counted { (part : Part) → IsCounted plan.now part }
+    requires counted { (part : Part) → IsWithinCap plan.now part }
     ensures metered { IfOk result (λ metered. (tree : PlanTree) → HoldsSound plan.now tree → IsMetered plan.now alias.now tree body.now metered) }
     ensures passed { IfOk result (λ metered. (tree : PlanTree) → HoldsSound plan.now tree → first_fault_in plan.now alias.now tree body.now ≡ None) }
     ensures fault { IfErr result (λ fault. (tree : PlanTree) → HoldsSound plan.now tree → Tells fault (first_fault_in plan.now alias.now tree body.now)) }

@@ -6,7 +6,7 @@ ghost use Rattle.serde_json.specs.Written.{has_float};
 ghost use Rattle.schema_model.specs.SchemaData.{type_at};
 ghost use Rattle.plan_model.specs.Plans.{type_weight};
 ghost use Rattle.plan_table.specs.Tables.{setting_in};
-ghost use Rattle.static_cost.specs.TableBound.{holds_in};
+ghost use Rattle.plan_table.specs.TableBounds.{holds_in};
 ghost use Rattle.response_meter.specs.FirstFault.{is_text};
 
 use crate::leaves::{is_text, type_holds};

@@ -13,7 +13,7 @@ use Rattle.schema_rules.specs.declared.kind.Kind.TheVariants.{Scalar, Union}
 use Rattle.schema_rules.specs.Places.{PlaceTree, at_type}
 use Rattle.schema_rules.specs.Items.{ItemTree}
 use Rattle.schema_rules.specs.TypeNames.{NamedKind}
-use Rattle.schema_rules.specs.DirectiveUses.{weight_of}
+use Rattle.schema_rules.specs.DirectiveUses.{given_weight}
 use Rattle.schema_model.specs.Drafts.{FieldDraft, TypeDraft, bare, body_draft, definition_draft, scalar_draft, defined_drafts, drafts_of}
 use Rattle.schema_model.specs.Implementing.{draft_at, is_kind_of, is_no_looser, is_narrower, names_all, lacks_interfaces, lacking_field, in_type, lack_at, not_implemented}
 use Rattle.schema_model.specs.Schemas.{field_name, types_from, no_type}
@@ -60,7 +60,7 @@ module _ (types : List NamedKind) where
   text_right [] rest right of = right of
   text_right (d ∷ text) rest right of =
       subst (λ (drafts : List TypeDraft). OnlyUnions (draft_at drafts of)) (sym (append_assoc (definition_draft types d) (defined_drafts types text) rest))
-      (body_right d.1.0 (weight_of d.1.1) d.1.2 (defined_drafts types text ++ rest) (text_right text rest right) of)
+      (body_right d.1.0 (given_weight d.1.1) d.1.2 (defined_drafts types text ++ rest) (text_right text rest right) of)
 
   pub drafts_right : (text : List DefinitionTree) (of : ℕ) → OnlyUnions (draft_at (drafts_of types text) of)
   drafts_right text of =

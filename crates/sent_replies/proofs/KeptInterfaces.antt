@@ -13,7 +13,7 @@ use Rattle.schema_model.specs.declared.schema.Schema.{Schema}
 use Rattle.schema_model.specs.Drafts.{TypeDraft, drafts_of}
 use Rattle.schema_model.specs.Implementing.{draft_at, not_implemented}
 use Rattle.schema_model.specs.SchemaViews.{schema_data}
-use Rattle.schema_model.specs.Faults.{fault_of_items, fault_of_names, fault_of_types, fault_of_drafts, fault_from_types, fault_from_names, Builds}
+use Rattle.schema_model.specs.Faults.{fault_of_items, fault_of_names, fault_of_types, fault_of_drafts, fault_from_types, fault_from_names, SchemaBuilds}
 use Rattle.cost_directives.proofs.FittingSizes.{unmapped}
 use Rattle.cost_directives.proofs.DraftedFields.{made, own_interfaces}
 use Rattle.cost_directives.proofs.PlainDrafts.{plain_drafts}
@@ -40,8 +40,8 @@ made_keeps form text right kept =
       fields = has_field_of form items types ds kept plain unions;
     }
 
-pub built_keeps : (text : List DefinitionTree) (schema : Schema) → Builds text (Ok schema) → KeepsInterfaces (schema_data schema)
-unfolding Builds
+pub built_keeps : (text : List DefinitionTree) (schema : Schema) → SchemaBuilds text (Ok schema) → KeepsInterfaces (schema_data schema)
+unfolding SchemaBuilds
 built_keeps text schema built =
     let items : List ItemTree = items_of text in
     let types : List NamedKind = types_of items in

@@ -8,7 +8,7 @@ use Rattle.document_reader.specs.declared.trees.Operation.{Operation}
 use Rattle.document_reader.specs.declared.trees.Fragment.{Fragment}
 use Rattle.document_reader.specs.Documents.{SelectionTree, field_selection, fragment_spread, inline_fragment, SelectionTrees, no_selection, selection_then}
 use Rattle.document_reader.specs.Trees.{variable_tree, set_tree}
-use Rattle.schema_rules.specs.First.{told, first_of}
+use Rattle.schema_rules.specs.First.{fault_where, first_of}
 use Rattle.schema_rules.proofs.FirstFaults.{neither, not_told}
 use Rattle.schema_model.specs.SchemaData.{SchemaData}
 use Rattle.document_rules.specs.Parts.{FragmentData, fragment_data, fragments_of}
@@ -27,7 +27,7 @@ module _ (s : SchemaData) where
     one_known : (within parent : Option ℕ) (x : SelectionTree) → first_of unknown_field (sites_in_one s within parent x) ≡ None → IsKnownIn s parent x
     one_known within parent (field_selection names arguments directives below) none =
         let meaning : Meaning = meaning_on s parent (name_of_field names).0 in
-        let both = neither (told (is_no_such_field meaning) (name_of_field names).1) (first_of unknown_field (sites_in s within (below_field s meaning) below)) none in
+        let both = neither (fault_where (is_no_such_field meaning) (name_of_field names).1) (first_of unknown_field (sites_in s within (below_field s meaning) below)) none in
         (not_told (is_no_such_field meaning) (name_of_field names).1 both.0, all_known within (below_field s meaning) below both.1)
     one_known within parent (fragment_spread name directives) none = tt
     one_known within parent (inline_fragment on directives below) none = all_known within (below_inline s parent on) below none

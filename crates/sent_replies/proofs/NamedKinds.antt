@@ -15,7 +15,7 @@ use Rattle.schema_rules.specs.First.{first_of}
 use Rattle.schema_rules.specs.Items.{ItemTree, interface_item, member_item, argument_item, input_field_item, directive_argument_item, type_item, root_item_of, field_type_of, enum_value_of, field_items, is_none_of, body_items, definition_items, items_of, place_of}
 use Rattle.schema_rules.specs.TypeNames.{NamedKind, name_of, with_type, types_defined, with_scalar, with_built_ins, types_of, kind_or_scalar, kind_named}
 use Rattle.schema_rules.specs.WrongKind.{is_wrong, wrong_at}
-use Rattle.schema_rules.specs.DirectiveUses.{weight_of}
+use Rattle.schema_rules.specs.DirectiveUses.{given_weight}
 use Rattle.schema_rules.proofs.FirstFaults.{neither, not_told}
 use Rattle.schema_model.specs.Drafts.{TypeDraft, number_named, or_past, bare, body_draft, definition_draft, scalar_draft, defined_drafts, drafts_of}
 use Rattle.schema_model.specs.Implementing.{draft_at}
@@ -73,7 +73,7 @@ module _ (types : List NamedKind) where
   text_kinds : (text : List DefinitionTree) → types_defined (items_of text) ≡ map named_kind (defined_drafts types text)
   text_kinds [] = refl
   text_kinds (d ∷ text) =
-      body_kinds d.1.0 (weight_of d.1.1) d.1.1 d.1.2 (items_of text)
+      body_kinds d.1.0 (given_weight d.1.1) d.1.1 d.1.2 (items_of text)
       ∙ (ap (λ (ts : List NamedKind). map named_kind (definition_draft types d) ++ ts) (text_kinds text) ∙ sym (map-append named_kind (definition_draft types d) (defined_drafts types text)))
 
 -- The types are these, and scalars behind them.
@@ -162,7 +162,7 @@ module _ (types : List NamedKind) (has : Bool) where
   text_interfaces (d ∷ text) rest none others of =
       let apart = both_right (definition_items d) (items_of text) none in
       subst (λ (drafts : List TypeDraft). Each IsOfInterface (draft_at drafts of).interfaces) (sym (append_assoc (definition_draft types d) (defined_drafts types text) rest))
-      (body_interfaces d.1.0 (weight_of d.1.1) d.1.1 d.1.2 (defined_drafts types text ++ rest) apart.0 (text_interfaces text rest apart.1 others) of)
+      (body_interfaces d.1.0 (given_weight d.1.1) d.1.1 d.1.2 (defined_drafts types text ++ rest) apart.0 (text_interfaces text rest apart.1 others) of)
 
   scalar_interfaces : (some : List NamedKind) → AreOfInterfaces (map scalar_draft some)
   scalar_interfaces [] of = tt

@@ -9,7 +9,7 @@ use Rattle.document_reader.specs.declared.trees.Operation.{Operation}
 use Rattle.document_reader.specs.declared.trees.Fragment.{Fragment}
 use Rattle.document_reader.specs.Documents.{SelectionTree, field_selection, fragment_spread, inline_fragment, SelectionTrees, no_selection, selection_then, VariableTree}
 use Rattle.document_reader.specs.Trees.{variable_tree, set_tree}
-use Rattle.schema_rules.specs.First.{or_else, told, first_of}
+use Rattle.schema_rules.specs.First.{or_else, fault_where, first_of}
 use Rattle.schema_rules.proofs.FirstFaults.{neither, not_told}
 use Rattle.schema_model.specs.SchemaData.{SchemaData}
 use Rattle.document_rules.specs.declared.rule.Rule.TheVariants.{Introspection, UnknownField, LeafWithSelection, CompositeWithout}
@@ -46,7 +46,7 @@ on_fields s sites none =
     let without : SiteRule = (CompositeWithout, composite_without s) in
     let leaf : SiteRule = (LeafWithSelection, leaf_with_selection s) in
     let unknown : SiteRule = (UnknownField, unknown_field) in
-    let first = first_kept (Introspection, introspection) (unknown ∷ leaf ∷ without ∷ []) sites none in
+    let first = first_kept (Introspection, introspection s) (unknown ∷ leaf ∷ without ∷ []) sites none in
     let second = first_kept unknown (leaf ∷ without ∷ []) sites first.1 in
     (second.0, (first_kept without [] sites (first_kept leaf (without ∷ []) sites second.1).1).0)
 
@@ -72,7 +72,7 @@ module _ (s : SchemaData) where
     one_has : (within parent : Option ℕ) (x : SelectionTree) → first_of (composite_without s) (sites_in_one s within parent x) ≡ None → HasSelections s parent x
     one_has within parent (field_selection names arguments directives below) none =
         let meaning : Meaning = meaning_on s parent (name_of_field names).0 in
-        let both = neither (told (not (has_selections below) && is_of_composite s meaning) (name_of_field names).1) (first_of (composite_without s) (sites_in s within (below_field s meaning) below)) none in (
+        let both = neither (fault_where (not (has_selections below) && is_of_composite s meaning) (name_of_field names).1) (first_of (composite_without s) (sites_in s within (below_field s meaning) below)) none in (
           λ asked. has_where (has_selections below) (is_of_composite s meaning) (not_told (not (has_selections below) && is_of_composite s meaning) (name_of_field names).1 both.0) (asked_is_composite meaning asked),
           all_have within (below_field s meaning) below both.1,
         )

@@ -6,7 +6,7 @@ use Rattle.std.proofs.lemmas.Bool.{cases_Bool, or_right, not-false, or_parts}
 use Rattle.std.proofs.lemmas.Option.{same_Some}
 use Rattle.std.proofs.lemmas.Slice.Eq.{bytes_eq-Decides}
 use Rattle.response_model.specs.Plan.{Plan}
-use Rattle.schema_rules.specs.First.{or_else, told, first_of}
+use Rattle.schema_rules.specs.First.{or_else, fault_where, first_of}
 use Rattle.schema_rules.proofs.FirstFaults.{neither, not_told}
 use Rattle.schema_model.specs.SchemaData.{SchemaData, field_named, applies, possible}
 use Rattle.document_rules.specs.Sites.{name_of_type, typename, is_composite, when_composite, field_or_none, meaning_on, type_of_field, below_field}
@@ -63,8 +63,8 @@ module _ (e : Setting) where
 
   one_name : (T : ℕ) (handed : HandedSize) (fs : List CollectedField) → fault_of e T handed fs ≡ None → Each (HasName (first_call fs).name) fs
   one_name T handed fs none =
-      all_named (first_call fs).name fs (not_told (names_differ fs) conflict (neither (told (names_differ fs) conflict)
-      (or_else (first_of (argument_fault e T) fs) (or_else (told (arguments_differ e T fs) conflict) (or_else (size_fault e T handed (first_call fs)) (told (lacks_types (place_at e T (first_call fs))) no_possible_type)))) none).0)
+      all_named (first_call fs).name fs (not_told (names_differ fs) conflict (neither (fault_where (names_differ fs) conflict)
+      (or_else (first_of (argument_fault e T) fs) (or_else (fault_where (arguments_differ e T fs) conflict) (or_else (size_fault e T handed (first_call fs)) (fault_where (lacks_types (place_at e T (first_call fs))) no_possible_type)))) none).0)
 
   -- ---- what may stand at a field
 

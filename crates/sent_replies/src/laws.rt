@@ -6,7 +6,7 @@ ghost use Rattle.response_model.specs.Plan.{Form, Plan};
 ghost use Rattle.response_model.specs.Response.{Tree};
 ghost use Rattle.schema_reader.specs.Schemas.{DefinitionTree};
 ghost use Rattle.schema_model.specs.declared.schema.Schema.{Schema};
-ghost use Rattle.schema_model.specs.Faults.{Builds};
+ghost use Rattle.schema_model.specs.Faults.{SchemaBuilds};
 ghost use Rattle.schema_model.specs.SchemaViews.{schema_data};
 ghost use Rattle.plan_model.specs.SelectedFields.{Setting, Place};
 ghost use Rattle.plan_model.specs.Merging.{Position};
@@ -24,7 +24,7 @@ pub fn what_is_sent_reads_by_the_own_plan()
 
 /// In a schema that a text says the types keep their interfaces.
 pub fn built_schemas_keep_interfaces()
-    ensures { (text : List DefinitionTree) (schema : Schema) → Builds text (Ok schema) → KeepsInterfaces (schema_data schema) }
+    ensures { (text : List DefinitionTree) (schema : Schema) → SchemaBuilds text (Ok schema) → KeepsInterfaces (schema_data schema) }
 {}
 
 /// An operation that is planned well asks for the names of types wherever objects of several types may stand.

@@ -2,7 +2,7 @@
 
 ghost use Rattle.std.specs.Prelude.{◌≡◌, List, IfOk, Ok};
 ghost use Rattle.schema_reader.specs.Schemas.{DefinitionTree};
-ghost use Rattle.schema_model.specs.Faults.{Builds};
+ghost use Rattle.schema_model.specs.Faults.{SchemaBuilds};
 ghost use Rattle.schema_model.specs.SchemaViews.{schema_data};
 ghost use Rattle.cost_directives.specs.Weights.{weights_of};
 ghost use Rattle.cost_directives.specs.WeightViews.{weights_data};
@@ -31,7 +31,7 @@ pub(crate) struct Rules<'a> {
 const UNDECLARED: u32 = 10;
 
 fn schema_in(alloc: Global, text: &str) -> Result<Schema, RowFault>
-    ensures { IfOk result (λ schema. (text : List DefinitionTree) × Builds text (Ok schema)) }
+    ensures { IfOk result (λ schema. (text : List DefinitionTree) × SchemaBuilds text (Ok schema)) }
 {
     let Ok(text) = read_schema_text(alloc, text) else {
         return Err(RowFault::Wrong("the schema file is no schema text"));

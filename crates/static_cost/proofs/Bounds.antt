@@ -8,7 +8,8 @@ use Rattle.response_model.specs.Plan.{Plan}
 use Rattle.response_model.specs.Cost.{Part}
 use Rattle.response_model.specs.Bound.{IsBound, IsSound, greatest_cost}
 use Rattle.response_model.proofs.Filling.{bound_is, exceeds}
-use Rattle.static_cost.specs.CostBound.{IsWithin, ExceedsCapIn}
+use Rattle.plan_table.specs.TableBounds.{ExceedsCapIn}
+use Rattle.static_cost.specs.CostBound.{IsWithin}
 
 -- A number is the greatest cost of the plan in a part, or stands for one that exceeds the cap.
 abbrev pub IsCapped : Part → Plan → ℕ → Type 0

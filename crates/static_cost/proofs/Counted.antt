@@ -7,9 +7,9 @@ use Rattle.plan_table.specs.declared.table.Plan.{Plan}
 use Rattle.static_cost.specs.declared.too_costly.TooCostly.{TooCostly}
 use Rattle.static_cost.specs.CostBound.{IsWithin}
 use Rattle.static_cost.specs.TableBound.{IsTableBound, NamesExceedingOf}
-use Rattle.static_cost.specs.Worst.{IsCounted}
+use Rattle.plan_table.specs.TableBounds.{IsWithinCap}
 
-pub bounded : (p : Plan) (part : Part) (cost : Cost) → IsTableBound p cost → IsWithin cost → IsCounted p part
+pub bounded : (p : Plan) (part : Part) (cost : Cost) → IsTableBound p cost → IsWithin cost → IsWithinCap p part
 bounded p types cost is within plan of past =
     let most = (is plan of).of_types.upper past.0 past.1 in
     let w = within.of_types in
@@ -27,7 +27,7 @@ bounded p fields cost is within plan of past =
     none : {a b : ℕ} → a ≤ b → b ≤ CAP → CAP < a → ⊥
     none x y z = omega arith
 
-pub other_named : (p : Plan) (fault : TooCostly) → NamesExceedingOf p fault → (fault.types ≡ false → IsCounted p types) × (fault.fields ≡ false → IsCounted p fields)
+pub other_named : (p : Plan) (fault : TooCostly) → NamesExceedingOf p fault → (fault.types ≡ false → IsWithinCap p types) × (fault.fields ≡ false → IsWithinCap p fields)
 other_named p fault names = (
   λ no plan of past. true≢false (sym ((names plan of).of_types.1 past) ∙ no),
   λ no plan of past. true≢false (sym ((names plan of).of_fields.1 past) ∙ no),

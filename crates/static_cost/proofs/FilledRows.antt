@@ -20,8 +20,8 @@ use Rattle.plan_table.specs.declared.table.Plan.{Plan as Plan'}
 use Rattle.plan_table.specs.Tables.{IsAlone, table_rows, setting_in}
 use Rattle.static_cost.specs.declared.filling.WorstFault.{WorstFault}
 use Rattle.static_cost.specs.declared.filling.WorstFault.TheVariants.{TooLarge}
-use Rattle.static_cost.specs.TableBound.{holds_in, HoldsSound}
-use Rattle.static_cost.specs.Worst.{values, values_of_entries, IsCounted}
+use Rattle.plan_table.specs.TableBounds.{holds_in, HoldsSound, IsWithinCap}
+use Rattle.static_cost.specs.Worst.{values, values_of_entries}
 use Rattle.static_cost.specs.Filling.{Lacks, entries_from_row}
 use Rattle.static_cost.specs.Choices.{picked, choice_at, choices, item_by, entries_by}
 use Rattle.static_cost.proofs.Fillings.{entries_then, entries_then_none}
@@ -157,7 +157,7 @@ root_read holds part T weight (object_type U w nodes no_type) alone sound counte
     ∙ ap (λ (k : ℕ). object k (filled_object part possible)) (sym taken)
 
 -- The filled response of a plan that a table holds.
-pub table_read : (p : Plan') (part : Part) (plan : Plan) (found : List ℕ) → HoldsSound p plan → IsCounted p part → found ≡ choices part (table_rows p) → object p.root.number (entries_from_row p found 0 1 p.root.number) ≡ filled part plan
+pub table_read : (p : Plan') (part : Part) (plan : Plan) (found : List ℕ) → HoldsSound p plan → IsWithinCap p part → found ≡ choices part (table_rows p) → object p.root.number (entries_from_row p found 0 1 p.root.number) ≡ filled part plan
 table_read p part (leaf_plan type w fill) found of counted is = absurd of.0
 table_read p part (position possible) found of counted is =
     ap (λ (cs : List ℕ). object p.root.number (entries_by 1 p.root.number (table_rows p) cs)) is
@@ -171,7 +171,7 @@ table_read p part (position possible) found of counted is =
     within = elim (cases_lt CAP (greatest_of_types part possible)) [ inl more ↦ absurd (past more) | inr less ↦ less ]
 
 -- It was filled with the values that were left.
-pub worst_filled : (p : Plan') (part : Part) (plan : Plan) (found : List ℕ) (on : ℕ) (tree : Tree) (entries : Entries) (left limit : ℕ) → HoldsSound p plan → IsCounted p part → found ≡ choices part (table_rows p) → on ≡ p.root.number
+pub worst_filled : (p : Plan') (part : Part) (plan : Plan) (found : List ℕ) (on : ℕ) (tree : Tree) (entries : Entries) (left limit : ℕ) → HoldsSound p plan → IsWithinCap p part → found ≡ choices part (table_rows p) → on ≡ p.root.number
     → tree ≡ object on entries → left + values_of_entries (entries_from_row p found 0 1 on) ≡ limit → entries ≡ entries_from_row p found 0 1 on
     → (tree ≡ filled part plan) × (values (filled part plan) ≤ limit + 1)
 worst_filled p part plan found on tree entries left limit of counted is root made taken read =
@@ -179,7 +179,7 @@ worst_filled p part plan found on tree entries left limit of counted is root mad
     let count = ap values same in
     (made ∙ ap (λ (es : Entries). object on es) read ∙ same, omega arith)
 
-pub worst_too_large : (p : Plan') (part : Part) (plan : Plan) (found : List ℕ) (on limit : ℕ) (fault : WorstFault) → HoldsSound p plan → IsCounted p part → found ≡ choices part (table_rows p) → on ≡ p.root.number
+pub worst_too_large : (p : Plan') (part : Part) (plan : Plan) (found : List ℕ) (on limit : ℕ) (fault : WorstFault) → HoldsSound p plan → IsWithinCap p part → found ≡ choices part (table_rows p) → on ≡ p.root.number
     → Lacks fault (limit < values_of_entries (entries_from_row p found 0 1 on)) → fault ≡ TooLarge → limit + 1 < values (filled part plan)
 worst_too_large p part plan found on limit fault of counted is root lacks told =
     let more : limit < values_of_entries (entries_from_row p found 0 1 on) = subst (λ (f : WorstFault). Lacks f (limit < values_of_entries (entries_from_row p found 0 1 on))) told lacks in

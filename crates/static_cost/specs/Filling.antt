@@ -1,10 +1,13 @@
 -- The filled response as it is read from rows, and what filling takes.
 use Rattle.std.specs.Prelude.{◌≡◌, ◌<◌, ℕ, suc, ◌+◌, List, drop, Result, Ok, Err}
-use Rattle.response_model.specs.Response.{Tree, list_of, Entries}
+use Rattle.response_model.specs.Response.{Tree, list_of, object, Entries}
 use Rattle.response_model.specs.Filled.{repeated, filled_in, filled_count}
 use Rattle.plan_table.specs.declared.rows.NodeRow.{NodeRow}
+use Rattle.plan_table.specs.declared.response.Tree.{Tree as ResponseTree}
 use Rattle.plan_table.specs.declared.table.Plan.{Plan}
 use Rattle.plan_table.specs.Tables.{row_in, table_rows}
+use Rattle.plan_table.specs.Trees.{tree_of}
+use Rattle.static_cost.specs.Worst.{values_of_entries}
 use Rattle.static_cost.specs.declared.filling.WorstFault.{WorstFault}
 use Rattle.static_cost.specs.declared.filling.WorstFault.TheVariants.{TooLarge, Memory}
 use Rattle.static_cost.specs.declared.filling.Node.{Node}
@@ -38,3 +41,11 @@ list_value p choices n = list_of (repeated (filled_count n.row.now.size) (item_o
 
 abbrev pub value_of : Plan → List ℕ → Node → Tree
 value_of p choices n = value_at p choices n.row.now n.on n.next
+
+-- the entries of the object of a node
+abbrev pub entries_below : Plan → List ℕ → Node → Entries
+entries_below p choices n = entries_from_row p choices n.next (suc n.row.now.depth) n.on
+
+-- What was made is the object of a node, and took as many values as its entries have.
+abbrev pub FillsObject : Plan → List ℕ → Node → Result ResponseTree WorstFault → ℕ → ℕ → Type 0
+FillsObject p choices n result before after = Fills result before after (values_of_entries (entries_below p choices n)) (λ t. tree_of t ≡ object n.on (entries_below p choices n))

@@ -8,8 +8,7 @@ use Rattle.plan_table.specs.declared.response.Tree.{Tree}
 use Rattle.plan_table.specs.declared.table.Plan.{Plan}
 use Rattle.plan_table.specs.Trees.{tree_of}
 use Rattle.static_cost.specs.declared.filling.TheConstants.{VALUE_LIMIT}
-use Rattle.static_cost.specs.CostBound.{ExceedsCapIn}
-use Rattle.static_cost.specs.TableBound.{holds_in, HoldsSound}
+use Rattle.plan_table.specs.TableBounds.{HoldsSound}
 
 -- how many values a response has, lists and nulls included
 abbrev mutual
@@ -26,10 +25,6 @@ abbrev mutual
   pub values_of_entries : Entries → ℕ
   values_of_entries no_entry = 0
   values_of_entries (entry k t es) = values t + values_of_entries es
-
--- No response costs more than the cap in this part.
-abbrev pub IsCounted : Plan → Part → Type 0
-IsCounted p part = (plan : PlanTree) → HoldsSound p plan → ExceedsCapIn (holds_in p) part plan → ⊥
 
 -- It is the filled response, and has no more values than the limit.
 abbrev pub IsWorst : Plan → Part → Tree → Type 0

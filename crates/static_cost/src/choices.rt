@@ -4,15 +4,15 @@ ghost use Rattle.std.specs.Prelude.{◌≡◌, ◌∷◌, [], List, map, IfOk};
 ghost use Rattle.schema_model.specs.Numbers.{type_number};
 ghost use Rattle.plan_table.specs.Rows.{Row};
 ghost use Rattle.plan_table.specs.Tables.{row_in, setting_in, weighed, table_rows};
-ghost use Rattle.static_cost.specs.Components.{part_of};
+ghost use Rattle.response_model.specs.Components.{part_of};
 ghost use Rattle.static_cost.specs.Choices.{attains_most, first_attaining, chosen, choice_at, choices};
 ghost use Rattle.static_cost.specs.Picking.{HoldsPicks};
 
-use crate::part::Part;
 use crate::totals::{ByDepth, PLACES, greatest_alone, value_cost};
 use cost_num::CAP;
 use input_values::TypeId;
 use plan_table::{Below, NodeRow, Plan};
+use response_model::Part;
 use std::alloc::{AllocError, Global};
 
 /// Costs by depth, and the first of the types that attain the greatest.

@@ -10,17 +10,18 @@ ghost use Rattle.schema_model.specs.SchemaData.{type_at};
 ghost use Rattle.plan_model.specs.SelectedFields.{fill_of};
 ghost use Rattle.plan_table.specs.Texts.{IsFloatless};
 ghost use Rattle.plan_table.specs.Trees.{tree_of, keyed_tree, elements_from, entries_from};
-ghost use Rattle.static_cost.specs.Worst.{values, values_of_elements, values_of_entries, IsCounted, IsWorst, IsTooLarge};
+ghost use Rattle.plan_table.specs.TableBounds.{IsWithinCap};
+ghost use Rattle.static_cost.specs.Worst.{values, values_of_elements, values_of_entries, IsWorst, IsTooLarge};
 ghost use Rattle.static_cost.specs.declared.filling.WorstFault.TheVariants.{TooLarge};
-ghost use Rattle.static_cost.specs.Components.{part_of};
-ghost use Rattle.static_cost.specs.Filling.{Fills, entries_from_row, item_of, list_value, value_of};
+ghost use Rattle.response_model.specs.Components.{part_of};
+ghost use Rattle.static_cost.specs.Filling.{FillsObject, Fills, entries_from_row, item_of, list_value, value_of};
 
 use crate::choices::choices;
 use crate::leaves::{fill_leaf, text_value};
-use crate::part::Part;
 use gql_base::Text;
 use input_values::TypeId;
 use plan_table::{Below, Entry, NodeRow, Plan, Tree, copy_tree};
+use response_model::Part;
 use serde_json::Value;
 use std::alloc::{AllocError, AllocFailed, Global};
 use thiserror::Error;
@@ -148,7 +149,7 @@ fn fill_object(
     node: &Node,
     left: &mut u64,
 ) -> Result<Tree, WorstFault>
-    ensures { Fills result left.old left.new (values_of_entries (entries_from_row of.now choices.now node.now.next (suc node.now.row.now.depth) node.now.on)) (λ t. tree_of t ≡ object node.now.on (entries_from_row of.now choices.now node.now.next (suc node.now.row.now.depth) node.now.on)) }
+    ensures { FillsObject of.now choices.now node.now result left.old left.new }
 {
     let depth = node.row.depth + 1;
     match fill_entries(alloc, of, choices, node.next, depth, node.on, left) {
@@ -322,7 +323,7 @@ fn choice_at(choices: &[usize], at: usize) -> usize
 ///
 /// `TooLarge` where the response has more than `VALUE_LIMIT` values; `Memory` where there was not enough memory.
 pub fn worst(alloc: Global, of: &Plan, part: Part) -> Result<Tree, WorstFault>
-    requires { IsCounted of.now (part_of part) }
+    requires { IsWithinCap of.now (part_of part) }
     ensures filled { IfOk result (IsWorst of.now (part_of part)) }
     ensures floatless { IfOk result (λ tree. IsFloatless (tree_of tree)) }
     ensures too_large { IsErrOf result TooLarge → IsTooLarge of.now (part_of part) }

@@ -9,11 +9,10 @@ mod choices;
 mod filling;
 pub mod laws;
 mod leaves;
-mod part;
 mod too_costly;
 mod totals;
 
 pub use filling::{VALUE_LIMIT, WorstFault, worst};
-pub use part::Part;
+pub use response_model::Part;
 pub use too_costly::TooCostly;
 pub use totals::bound;

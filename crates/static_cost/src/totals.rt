@@ -10,16 +10,17 @@ ghost use Rattle.schema_model.specs.Numbers.{type_number};
 ghost use Rattle.plan_model.specs.Plans.{type_weight};
 ghost use Rattle.plan_table.specs.Tables.{row_in, setting_in, weighed, table_rows};
 ghost use Rattle.plan_table.specs.Totals.{Totals, type_total, greatest_alone, greatest_below, totals_in_front, totals, greatest_in_rows};
-ghost use Rattle.static_cost.specs.Components.{part_of};
+ghost use Rattle.response_model.specs.Components.{part_of};
+ghost use Rattle.plan_table.specs.TableBounds.{HoldsSound, IsBoundIn};
 ghost use Rattle.static_cost.specs.CostBound.{IsWithin};
-ghost use Rattle.static_cost.specs.TableBound.{HoldsSound, IsBoundIn, IsTableBound, NamesExceedingOf};
+ghost use Rattle.static_cost.specs.TableBound.{IsTableBound, NamesExceedingOf};
 ghost use Rattle.static_cost.specs.ByDepth.{HoldsTotals};
 
-use crate::part::Part;
 use crate::too_costly::TooCostly;
 use cost_num::{CAP, Cost, times_capped};
 use input_values::TypeId;
 use plan_table::{Below, NodeRow, Plan};
+use response_model::Part;
 
 /// How many places there are by depth: those of the levels of nodes, one deeper, and one that is never used.
 pub(crate) const PLACES: usize = 52;

@@ -7,7 +7,7 @@ use Rattle.gql_base.specs.parts.Values.{NamedValue}
 use Rattle.schema_model.specs.SchemaData.{type_at}
 use Rattle.schema_model.specs.Arguments.{ArgData}
 use Rattle.document_rules.specs.Sites.{Meaning, no_position, no_such_field, name_of_type, known_field, meaning_on}
-use Rattle.plan_model.specs.SelectedFields.{Setting, FieldCall, HandedSize, Place, leaf_place, place_of, arguments_of, size_answer, sized_by, weight_of, cost_of, form_at, place_at, arguments_at, size_answer_at, size_at, hands_at, weight_at, cost_at, handed_in, if_coerced, length_in, size_in}
+use Rattle.plan_model.specs.SelectedFields.{Setting, FieldCall, HandedSize, Place, leaf_place, place_of, arguments_of, size_answer, sized_by, meaning_weight, cost_of, form_at, place_at, arguments_at, size_answer_at, size_at, hands_at, weight_at, cost_at, handed_in, if_coerced, length_in, size_in}
 use Rattle.stripped_responses.specs.Stripping.{rewritten_setting}
 use Rattle.stripped_responses.proofs.RewrittenFields.{typename_call}
 
@@ -39,7 +39,7 @@ module _ (alias : List ℕ) (e : Setting) where
   sized no_such_field = refl
   sized no_position = refl
 
-  weight_by : (m : Meaning) → weight_of e' m ≡ weight_of e m
+  weight_by : (m : Meaning) → meaning_weight e' m ≡ meaning_weight e m
   weight_by (known_field field) = refl
   weight_by name_of_type = refl
   weight_by no_such_field = refl

@@ -19,7 +19,7 @@ use Rattle.input_values.specs.coercion.Answers.{Answer, item_step, at_step, mapp
 use Rattle.input_values.specs.coercion.Given.{given_then, given_object, given_names, present}
 use Rattle.input_values.specs.coercion.Forms.{InputForm, custom_form, object_form, FieldForm, is_field, fields_of}
 use Rattle.input_values.specs.coercion.Customs.{any_value}
-use Rattle.input_values.specs.coercion.Objects.{Finder, wrong_name, field_at, fields_at, object_of, object_by, object_at}
+use Rattle.input_values.specs.coercion.Objects.{Finder, wrong_name, field_answer, fields_at, object_of, object_by, object_at}
 use Rattle.input_values.specs.coercion.Coercion.{coerced, items_coerced, find_coerced}
 use Rattle.input_values.specs.coercion.Calls.{Coerces, CoercesField, tree_in}
 use Rattle.input_values.specs.coercion.Left.{ItemsLeft, one_item}
@@ -95,13 +95,13 @@ some_answer limit before after (Err (BadValue path)) a h = ap (mapped Some) h
 some_answer limit before after (Err Memory) a h = tt
 
 pub field_given : (limit : ℕ) (form : ℕ → InputForm) (i : FieldForm) (ms : Members) (d : Data) (before after : ℕ) (r : Result (Option Coerced) CoercionFault) → Some d ≡ get_member i.name ms → Coerces limit before after r (coerced form (json_given d) i.shape)
-    → CoercesField limit before after r (field_at i (find_coerced form i.name (json_members ms)))
+    → CoercesField limit before after r (field_answer i (find_coerced form i.name (json_members ms)))
 field_given limit form i ms d before after r is c =
-    subst (λ x. CoercesField limit before after r (field_at i x)) (sym (find_json form i.name ms ∙ ap (option_map (coerces_json form)) (sym is))) (some_answer limit before after r (coerced form (json_given d) i.shape) c)
+    subst (λ x. CoercesField limit before after r (field_answer i x)) (sym (find_json form i.name ms ∙ ap (option_map (coerces_json form)) (sym is))) (some_answer limit before after r (coerced form (json_given d) i.shape) c)
 
-pub field_absent : (limit : ℕ) (form : ℕ → InputForm) (i : FieldForm) (ms : Members) (before after : ℕ) (r : Result (Option Coerced) CoercionFault) → None ≡ get_member i.name ms → CoercesField limit before after r (field_at i None)
-    → CoercesField limit before after r (field_at i (find_coerced form i.name (json_members ms)))
-field_absent limit form i ms before after r is c = subst (λ x. CoercesField limit before after r (field_at i x)) (sym (find_json form i.name ms ∙ ap (option_map (coerces_json form)) (sym is))) c
+pub field_absent : (limit : ℕ) (form : ℕ → InputForm) (i : FieldForm) (ms : Members) (before after : ℕ) (r : Result (Option Coerced) CoercionFault) → None ≡ get_member i.name ms → CoercesField limit before after r (field_answer i None)
+    → CoercesField limit before after r (field_answer i (find_coerced form i.name (json_members ms)))
+field_absent limit form i ms before after r is c = subst (λ x. CoercesField limit before after r (field_answer i x)) (sym (find_json form i.name ms ∙ ap (option_map (coerces_json form)) (sym is))) c
 
 -- ## Objects at types
 

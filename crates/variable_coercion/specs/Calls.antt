@@ -20,9 +20,9 @@ IsTold (Some refusal) answer = answer ≡ Err refusal
 IsTold None answer = Unit {0}
 
 -- `view` is how a result is seen, `told` what a fault tells.
-abbrev pub Answers : {X A F R : Type 0} → (X → A) → (F → Option R) → Result X F → Result A R → Type 0
-Answers view told (Ok x) answer = answer ≡ Ok (view x)
-Answers view told (Err fault) answer = IsTold (told fault) answer
+abbrev pub AnswersRefusal : {X A F R : Type 0} → (X → A) → (F → Option R) → Result X F → Result A R → Type 0
+AnswersRefusal view told (Ok x) answer = answer ≡ Ok (view x)
+AnswersRefusal view told (Err fault) answer = IsTold (told fault) answer
 
 abbrev pub unfit_told : ValueFault → Option Unfit
 unfit_told (UnfitValue path) = Some (unfit_at path)

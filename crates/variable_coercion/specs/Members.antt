@@ -5,7 +5,7 @@ use Rattle.input_values.specs.values.Coerced.{CoercedTree, CoercedFields}
 use Rattle.input_values.specs.coercion.Answers.{Answer}
 use Rattle.input_values.specs.coercion.Given.{given_names}
 use Rattle.input_values.specs.coercion.Forms.{FieldForm, InputForm, fields_of}
-use Rattle.input_values.specs.coercion.Objects.{Finder, wrong_name, field_at, fields_at, object_of, object_at}
+use Rattle.input_values.specs.coercion.Objects.{Finder, wrong_name, field_answer, fields_at, object_of, object_at}
 use Rattle.input_values.specs.coercion.Coercion.{find_coerced}
 use Rattle.variable_coercion.specs.Json.{json_members}
 
@@ -33,4 +33,4 @@ module _ (form : ℕ → InputForm) (members : Members) where
 
   -- a field of an input object
   abbrev pub member_field : FieldForm → Answer (Option CoercedTree)
-  member_field f = field_at f (member_under f.name)
+  member_field f = field_answer f (member_under f.name)

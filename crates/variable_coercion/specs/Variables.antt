@@ -1,18 +1,18 @@
 -- The values of an operation's variables (GraphQL October 2021, 6.1.2).
-use Rattle.std.specs.Prelude.{ℕ, List, ◌++◌, Bool, true, false, map, Option, Some, None, Result, Ok, Err}
+use Rattle.std.specs.Prelude.{ℕ, List, ◌++◌, Bool, true, map, Option, Some, None, Result, Ok, Err}
 use Rattle.gql_base.specs.names.Names.{first_of_name}
 use Rattle.gql_base.specs.parts.Values.{ValueTree}
 use Rattle.gql_base.specs.parts.Trees.{type_tree, maybe_value}
-use Rattle.gql_base.specs.parts.TypeReferences.{TypeTree, named_type, list_type, non_null_type}
 use Rattle.serde_json.specs.Data.{Data}
 use Rattle.serde_json.specs.Find.{get}
 use Rattle.document_reader.specs.declared.trees.VariableDef.{VariableDef}
 use Rattle.input_values.specs.values.Coerced.{CoercedTree}
-use Rattle.input_values.specs.inputs.Shapes.{ShapeTree, named_shape, list_shape, is_nullable}
+use Rattle.input_values.specs.inputs.Shapes.{ShapeTree, shape_by, is_nullable}
 use Rattle.input_values.specs.coercion.Coercion.{coerced}
 use Rattle.input_values.specs.coercion.Forms.{InputForm}
 use Rattle.input_values.specs.coercion.Literals.{Environment, no_variables, literal_given}
 use Rattle.schema_model.specs.SchemaData.{SchemaData, type_named}
+use Rattle.schema_model.specs.Drafts.{or_past}
 use Rattle.schema_model.specs.InputForms.{input_forms}
 use Rattle.variable_coercion.specs.Json.{json_given}
 use Rattle.variable_coercion.specs.Refusals.{Unfit, unfit_at, unfit_size, fitting, Refusal, bad_value, too_large, given_value, no_value, all_in_order}
@@ -28,19 +28,12 @@ pub record VariableData : Type 0 where
   pub name : List ℕ
   pub value : Option CoercedTree
 
--- the number of the type of this name; where none has it, a number that is no type's
-abbrev pub number_or_none : Option ℕ → ℕ
-number_or_none (Some number) = number
-number_or_none None = 18446744073709551615
-
--- the shape of a type that is written: without a `!` null may stand there
-unfoldable pub shape_in : SchemaData → Bool → TypeTree → ShapeTree
-shape_in s nullable (named_type name at) = named_shape (number_or_none (type_named s name)) nullable
-shape_in s nullable (list_type t) = list_shape (shape_in s true t) nullable
-shape_in s nullable (non_null_type t) = shape_in s false t
+-- the number of the type of this name, or the number of all types where none has it
+abbrev pub number_in : SchemaData → List ℕ → ℕ
+number_in s name = or_past s.types (type_named s name)
 
 abbrev pub declared_of : SchemaData → VariableDef → Declared
-declared_of s v = record { name = v.name.text; shape = shape_in s true (type_tree v.of); default = maybe_value v.default }
+declared_of s v = record { name = v.name.text; shape = shape_by (number_in s) true (type_tree v.of); default = maybe_value v.default }
 
 -- A path begins with the variable's name.
 abbrev pub variable_refusal : List ℕ → Unfit → Refusal

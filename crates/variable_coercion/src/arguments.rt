@@ -10,7 +10,7 @@ ghost use Rattle.schema_model.specs.InputForms.{schema_forms};
 ghost use Rattle.schema_model.specs.Arguments.{arg_data, args_data};
 ghost use Rattle.variable_coercion.specs.Refusals.{Unfit, given_value, no_value};
 ghost use Rattle.variable_coercion.specs.Arguments.{argument_given, argument_refusal, default_or_none, supplied_answer, unsupplied_answer, argument_answer, defined_answer, arguments_answer};
-ghost use Rattle.variable_coercion.specs.Calls.{Answers, unfit_told, argument_told, value_data, environment};
+ghost use Rattle.variable_coercion.specs.Calls.{AnswersRefusal, unfit_told, argument_told, value_data, environment};
 
 use crate::faults::ArgFault;
 use crate::values::{VALUE_LIMIT, ValueFault, coerced_literal};
@@ -33,7 +33,7 @@ pub fn coerce_arguments(
     written: &[Argument],
     variables: &Variables,
 ) -> Result<Args, ArgFault>
-    ensures { Answers args_data argument_told result (arguments_answer (schema_data schema.now) of.number written.now (environment variables.now)) }
+    ensures { AnswersRefusal args_data argument_told result (arguments_answer (schema_data schema.now) of.number written.now (environment variables.now)) }
 {
     let index = index_of(alloc, written)?;
     all_arguments(alloc, schema, schema.arguments(of), &index, variables)
@@ -47,7 +47,7 @@ fn all_arguments(
     written: &NameIndex<'_, Argument>,
     variables: &Variables,
 ) -> Result<Args, ArgFault>
-    ensures { Answers args_data argument_told result (defined_answer (schema_data schema.now) (map input_data inputs.now) written.now.items.now (environment variables.now)) }
+    ensures { AnswersRefusal args_data argument_told result (defined_answer (schema_data schema.now) (map input_data inputs.now) written.now.items.now (environment variables.now)) }
 {
     let mut list = Vec::new(alloc);
     'inputs: for input in inputs {
@@ -67,7 +67,7 @@ fn coerce_argument(
     written: &NameIndex<'_, Argument>,
     variables: &Variables,
 ) -> Result<Arg, ArgFault>
-    ensures { Answers arg_data argument_told result (argument_answer (schema_forms schema.now) (input_data input.now) (argument_given (environment variables.now) written.now.items.now input.now.name)) }
+    ensures { AnswersRefusal arg_data argument_told result (argument_answer (schema_forms schema.now) (input_data input.now) (argument_given (environment variables.now) written.now.items.now input.now.name)) }
 {
     match written.first_named(input.name.as_str()) {
         Some(argument) => written_argument(alloc, schema, input, &argument.value, variables),
@@ -83,7 +83,7 @@ fn written_argument(
     value: &Value,
     variables: &Variables,
 ) -> Result<Arg, ArgFault>
-    ensures { Answers arg_data argument_told result (argument_answer (schema_forms schema.now) (input_data input.now) (Some (literal_given (environment variables.now) (value_tree value.now)))) }
+    ensures { AnswersRefusal arg_data argument_told result (argument_answer (schema_forms schema.now) (input_data input.now) (Some (literal_given (environment variables.now) (value_tree value.now)))) }
 {
     let scope = Scope {
         types: schema,
@@ -104,7 +104,7 @@ fn supplied_argument(
     value: &Value,
     variables: &Variables,
 ) -> Result<Arg, ArgFault>
-    ensures { Answers arg_data argument_told result (supplied_answer (schema_forms schema.now) (input_data input.now) (literal_given (environment variables.now) (value_tree value.now))) }
+    ensures { AnswersRefusal arg_data argument_told result (supplied_answer (schema_forms schema.now) (input_data input.now) (literal_given (environment variables.now) (value_tree value.now))) }
 {
     let value = coerced_literal(alloc, schema, &variables.values, &input.shape, value);
     match told(alloc, input.name.as_str(), value) {
@@ -118,7 +118,7 @@ fn supplied_argument(
 
 /// An argument that isn't supplied.
 fn unsupplied_argument(alloc: Global, input: &InputDef) -> Result<Arg, ArgFault>
-    ensures { Answers arg_data argument_told result (unsupplied_answer (input_data input.now)) }
+    ensures { AnswersRefusal arg_data argument_told result (unsupplied_answer (input_data input.now)) }
 {
     match default_or_none(alloc, input) {
         Ok(value) => Ok(Arg {
@@ -131,7 +131,7 @@ fn unsupplied_argument(alloc: Global, input: &InputDef) -> Result<Arg, ArgFault>
 
 /// The default of an argument, or none where it may be absent.
 fn default_or_none(alloc: Global, input: &InputDef) -> Result<Option<Coerced>, ArgFault>
-    ensures { Answers value_data argument_told result (default_or_none (input_data input.now) (input_data input.now).default) }
+    ensures { AnswersRefusal value_data argument_told result (default_or_none (input_data input.now) (input_data input.now).default) }
 {
     match &input.default {
         Some(default) => Ok(Some(copy_value(alloc, default)?)),
@@ -141,7 +141,7 @@ fn default_or_none(alloc: Global, input: &InputDef) -> Result<Option<Coerced>, A
 
 /// No value, where that may be.
 fn no_value(alloc: Global, name: &str, nullable: bool) -> Result<Option<Coerced>, ArgFault>
-    ensures { Answers value_data argument_told result (no_value name.now nullable) }
+    ensures { AnswersRefusal value_data argument_told result (no_value name.now nullable) }
 {
     if nullable {
         return Ok(None);
@@ -157,7 +157,7 @@ fn told(
     name: &str,
     value: Result<Coerced, ValueFault>,
 ) -> Result<Option<Coerced>, ArgFault>
-    ensures { (answer : Result CoercedTree Unfit) → Answers coerced_tree unfit_told value answer → Answers value_data argument_told result (given_value (argument_refusal name.now) answer) }
+    ensures { (answer : Result CoercedTree Unfit) → AnswersRefusal coerced_tree unfit_told value answer → AnswersRefusal value_data argument_told result (given_value (argument_refusal name.now) answer) }
 {
     match value {
         Ok(value) => Ok(Some(value)),

@@ -2,25 +2,14 @@
 
 ghost use Rattle.std.specs.Prelude.{◌≡◌, IfOk};
 ghost use Rattle.gql_base.specs.parts.Trees.{type_tree};
-ghost use Rattle.input_values.specs.inputs.Shapes.{named_shape, list_shape, shape_tree};
-ghost use Rattle.schema_model.specs.SchemaData.{type_named};
+ghost use Rattle.input_values.specs.inputs.Shapes.{named_shape, list_shape, shape_tree, shape_by};
 ghost use Rattle.schema_model.specs.SchemaViews.{schema_data};
-ghost use Rattle.variable_coercion.specs.Variables.{number_or_none, shape_in};
+ghost use Rattle.variable_coercion.specs.Variables.{number_in};
 
 use gql_base::TypeRef;
 use input_values::{Shape, TypeId};
 use schema_model::Schema;
 use std::alloc::{AllocError, Global};
-
-/// The number of the type of this name; where none has it, a number that is no type's.
-fn number_named(schema: &Schema, name: &str) -> TypeId
-    ensures { result.number ≡ number_or_none (type_named (schema_data schema.now) name.now) }
-{
-    match schema.find(name) {
-        Some(of) => of,
-        None => TypeId { number: usize::MAX },
-    }
-}
 
 #[tactic(auto, using(crate::proofs::ShapeSteps::shape_steps))]
 fn named(of: TypeId, nullable: bool) -> Shape
@@ -47,10 +36,10 @@ pub(crate) fn shape_in(
     nullable: bool,
     of: &TypeRef,
 ) -> Result<Shape, AllocError>
-    ensures { IfOk result (λ s. shape_tree s ≡ shape_in (schema_data schema.now) nullable (type_tree of.now)) }
+    ensures { IfOk result (λ s. shape_tree s ≡ shape_by (number_in (schema_data schema.now)) nullable (type_tree of.now)) }
 {
     match of {
-        TypeRef::Named(name) => Ok(named(number_named(schema, name.text.as_str()), nullable)),
+        TypeRef::Named(name) => Ok(named(schema.number_named(name.text.as_str()), nullable)),
         TypeRef::ListOf(item) => {
             let item = shape_in(alloc, schema, true, &**item)?;
             listed(alloc, item, nullable)

@@ -9,7 +9,7 @@ ghost use Rattle.schema_model.specs.SchemaViews.{schema_data};
 ghost use Rattle.schema_model.specs.InputForms.{schema_forms};
 ghost use Rattle.variable_coercion.specs.Refusals.{Unfit, given_value, no_value};
 ghost use Rattle.variable_coercion.specs.Variables.{declared_of, variable_refusal, default_answer, value_answer, variable_answer, variables_answer};
-ghost use Rattle.variable_coercion.specs.Calls.{Answers, unfit_told, variable_told, value_data, variable_data, variables_data, environment};
+ghost use Rattle.variable_coercion.specs.Calls.{AnswersRefusal, unfit_told, variable_told, value_data, variable_data, variables_data, environment};
 
 use crate::faults::CoerceFault;
 use crate::shapes::shape_in;
@@ -55,7 +55,7 @@ pub fn coerce_variables(
     of: &Operation,
     given: &Value,
 ) -> Result<Variables, CoerceFault>
-    ensures { Answers variables_data variable_told result (variables_answer (schema_data schema.now) of.now.variables.items (view given.now)) }
+    ensures { AnswersRefusal variables_data variable_told result (variables_answer (schema_data schema.now) of.now.variables.items (view given.now)) }
 {
     let values = all_values(alloc, schema, of.variables.as_slice(), given)?;
     Ok(Variables {
@@ -70,7 +70,7 @@ fn all_values(
     variables: &[VariableDef],
     given: &Value,
 ) -> Result<Vec<VariableValue>, CoerceFault>
-    ensures { Answers (λ vs. map variable_data vs.items) variable_told result (variables_answer (schema_data schema.now) variables.now (view given.now)) }
+    ensures { AnswersRefusal (λ vs. map variable_data vs.items) variable_told result (variables_answer (schema_data schema.now) variables.now (view given.now)) }
 {
     let mut values = Vec::new(alloc);
     'variables: for variable in variables {
@@ -89,7 +89,7 @@ fn coerce_variable(
     variable: &VariableDef,
     given: &Value,
 ) -> Result<VariableValue, CoerceFault>
-    ensures { Answers variable_data variable_told result (variable_answer (schema_forms schema.now) (view given.now) (declared_of (schema_data schema.now) variable.now)) }
+    ensures { AnswersRefusal variable_data variable_told result (variable_answer (schema_forms schema.now) (view given.now) (declared_of (schema_data schema.now) variable.now)) }
 {
     let name = Text::copy_of(alloc, variable.name.text.as_str())?;
     match coerce_value(
@@ -110,7 +110,7 @@ fn coerce_value(
     variable: &VariableDef,
     given: Option<&Value>,
 ) -> Result<Option<Coerced>, CoerceFault>
-    ensures { Answers value_data variable_told result (value_answer (schema_forms schema.now) (declared_of (schema_data schema.now) variable.now) (option_map (λ json. view json.now) given.entry)) }
+    ensures { AnswersRefusal value_data variable_told result (value_answer (schema_forms schema.now) (declared_of (schema_data schema.now) variable.now) (option_map (λ json. view json.now) given.entry)) }
 {
     let shape = shape_in(alloc, schema, true, &variable.of)?;
     match given {
@@ -133,7 +133,7 @@ fn default_value(
     shape: &Shape,
     default: &Option<Literal>,
 ) -> Result<Option<Coerced>, CoerceFault>
-    ensures { Answers value_data variable_told result (default_answer (schema_forms schema.now) name.now (shape_tree shape.now) (maybe_value default.now)) }
+    ensures { AnswersRefusal value_data variable_told result (default_answer (schema_forms schema.now) name.now (shape_tree shape.now) (maybe_value default.now)) }
 {
     match default {
         Some(literal) => told(alloc, name, coerced_default(alloc, schema, shape, literal)),
@@ -143,7 +143,7 @@ fn default_value(
 
 /// No value, where that may be.
 fn no_value(alloc: Global, name: &str, nullable: bool) -> Result<Option<Coerced>, CoerceFault>
-    ensures { Answers value_data variable_told result (no_value name.now nullable) }
+    ensures { AnswersRefusal value_data variable_told result (no_value name.now nullable) }
 {
     if nullable {
         return Ok(None);
@@ -159,7 +159,7 @@ fn told(
     name: &str,
     value: Result<Coerced, ValueFault>,
 ) -> Result<Option<Coerced>, CoerceFault>
-    ensures { (answer : Result CoercedTree Unfit) → Answers coerced_tree unfit_told value answer → Answers value_data variable_told result (given_value (variable_refusal name.now) answer) }
+    ensures { (answer : Result CoercedTree Unfit) → AnswersRefusal coerced_tree unfit_told value answer → AnswersRefusal value_data variable_told result (given_value (variable_refusal name.now) answer) }
 {
     match value {
         Ok(value) => Ok(Some(value)),

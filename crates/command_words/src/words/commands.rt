@@ -3,7 +3,7 @@
 ghost use Rattle.std.specs.Prelude.{◌≡◌, IfOk, Err, Some, codes, map, ℕ, List};
 ghost use Rattle.clap.specs.Walk.{rows_of, first_of};
 ghost use Rattle.clap.specs.Matches.{found_of};
-ghost use Rattle.static_cost.specs.declared.part.Part.{Part as PartType};
+ghost use Rattle.response_model.specs.declared.part.Part.{Part as PartType};
 ghost use Rattle.command_words.specs.declared.command.Command.{Command as CommandType};
 ghost use Rattle.command_words.specs.Words.{GivesPart, GivesCheck, GivesPrice, GivesWorst, GivesForward, GivesMeter, GivesReplay, GivesServe, IsRequests, GivesExercise, GivesMigrate, AsksCheck, AsksPrice, AsksWorst, AsksForward, AsksMeter, AsksReplay, AsksServe, AsksExercise, AsksMigrate};
 
@@ -17,7 +17,7 @@ use crate::words::asked::{asked_of, asked_replay_of, place_text, place_word};
 use crate::words::matches::{matches_of, word_of};
 use crate::words::serving::asked_serve_of;
 use clap::ArgMatches;
-use static_cost::Part;
+use response_model::Part;
 use std::alloc::Global;
 
 // The check that words ask for.

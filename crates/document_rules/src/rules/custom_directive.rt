@@ -7,7 +7,7 @@ ghost use Rattle.schema_model.specs.SchemaViews.{schema_data};
 ghost use Rattle.document_rules.specs.Rules.{custom_at};
 
 use crate::rules::unknown_directive::is_condition;
-use crate::site_rule::{SiteRule, told};
+use crate::site_rule::{SiteRule, fault_where};
 use crate::sites::Site;
 use gql_base::Directive;
 use schema_model::Schema;
@@ -18,7 +18,7 @@ fn custom_at(schema: &Schema, directive: &Directive) -> Option<usize>
 {
     let name = directive.name.text.as_str();
     let custom = !is_condition(name) && schema.has_directive(name);
-    told(custom, directive.name.at)
+    fault_where(custom, directive.name.at)
 }
 
 fn first_custom(schema: &Schema, directives: &[Directive]) -> Option<usize>

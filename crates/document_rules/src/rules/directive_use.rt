@@ -9,7 +9,7 @@ ghost use Rattle.schema_rules.specs.Views.{literal_tree};
 ghost use Rattle.document_rules.specs.Rules.{condition_at, is_boolean_or_variable, is_if, directive_name, is_misused, first_misused};
 
 use crate::rules::unknown_directive::is_condition;
-use crate::site_rule::{SiteRule, told};
+use crate::site_rule::{SiteRule, fault_where};
 use crate::sites::Site;
 use gql_base::{Argument, Directive};
 use schema_rules::{Literal, opened};
@@ -18,7 +18,7 @@ use std::alloc::{AllocError, Global};
 fn condition_at(directive: &Directive) -> Option<usize>
     ensures { result ≡ condition_at (directive_tree directive.now) }
 {
-    told(
+    fault_where(
         is_condition(directive.name.text.as_str()),
         directive.name.at,
     )

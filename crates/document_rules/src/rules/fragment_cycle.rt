@@ -8,7 +8,7 @@ ghost use Rattle.document_rules.specs.Views.{met_data};
 
 use crate::indexes::{Defined, fragment_number};
 use crate::met::Met;
-use crate::site_rule::{SiteRule, told};
+use crate::site_rule::{SiteRule, fault_where};
 use crate::sites::Site;
 use gql_base::Indexed;
 use std::alloc::{AllocError, Global};
@@ -67,7 +67,7 @@ impl<'c, 'a> SiteRule for FragmentCycle<'c, 'a> {
         match site {
             Site::Spread { within, name, .. } => {
                 let number = fragment_number(self.fragments, name.text.as_str());
-                Ok(told(is_inside(self.met, within, number), name.at))
+                Ok(fault_where(is_inside(self.met, within, number), name.at))
             }
             _ => Ok(None),
         }

@@ -7,7 +7,7 @@ ghost use Rattle.schema_model.specs.SchemaViews.{schema_data};
 ghost use Rattle.document_rules.specs.Rules.{no_composite, no_composite_if_there};
 
 use crate::lookups::composite_named;
-use crate::site_rule::{SiteRule, told};
+use crate::site_rule::{SiteRule, fault_where};
 use crate::sites::Site;
 use gql_base::Name;
 use schema_model::Schema;
@@ -17,7 +17,7 @@ fn no_composite(schema: &Schema, name: &Name) -> Option<usize>
     ensures { result ≡ no_composite (schema_data schema.now) (identifier_of name.now) }
 {
     let known = composite_named(schema, name.text.as_str()).is_some();
-    told(!known, name.at)
+    fault_where(!known, name.at)
 }
 
 fn no_composite_if_there(schema: &Schema, name: &Option<Name>) -> Option<usize>

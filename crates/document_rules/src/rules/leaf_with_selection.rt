@@ -6,7 +6,7 @@ ghost use Rattle.document_rules.specs.Rules.{is_leaf};
 ghost use Rattle.document_rules.specs.Views.{meaning_data};
 
 use crate::lookups::{Meaning, is_composite, type_of_field};
-use crate::site_rule::{SiteRule, told};
+use crate::site_rule::{SiteRule, fault_where};
 use crate::sites::Site;
 use schema_model::Schema;
 use std::alloc::{AllocError, Global};
@@ -37,7 +37,7 @@ impl<'c> SiteRule for LeafWithSelection<'c> {
         match site {
             Site::Field { meaning, field } => {
                 let wrong = !field.selections.is_empty() && is_leaf(self.schema, meaning);
-                Ok(told(wrong, field.name.at))
+                Ok(fault_where(wrong, field.name.at))
             }
             _ => Ok(None),
         }

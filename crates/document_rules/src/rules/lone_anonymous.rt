@@ -5,7 +5,7 @@ ghost use Rattle.schema_rules.specs.First.{first_of};
 ghost use Rattle.document_rules.specs.Parts.{operations_of};
 ghost use Rattle.document_rules.specs.Rules.{anonymous_at, lone_anonymous};
 
-use crate::site_rule::told;
+use crate::site_rule::fault_where;
 use document_reader::Definition;
 
 fn operation_count(definitions: &[Definition]) -> usize

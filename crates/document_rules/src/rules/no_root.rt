@@ -4,7 +4,7 @@ ghost use Rattle.std.specs.Prelude.{◌≡◌, is_some};
 ghost use Rattle.schema_model.specs.SchemaViews.{schema_data};
 ghost use Rattle.document_rules.specs.Rules.{no_root};
 
-use crate::site_rule::told;
+use crate::site_rule::fault_where;
 use document_reader::Operation;
 use gql_base::OperationKind;
 use schema_model::Schema;
@@ -20,7 +20,7 @@ pub fn no_root(schema: &Schema, operation: &Operation) -> Option<usize>
     ensures { result ≡ no_root (schema_data schema.now) operation.now }
 {
     match operation.kind {
-        OperationKind::Mutation => told(!has_mutations(schema), operation.at),
+        OperationKind::Mutation => fault_where(!has_mutations(schema), operation.at),
         OperationKind::Query | OperationKind::Subscription => None,
     }
 }

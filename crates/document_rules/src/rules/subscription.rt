@@ -3,7 +3,7 @@
 ghost use Rattle.std.specs.Prelude.{◌≡◌};
 ghost use Rattle.document_rules.specs.Rules.{subscription};
 
-use crate::site_rule::told;
+use crate::site_rule::fault_where;
 use document_reader::Operation;
 use gql_base::OperationKind;
 
@@ -12,7 +12,7 @@ pub fn subscription(operation: &Operation) -> Option<usize>
     ensures { result ≡ subscription operation.now }
 {
     match operation.kind {
-        OperationKind::Subscription => told(true, operation.at),
+        OperationKind::Subscription => fault_where(true, operation.at),
         OperationKind::Query | OperationKind::Mutation => None,
     }
 }

@@ -10,7 +10,7 @@ ghost use Rattle.document_rules.specs.Sites.{arguments_at};
 ghost use Rattle.document_rules.specs.Views.{declared_tree, site_data};
 
 use crate::indexes::{Declared, is_declared};
-use crate::site_rule::{SiteRule, told};
+use crate::site_rule::{SiteRule, fault_where};
 use crate::sites::Site;
 use gql_base::{Argument, Directive, Indexed, Name, Value};
 use std::alloc::{AllocError, Global};
@@ -19,7 +19,7 @@ fn undeclared(variables: &Indexed<Declared<'_>>, name: &Name) -> Option<usize>
     ensures { result ≡ undeclared (map declared_tree variables.now.items.items) (identifier_of name.now) }
 {
     let known = is_declared(variables, name.text.as_str());
-    told(!known, name.at)
+    fault_where(!known, name.at)
 }
 
 /// The first variable of a value that isn't declared.

@@ -8,7 +8,7 @@ ghost use Rattle.document_rules.specs.Rules.{is_unknown_argument, unknown_argume
 ghost use Rattle.document_rules.specs.Views.{meaning_data};
 
 use crate::lookups::Meaning;
-use crate::site_rule::{SiteRule, told};
+use crate::site_rule::{SiteRule, fault_where};
 use crate::sites::Site;
 use gql_base::Argument;
 use schema_model::Schema;
@@ -29,7 +29,7 @@ fn unknown_argument_at(schema: &Schema, meaning: Meaning, argument: &Argument) -
     ensures { result ≡ unknown_argument_at (schema_data schema.now) (meaning_data meaning) (named_value argument.now) }
 {
     let unknown = is_unknown_argument(schema, meaning, argument.name.text.as_str());
-    told(unknown, argument.name.at)
+    fault_where(unknown, argument.name.at)
 }
 
 fn first_unknown(schema: &Schema, meaning: Meaning, arguments: &[Argument]) -> Option<usize>

@@ -6,7 +6,7 @@ ghost use Rattle.schema_rules.specs.First.{first_of};
 ghost use Rattle.schema_model.specs.SchemaViews.{schema_data};
 ghost use Rattle.document_rules.specs.Rules.{is_condition, unknown_at};
 
-use crate::site_rule::{SiteRule, told};
+use crate::site_rule::{SiteRule, fault_where};
 use crate::sites::Site;
 use gql_base::Directive;
 use schema_model::Schema;
@@ -24,7 +24,7 @@ fn unknown_at(schema: &Schema, directive: &Directive) -> Option<usize>
 {
     let name = directive.name.text.as_str();
     let known = is_condition(name) || schema.has_directive(name);
-    told(!known, directive.name.at)
+    fault_where(!known, directive.name.at)
 }
 
 fn first_unknown(schema: &Schema, directives: &[Directive]) -> Option<usize>

@@ -5,7 +5,7 @@ ghost use Rattle.document_rules.specs.Rules.{is_no_such_field};
 ghost use Rattle.document_rules.specs.Views.{meaning_data};
 
 use crate::lookups::Meaning;
-use crate::site_rule::{SiteRule, told};
+use crate::site_rule::{SiteRule, fault_where};
 use crate::sites::Site;
 use std::alloc::{AllocError, Global};
 
@@ -29,7 +29,10 @@ impl SiteRule for UnknownField {
 
     fn broken(&self, _alloc: Global, site: Site<'_>) -> Result<Option<usize>, AllocError> {
         match site {
-            Site::Field { meaning, field } => Ok(told(is_no_such_field(meaning), field.name.at)),
+            Site::Field { meaning, field } => Ok(fault_where(
+                is_no_such_field(meaning),
+                field.name.at,
+            )),
             _ => Ok(None),
         }
     }

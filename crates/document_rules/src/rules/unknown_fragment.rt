@@ -1,7 +1,7 @@
 //! Each spread names a fragment of the document (GraphQL October 2021, 5.5.2.1).
 
 use crate::indexes::{Defined, is_defined};
-use crate::site_rule::{SiteRule, told};
+use crate::site_rule::{SiteRule, fault_where};
 use crate::sites::Site;
 use gql_base::Indexed;
 use std::alloc::{AllocError, Global};
@@ -23,7 +23,7 @@ impl<'c, 'a> SiteRule for UnknownFragment<'c, 'a> {
         match site {
             Site::Spread { name, .. } => {
                 let known = is_defined(self.fragments, name.text.as_str());
-                Ok(told(!known, name.at))
+                Ok(fault_where(!known, name.at))
             }
             _ => Ok(None),
         }

@@ -18,7 +18,7 @@ ghost use Rattle.document_rules.specs.Views.{declared_tree, site_data, use_at, i
 
 use crate::indexes::{Declared, variable_named};
 use crate::lookups::{Inputs, Meaning, input_named};
-use crate::site_rule::{SiteRule, told};
+use crate::site_rule::{SiteRule, fault_where};
 use crate::sites::Site;
 use document_reader::VariableDef;
 use gql_base::{Argument, Directive, Indexed, Name, TypeRef, Value};
@@ -124,7 +124,7 @@ fn misplaced(
     match variable_named(rule.variables, name.text.as_str()) {
         Some(variable) => {
             let usable = is_usable(rule.schema, variable, place, has_default);
-            told(!usable, name.at)
+            fault_where(!usable, name.at)
         }
         None => None,
     }
@@ -240,7 +240,7 @@ fn no_condition(rule: &VariablePlace<'_, '_>, at: usize, name: &str) -> Option<u
     ensures { result ≡ no_condition at (first_of_name variable_name (map declared_tree rule.now.variables.now.items.items) name.now) }
 {
     match variable_named(rule.variables, name) {
-        Some(variable) => told(!fits_boolean(variable), at),
+        Some(variable) => fault_where(!fits_boolean(variable), at),
         None => None,
     }
 }

@@ -7,7 +7,7 @@ ghost use Rattle.schema_model.specs.SchemaViews.{schema_data};
 ghost use Rattle.document_rules.specs.Rules.{named_in, is_input, no_input};
 
 use crate::lookups::is_composite;
-use crate::site_rule::{SiteRule, told};
+use crate::site_rule::{SiteRule, fault_where};
 use crate::sites::Site;
 use gql_base::{Name, TypeRef};
 use input_values::TypeId;
@@ -40,7 +40,7 @@ fn no_input(schema: &Schema, name: &Name) -> Option<usize>
 {
     let text = name.text.as_str();
     let wrong = text == "Float" || !is_input(schema, schema.find(text));
-    told(wrong, name.at)
+    fault_where(wrong, name.at)
 }
 
 /// Refuses a variable whose type names no scalar, enum or input object type, or names Float.

@@ -2,14 +2,14 @@ use Rattle.std.proofs.Common.{Option, Some, map, subst}
 use Rattle.schema_model.specs.SchemaViews.{schema_data}
 use Rattle.collected_fields.specs.Prepared.{entry_data}
 use Rattle.collected_fields.specs.Steps.{step_data}
-use Rattle.collected_fields.specs.Fieldless.{marked_for, Passes}
+use Rattle.collected_fields.specs.Fieldless.{marked_for, PassesFieldless}
 use Rattle.collected_fields.proofs.Marking.{more_still}
 use Rattle.collected_fields.proofs.FieldlessLaws.{step_passed, marked_too}
 use Rattle.collected_fields.proofs.fieldless.+fieldless.Goals as goal
 
 pub are_steps_fieldless-steps-preserved : goal.are_steps_fieldless-steps-preserved
 are_steps_fieldless-steps-preserved t c =
-    let passes : Passes c.args.tables.now c.args.of.number c.passes.new.known.none (step_data c.index-steps-at.result) (Some c.in-Some.skip) = subst (λ (o : Option _). Passes c.args.tables.now c.args.of.number c.passes.new.known.none (step_data c.index-steps-at.result) o) c.in-Some.is c.in_ok-skip.ensures.passes in (
+    let passes : PassesFieldless c.args.tables.now c.args.of.number c.passes.new.known.none (step_data c.index-steps-at.result) (Some c.in-Some.skip) = subst (λ (o : Option _). PassesFieldless c.args.tables.now c.args.of.number c.passes.new.known.none (step_data c.index-steps-at.result) o) c.in-Some.is c.in_ok-skip.ensures.passes in (
       more_still c.args.known.now.none c.steps.known.none c.passes.new.known.none c.steps.invariant.0 c.passes.ensures.more,
       λ known. c.passes.ensures.still (c.steps.invariant.1 known),
       λ more marks rest. c.steps.invariant.2 more (more_still c.steps.known.none c.passes.new.known.none more c.passes.ensures.more marks)

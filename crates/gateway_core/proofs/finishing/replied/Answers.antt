@@ -1,7 +1,7 @@
 -- The message is that of the first test that the reply doesn't pass.
 use Rattle.std.proofs.Common.{subst}
 use Rattle.response_model.specs.Plan.{Plan as PlanTree}
-use Rattle.static_cost.specs.TableBound.{HoldsSound}
+use Rattle.plan_table.specs.TableBounds.{HoldsSound}
 use Rattle.response_meter.specs.Faults.{Tells}
 use Rattle.response_meter.specs.Metered.{first_fault_in}
 use Rattle.response_meter.specs.declared.fault.MeterFault.TheVariants.{NotResponse, SizeBroken}

@@ -1,6 +1,6 @@
 use Rattle.std.proofs.Common.{rules, drop}
 use Rattle.plan_table.specs.Tables.{table_rows}
-use Rattle.static_cost.specs.Components.{part_of}
+use Rattle.response_model.specs.Components.{part_of}
 use Rattle.static_cost.proofs.Picks.{first_choices, next_choices}
 use Rattle.static_cost.proofs.choices.choices.Goals as goal
 

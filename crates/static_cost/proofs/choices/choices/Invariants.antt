@@ -1,6 +1,6 @@
 use Rattle.std.proofs.Common.{◌≡◌, drop, reverse}
 use Rattle.plan_table.specs.Tables.{table_rows}
-use Rattle.static_cost.specs.Components.{part_of}
+use Rattle.response_model.specs.Components.{part_of}
 use Rattle.static_cost.specs.Choices.{choices}
 use Rattle.static_cost.specs.Picking.{HoldsPicks}
 use Rattle.static_cost.proofs.choices.choices.Given as goal

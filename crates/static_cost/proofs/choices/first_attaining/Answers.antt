@@ -5,7 +5,7 @@ use Rattle.response_model.specs.Cost.{value_cost}
 use Rattle.cost_directives.specs.Weights.{type_in}
 use Rattle.cost_directives.specs.WeightViews.{weights_data}
 use Rattle.plan_table.specs.Tables.{setting_in}
-use Rattle.static_cost.specs.Components.{part_of}
+use Rattle.response_model.specs.Components.{part_of}
 use Rattle.static_cost.proofs.Picks.{first_found, first_behind, none_attaining}
 use Rattle.static_cost.proofs.choices.first_attaining.Goals as goal
 

@@ -1,7 +1,7 @@
 use Rattle.std.proofs.Common.{◌≡◌, map, drop}
 use Rattle.schema_model.specs.Numbers.{type_number}
 use Rattle.plan_table.specs.Tables.{weighed, setting_in}
-use Rattle.static_cost.specs.Components.{part_of}
+use Rattle.response_model.specs.Components.{part_of}
 use Rattle.static_cost.specs.Choices.{first_attaining}
 use Rattle.static_cost.proofs.choices.first_attaining.Given as goal
 

@@ -1,6 +1,6 @@
 use Rattle.std.proofs.Common.{Err, refl, ap, ◌∙◌}
 use Rattle.plan_table.specs.Trees.{tree_of}
-use Rattle.static_cost.specs.Components.{part_of}
+use Rattle.response_model.specs.Components.{part_of}
 use Rattle.static_cost.specs.declared.filling.WorstFault.TheVariants.{TooLarge}
 use Rattle.static_cost.proofs.FilledRows.{worst_filled, worst_too_large, same_fault}
 use Rattle.static_cost.proofs.Floatless.{filled_floatless}

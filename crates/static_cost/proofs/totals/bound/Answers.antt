@@ -1,6 +1,6 @@
 use Rattle.std.proofs.Common.{refl}
 use Rattle.response_model.specs.Cost.{types, fields}
-use Rattle.static_cost.specs.TableBound.{holds_in}
+use Rattle.plan_table.specs.TableBounds.{holds_in}
 use Rattle.static_cost.proofs.Bounds.{is_bound, same_bound, names, names_one, not_within}
 use Rattle.static_cost.proofs.TablePasses.{greatest_found}
 use Rattle.static_cost.proofs.totals.bound.Goals as goal

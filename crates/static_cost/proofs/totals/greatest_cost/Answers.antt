@@ -1,7 +1,7 @@
 use Rattle.std.proofs.Common.{rules, ap, ◌∙◌}
 use Rattle.cost_directives.specs.Weights.{type_in}
 use Rattle.cost_directives.specs.WeightViews.{weights_data}
-use Rattle.static_cost.specs.Components.{part_of}
+use Rattle.response_model.specs.Components.{part_of}
 use Rattle.static_cost.proofs.TablePasses.{first_totals, next_totals, last_totals}
 use Rattle.static_cost.proofs.totals.greatest_cost.Goals as goal
 

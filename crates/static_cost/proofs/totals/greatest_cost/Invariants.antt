@@ -1,7 +1,7 @@
 use Rattle.std.proofs.Common.{drop}
 use Rattle.plan_table.specs.Tables.{table_rows}
 use Rattle.plan_table.specs.Totals.{totals}
-use Rattle.static_cost.specs.Components.{part_of}
+use Rattle.response_model.specs.Components.{part_of}
 use Rattle.static_cost.specs.ByDepth.{HoldsTotals}
 use Rattle.static_cost.proofs.totals.greatest_cost.Given as goal
 

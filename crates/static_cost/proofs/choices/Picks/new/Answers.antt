@@ -1,4 +1,4 @@
-use Rattle.static_cost.specs.Components.{part_of}
+use Rattle.response_model.specs.Components.{part_of}
 use Rattle.static_cost.proofs.Picks.{no_totals, none_picked}
 use Rattle.static_cost.proofs.choices.Picks.new.Goals as goal
 

@@ -1,7 +1,7 @@
 use Rattle.std.proofs.Common.{rules, refl}
 use Rattle.plan_table.specs.Tables.{row_in}
 use Rattle.plan_table.specs.Totals.{totals}
-use Rattle.static_cost.specs.Components.{part_of}
+use Rattle.response_model.specs.Components.{part_of}
 use Rattle.static_cost.proofs.Picks.{totals_taken, type_picked, none_taken, chosen_is}
 use Rattle.static_cost.proofs.choices.Picks.take.Goals as goal
 

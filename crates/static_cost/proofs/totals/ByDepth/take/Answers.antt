@@ -2,7 +2,7 @@ use Rattle.std.proofs.Common.{rules, ap, ◌∙◌}
 use Rattle.response_model.specs.Cost.{value_cost}
 use Rattle.cost_directives.specs.Weights.{type_in}
 use Rattle.cost_directives.specs.WeightViews.{weights_data}
-use Rattle.static_cost.specs.Components.{part_of}
+use Rattle.response_model.specs.Components.{part_of}
 use Rattle.static_cost.proofs.Depths.{node_step, type_step, cost_of_type}
 use Rattle.static_cost.proofs.totals.ByDepth.take.Goals as goal
 
