@@ -3,7 +3,7 @@ use Rattle.std.proofs.Common.{◌≡◌, ℕ, ◌<◌, ◌≤◌, List, [], ◌�
 use Rattle.std.specs.List.{before_first, after_first}
 use Rattle.std.proofs.lemmas.Bool.{eqb-true}
 use Rattle.std.proofs.lemmas.List.{append-nil, length-map, map-append}
-use Rattle.replay_scripts.specs.declared.step.TheConstants.{LINE_LIMIT}
+use Rattle.replay_scripts.specs.Limits.{line_limit}
 use Rattle.replay_scripts.specs.declared.fault.ScriptFault.{ScriptFault}
 use Rattle.replay_scripts.specs.declared.fault.ScriptFault.TheVariants.{BadLine, RepeatedId, UnknownId, Memory}
 use Rattle.replay_scripts.specs.declared.step.Step.{Step}
@@ -36,7 +36,7 @@ pub front_step : (text rest line more : List ℕ) (steps : List StepData) (place
 front_step text rest line more steps places after step front some first left follows know =
     let size = as_many front.before steps front.script.spelled in
     let few = follows.behind.few in
-    let short : length front.before < LINE_LIMIT = omega (arith, size, few) in
+    let short : length front.before < line_limit = omega (arith, size, few) in
     let may = subst (λ begun. MayCome begun step) (λ i id. front.know id i) follows.may in
     record {
       before = front.before ++ line ∷ [];
@@ -66,7 +66,7 @@ front_fault text rest line steps places fault front some first wrong =
     }
 
 -- no more lines are read than there may be
-pub front_few : (text rest : List ℕ) (steps : List StepData) (places : List ℕ → Option ℕ) → IsFront text rest steps places → length steps ≤ LINE_LIMIT
+pub front_few : (text rest : List ℕ) (steps : List StepData) (places : List ℕ → Option ℕ) → IsFront text rest steps places → length steps ≤ line_limit
 front_few text rest steps places front = let few = front.script.few in omega (arith, few, as_many front.before steps front.script.spelled)
 
 -- ---- as the code has them
@@ -86,8 +86,8 @@ end_here text rest steps places front h = front_end text rest steps places front
 counted : (steps : List Step) (count : ℕ) → count ≡ length steps → count ≡ length (map step_data steps)
 counted steps count is = is ∙ sym (length-map steps step_data)
 
-pub few_here : (text rest : List ℕ) (steps : List Step) (places : List ℕ → Option ℕ) (count : ℕ) → IsFront text rest (map step_data steps) places → count ≡ length steps → count ≤ LINE_LIMIT
-few_here text rest steps places count front is = subst (λ n. n ≤ LINE_LIMIT) (sym (counted steps count is)) (front_few text rest (map step_data steps) places front)
+pub few_here : (text rest : List ℕ) (steps : List Step) (places : List ℕ → Option ℕ) (count : ℕ) → IsFront text rest (map step_data steps) places → count ≡ length steps → count ≤ line_limit
+few_here text rest steps places count front is = subst (λ n. n ≤ line_limit) (sym (counted steps count is)) (front_few text rest (map step_data steps) places front)
 
 pub fault_here : (text rest line : List ℕ) (steps : List Step) (places : List ℕ → Option ℕ) (count : ℕ) (fault : ScriptFault) → IsFront text rest (map step_data steps) places → nat_eq (length rest) 0 ≡ false
     → line ≡ before_first is_line_feed rest → count ≡ length steps → IsAtFault (stands places) count line fault → HasFault text fault

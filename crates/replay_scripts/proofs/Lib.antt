@@ -7,3 +7,4 @@ pub mod StepLines
 pub mod ScriptLines
 pub mod OneAnswer
 pub mod Fronts
+pub mod Either

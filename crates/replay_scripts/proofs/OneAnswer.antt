@@ -1,7 +1,7 @@
 -- A text is one script, or has one fault.
 use Rattle.std.proofs.Common.{◌≡◌, ◌⊎◌, inl, inr, ℕ, ◌<◌, List, [], ◌∷◌, ◌++◌, length, Bool, refl, sym, ap, ◌∙◌, subst, arith}
 use Rattle.std.proofs.lemmas.List.{length-append}
-use Rattle.replay_scripts.specs.declared.step.TheConstants.{LINE_LIMIT}
+use Rattle.replay_scripts.specs.Limits.{line_limit}
 use Rattle.replay_scripts.specs.declared.fault.ScriptFault.{ScriptFault}
 use Rattle.replay_scripts.specs.declared.fault.ScriptFault.TheVariants.{BadLine, RepeatedId, UnknownId, Memory}
 use Rattle.replay_scripts.specs.Steps.{StepData, IsStepLine}
@@ -11,7 +11,7 @@ use Rattle.replay_scripts.proofs.StepLines.{one_step}
 use Rattle.replay_scripts.proofs.ScriptLines.{same_steps, cut_script, not_again, not_unknown, not_both}
 
 -- a line that is a step which may come is at no fault
-not_at_fault : (begun : List ℕ → Bool) (count : ℕ) (line : List ℕ) (step : StepData) (fault : ScriptFault) → count < LINE_LIMIT → IsStepLine line step → MayCome begun step → IsAtFault begun count line fault → ⊥
+not_at_fault : (begun : List ℕ → Bool) (count : ℕ) (line : List ℕ) (step : StepData) (fault : ScriptFault) → count < line_limit → IsStepLine line step → MayCome begun step → IsAtFault begun count line fault → ⊥
 not_at_fault begun count line step (BadLine number) few is may wrong = elim wrong.1 [ inl full ↦ absurd (omega (arith, few, full)) | inr never ↦ never step is ]
 not_at_fault begun count line step (RepeatedId number) few is may wrong = not_again begun step may (subst (BeginsAgain begun) (one_step line wrong.1.0 step wrong.1.1.spelled is) wrong.1.2)
 not_at_fault begun count line step (UnknownId number) few is may wrong = not_unknown begun step may (subst (EndsUnknown begun) (one_step line wrong.1.0 step wrong.1.1.spelled is) wrong.1.2)
@@ -24,7 +24,7 @@ no_fault lines steps fault script f =
     let same = same_steps f.before cut.steps f.steps cut.spelled f.script.spelled in
     let size = ap length f.cut in
     let few = script.few in
-    let short : length f.before < LINE_LIMIT = omega (arith, size, few, length-append f.before (f.line ∷ f.after)) in
+    let short : length f.before < line_limit = omega (arith, size, few, length-append f.before (f.line ∷ f.after)) in
     not_at_fault (has_begun (begun_after [] f.steps)) (length f.before) f.line cut.step fault short cut.is_step (subst (λ l. MayCome (has_begun (begun_after [] l)) cut.step) same cut.may) f.wrong
 
 -- ---- two cuts of the same lines

@@ -1,7 +1,7 @@
 -- Scripts that get longer by a line.
 use Rattle.std.proofs.Common.{◌≡◌, ℕ, ◌<◌, List, [], ◌∷◌, ◌++◌, length, Bool, refl, arith}
 use Rattle.std.proofs.lemmas.List.{length-append}
-use Rattle.replay_scripts.specs.declared.step.TheConstants.{LINE_LIMIT}
+use Rattle.replay_scripts.specs.Limits.{line_limit}
 use Rattle.replay_scripts.specs.Steps.{StepData, begins, ends, IsStepLine}
 use Rattle.replay_scripts.specs.Scripts.{AreStepLines, has_begun, with_begun, begun_after, MayCome, AreInOrder, AreScriptLines}
 use Rattle.replay_scripts.specs.Faults.{BeginsAgain, EndsUnknown}
@@ -39,7 +39,7 @@ begun_more [] ids step = refl
 begun_more (s ∷ steps) ids step = begun_more steps (with_begun s ids) step
 
 -- one more line makes a script of one more step
-pub script_more : (lines : List (List ℕ)) (steps : List StepData) (line : List ℕ) (step : StepData) → AreScriptLines lines steps → length lines < LINE_LIMIT → IsStepLine line step → MayCome (has_begun (begun_after [] steps)) step
+pub script_more : (lines : List (List ℕ)) (steps : List StepData) (line : List ℕ) (step : StepData) → AreScriptLines lines steps → length lines < line_limit → IsStepLine line step → MayCome (has_begun (begun_after [] steps)) step
     → AreScriptLines (lines ++ line ∷ []) (steps ++ step ∷ [])
 script_more lines steps line step script few is may = record {
   spelled = spelled_more lines steps line step script.spelled is;

@@ -1,6 +1,6 @@
 -- The first fault of a text that is no script.
 use Rattle.std.specs.Prelude.{◌≡◌, ◌⊎◌, ℕ, ◌+◌, ◌<◌, Bool, true, false, List, [], ◌∷◌, ◌++◌, length}
-use Rattle.replay_scripts.specs.declared.step.TheConstants.{LINE_LIMIT}
+use Rattle.replay_scripts.specs.Limits.{line_limit}
 use Rattle.replay_scripts.specs.declared.fault.ScriptFault.{ScriptFault}
 use Rattle.replay_scripts.specs.declared.fault.ScriptFault.TheVariants.{BadLine, RepeatedId, UnknownId, Memory}
 use Rattle.replay_scripts.specs.Lines.{lines_of}
@@ -19,12 +19,12 @@ EndsUnknown begun (ends id returned) = begun id ≡ false
 
 -- behind so many lines the line is a step
 pub record IsStepBehind (count : ℕ) (line : List ℕ) (step : StepData) : Type 0 where
-  pub few : count < LINE_LIMIT
+  pub few : count < line_limit
   pub spelled : IsStepLine line step
 
 -- behind so many lines, no line may come, or this one spells no step
 abbrev pub IsNoStepBehind : ℕ → List ℕ → Type 0
-IsNoStepBehind count line = (count ≡ LINE_LIMIT) ⊎ ((step : StepData) → ¬ (IsStepLine line step))
+IsNoStepBehind count line = (count ≡ line_limit) ⊎ ((step : StepData) → ¬ (IsStepLine line step))
 
 -- what is wrong with the line behind so many lines, when these requests began, with its number
 abbrev pub IsAtFault : (List ℕ → Bool) → ℕ → List ℕ → ScriptFault → Type 0

@@ -1,4 +1,5 @@
 -- The meaning: lines, steps and their spelling, scripts, the first fault of a text that is none, and the texts of faults.
+pub mod Limits
 pub mod Lines
 pub mod Steps
 pub mod Scripts

@@ -2,7 +2,7 @@
 use Rattle.std.specs.Prelude.{◌≡◌, ℕ, ◌≤◌, Bool, true, false, List, [], ◌∷◌, length, ⊤}
 use Rattle.std.specs.List.{list_any}
 use Rattle.std.specs.Str.{bytes_eq}
-use Rattle.replay_scripts.specs.declared.step.TheConstants.{LINE_LIMIT}
+use Rattle.replay_scripts.specs.Limits.{line_limit}
 use Rattle.replay_scripts.specs.Lines.{lines_of}
 use Rattle.replay_scripts.specs.Steps.{StepData, begins, ends, IsStepLine}
 
@@ -39,7 +39,7 @@ AreInOrder ids (step ∷ steps) = MayCome (has_begun ids) step × AreInOrder (wi
 -- the lines are those of a script with these steps
 pub record AreScriptLines (lines : List (List ℕ)) (steps : List StepData) : Type 0 where
   pub spelled : AreStepLines lines steps
-  pub few : length lines ≤ LINE_LIMIT
+  pub few : length lines ≤ line_limit
   pub ordered : AreInOrder [] steps
 
 -- the text is a script with these steps

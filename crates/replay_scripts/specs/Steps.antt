@@ -4,7 +4,7 @@ use Rattle.std.specs.Char.{is_ascii_alphanumeric}
 use Rattle.std.specs.Fmt.{decimal}
 use Rattle.std.specs.List.{list_all}
 use Rattle.client_files.specs.ClientLines.{is_key}
-use Rattle.replay_scripts.specs.declared.step.TheConstants.{ID_LIMIT}
+use Rattle.replay_scripts.specs.Limits.{id_limit}
 use Rattle.replay_scripts.specs.declared.step.Step.{Step}
 use Rattle.replay_scripts.specs.declared.step.Step.TheVariants.{Begin, End}
 use Rattle.replay_scripts.specs.declared.step.Returned.{Returned}
@@ -32,7 +32,7 @@ step_data (End id returned) = ends id.now (returned_data returned)
 
 -- a request's id has 1 to 16 ASCII letters and digits
 abbrev pub is_id : List ℕ → Bool
-is_id id = nat_lt 0 (length id) && (nat_le (length id) ID_LIMIT && list_all is_ascii_alphanumeric id)
+is_id id = nat_lt 0 (length id) && (nat_le (length id) id_limit && list_all is_ascii_alphanumeric id)
 
 -- a step that a script may have
 abbrev pub IsStep : StepData → Type 0

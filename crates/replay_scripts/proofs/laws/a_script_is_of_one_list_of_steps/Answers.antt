@@ -1,5 +1,6 @@
 use Rattle.replay_scripts.specs.Lines.{lines_of}
 use Rattle.replay_scripts.proofs.ScriptLines.{same_steps}
+use Rattle.replay_scripts.proofs.Either.{script_or_fault}
 use Rattle.replay_scripts.proofs.OneAnswer.{no_fault, one_fault}
 use Rattle.replay_scripts.proofs.laws.a_script_is_of_one_list_of_steps.Goals as goal
 
@@ -11,3 +12,6 @@ returns-clause-one_script c = λ text a b one two. same_steps (lines_of text) a 
 
 pub returns-clause-one_fault : goal.returns-clause-one_fault
 returns-clause-one_fault c = λ text. one_fault (lines_of text)
+
+pub returns-clause-either : goal.returns-clause-either
+returns-clause-either c = script_or_fault
