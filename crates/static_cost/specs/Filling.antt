@@ -1,12 +1,13 @@
 -- The filled response as it is read from rows, and what filling takes.
-use Rattle.std.specs.Prelude.{◌≡◌, ◌<◌, ℕ, suc, ◌+◌, List, drop, Result, Ok, Err}
-use Rattle.response_model.specs.Response.{Tree, list_of, object, Entries}
+use Rattle.std.specs.Prelude.{◌≡◌, ◌<◌, ℕ, suc, ◌+◌, List, map, drop, Result, Ok, Err}
+use Rattle.response_model.specs.Response.{Tree, list_of, object, Elements, Entries}
 use Rattle.response_model.specs.Filled.{repeated, filled_in, filled_count}
+use Rattle.plan_table.specs.declared.response.Entry.{Entry}
 use Rattle.plan_table.specs.declared.rows.NodeRow.{NodeRow}
 use Rattle.plan_table.specs.declared.response.Tree.{Tree as ResponseTree}
 use Rattle.plan_table.specs.declared.table.Plan.{Plan}
 use Rattle.plan_table.specs.Tables.{row_in, table_rows}
-use Rattle.plan_table.specs.Trees.{tree_of}
+use Rattle.plan_table.specs.Trees.{tree_of, keyed_tree, entries_from}
 use Rattle.static_cost.specs.Worst.{values_of_entries}
 use Rattle.static_cost.specs.declared.filling.WorstFault.{WorstFault}
 use Rattle.static_cost.specs.declared.filling.WorstFault.TheVariants.{TooLarge, Memory}
@@ -36,16 +37,24 @@ value_at p choices row on next = filled_in (row_in p row).selected.form (row_in 
 abbrev pub item_of : Plan → List ℕ → Node → Tree
 item_of p choices n = item_at p choices n.row.now n.on n.next
 
+-- the entries of a node's object
+abbrev pub entries_of : Plan → List ℕ → Node → Entries
+entries_of p choices n = entries_from_row p choices n.next (suc n.row.now.depth) n.on
+
+-- so many items of a node
+abbrev pub items_of : Plan → List ℕ → Node → ℕ → Elements
+items_of p choices n count = repeated count (item_of p choices n)
+
+-- the entries that these are
+abbrev pub made_entries : List Entry → Entries
+made_entries es = entries_from (map keyed_tree es)
+
 abbrev pub list_value : Plan → List ℕ → Node → Tree
 list_value p choices n = list_of (repeated (filled_count n.row.now.size) (item_of p choices n))
 
 abbrev pub value_of : Plan → List ℕ → Node → Tree
 value_of p choices n = value_at p choices n.row.now n.on n.next
 
--- the entries of the object of a node
-abbrev pub entries_below : Plan → List ℕ → Node → Entries
-entries_below p choices n = entries_from_row p choices n.next (suc n.row.now.depth) n.on
-
 -- What was made is the object of a node, and took as many values as its entries have.
 abbrev pub FillsObject : Plan → List ℕ → Node → Result ResponseTree WorstFault → ℕ → ℕ → Type 0
-FillsObject p choices n result before after = Fills result before after (values_of_entries (entries_below p choices n)) (λ t. tree_of t ≡ object n.on (entries_below p choices n))
+FillsObject p choices n result before after = Fills result before after (values_of_entries (entries_of p choices n)) (λ t. tree_of t ≡ object n.on (entries_of p choices n))

@@ -1,6 +1,6 @@
 //! A response that costs as much as the bound.
 
-ghost use Rattle.std.specs.Prelude.{◌≡◌, ◌*◌, suc, IfOk, IsErrOf, map, get_or, eqb, ◌&&◌};
+ghost use Rattle.std.specs.Prelude.{◌≡◌, ◌*◌, IfOk, IsErrOf, map, get_or, eqb, ◌&&◌};
 ghost use Rattle.serde_json.specs.Data.{string};
 ghost use Rattle.serde_json.specs.View.{view};
 ghost use Rattle.response_model.specs.Response.{leaf, list_of, object};
@@ -14,7 +14,7 @@ ghost use Rattle.plan_table.specs.TableBounds.{IsWithinCap};
 ghost use Rattle.static_cost.specs.Worst.{values, values_of_elements, values_of_entries, IsWorst, IsTooLarge};
 ghost use Rattle.static_cost.specs.declared.filling.WorstFault.TheVariants.{TooLarge};
 ghost use Rattle.response_model.specs.Components.{part_of};
-ghost use Rattle.static_cost.specs.Filling.{FillsObject, Fills, entries_from_row, item_of, list_value, value_of};
+ghost use Rattle.static_cost.specs.Filling.{FillsObject, Fills, entries_from_row, items_of, made_entries, item_of, list_value, value_of};
 
 use crate::choices::choices;
 use crate::leaves::{fill_leaf, text_value};
@@ -189,7 +189,8 @@ fn fill_items(
     count: u64,
     left: &mut u64,
 ) -> Result<Vec<Tree>, WorstFault>
-    ensures { Fills result left.old left.new (values_of_elements (repeated count (item_of of.now choices.now node.now))) (λ ts. elements_from (map tree_of ts.items) ≡ repeated count (item_of of.now choices.now node.now)) }
+    ensures { Fills result left.old left.new (values_of_elements (items_of of.now choices.now node.now count))
+        (λ ts. elements_from (map tree_of ts.items) ≡ items_of of.now choices.now node.now count) }
 {
     if count == 0 {
         return Ok(Vec::new(alloc));
@@ -251,7 +252,8 @@ fn fill_entry(
     node: &Node,
     left: &mut u64,
 ) -> Result<Entry, WorstFault>
-    ensures { Fills result left.old left.new (values (value_of of.now choices.now node.now)) (λ e. keyed_tree e ≡ (node.now.row.now.key, value_of of.now choices.now node.now)) }
+    ensures { Fills result left.old left.new (values (value_of of.now choices.now node.now))
+        (λ e. keyed_tree e ≡ (node.now.row.now.key, value_of of.now choices.now node.now)) }
 {
     match fill_value(alloc, of, choices, node, left) {
         Ok(value) => Ok(entry(Text::copy_of(alloc, node.row.key.as_str())?, value)),
@@ -270,7 +272,8 @@ fn fill_entries(
     on: usize,
     left: &mut u64,
 ) -> Result<Vec<Entry>, WorstFault>
-    ensures { Fills result left.old left.new (values_of_entries (entries_from_row of.now choices.now from depth on)) (λ es. entries_from (map keyed_tree es.items) ≡ entries_from_row of.now choices.now from depth on) }
+    ensures { Fills result left.old left.new (values_of_entries (entries_from_row of.now choices.now from depth on))
+        (λ es. made_entries es.items ≡ entries_from_row of.now choices.now from depth on) }
 {
     let rows = of.node_rows();
     let mut entries = Vec::new(alloc);

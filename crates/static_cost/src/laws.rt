@@ -11,12 +11,21 @@ ghost use Rattle.plan_table.specs.declared.table.Plan.{Plan};
 ghost use Rattle.static_cost.specs.declared.too_costly.TooCostly.{TooCostly};
 ghost use Rattle.static_cost.specs.TableBound.{IsTableBound, NamesExceedingOf};
 ghost use Rattle.plan_table.specs.TableBounds.{IsWithinCap};
-ghost use Rattle.static_cost.specs.CostBound.{IsWithin, IsPlannedBound, AreOperationBounds};
+ghost use Rattle.static_cost.specs.CostBound.{HasSoundPlan, IsWithin, IsPlannedBound, AreOperationBounds, Attains, worst_response};
 
 /// Of an operation that is planned well, the bound of its plan is the bound of the operation, where it is within the cap.
 pub fn bounds_of_operations()
-    ensures of { (e : Setting) (root undeclared : ℕ) (o : Operation) (bound : Cost) → IsPlannedWell e root o → IsOfSchema undeclared e → IsPlannedBound e root o bound → IsWithin bound → AreOperationBounds e root o bound }
-    ensures only { (e : Setting) (root undeclared : ℕ) (o : Operation) (bound : Cost) → IsPlannedWell e root o → IsOfSchema undeclared e → AreOperationBounds e root o bound → IsWithin bound → IsPlannedBound e root o bound }
+    ensures of { (e : Setting) (root undeclared : ℕ) (o : Operation) (bound : Cost) → IsPlannedWell e root o → IsOfSchema undeclared e
+        → IsPlannedBound e root o bound → IsWithin bound → AreOperationBounds e root o bound }
+    ensures only { (e : Setting) (root undeclared : ℕ) (o : Operation) (bound : Cost) → IsPlannedWell e root o → IsOfSchema undeclared e
+        → AreOperationBounds e root o bound → IsWithin bound → IsPlannedBound e root o bound }
+{}
+
+/// Of an operation that is planned well, by a sound plan, and whose bound is within the cap, the response that is filled for a part of
+/// the cost answers the operation, keeps its declared sizes, and costs just what the bound says in this part.
+pub fn worst_attains_the_bound()
+    ensures { (e : Setting) (root : ℕ) (o : Operation) (bound : Cost) (part : Part) → IsPlannedWell e root o → HasSoundPlan e root o
+        → AreOperationBounds e root o bound → IsWithin bound → Attains e root o part bound (worst_response e root o part) }
 {}
 
 /// Where a bound within the cap was found, or a part isn't named as exceeding it, no response exceeds the cap in that part.
