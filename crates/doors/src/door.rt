@@ -45,7 +45,7 @@ pub trait Door: Drop {
         ensures failed { OnErr result ((out self.new ≡ false) × (0 < to_come self.old) × (to_come self.new ≡ to_come self.old)) }
         ensures count { faults self.old ≤ faults self.new }
         ensures cause { OnErr result (Rose (faults self.old) (faults self.new)) }
-        ensures calm { OnOk result (faults self.new ≡ faults self.old) }
+        ensures still { OnOk result (faults self.new ≡ faults self.old) }
         ensures visits { visits self.new ≡ visits self.old };
 
     /// Takes back the connection that was given last, with the number of its end.

@@ -143,7 +143,7 @@ impl<
             × (length self.new.planned.items ≡ length self.old.planned.items)) }
         ensures count { self.old.faults ≤ self.new.faults }
         ensures cause { OnErr result (Rose self.old.faults self.new.faults) }
-        ensures calm { OnOk result (self.new.faults ≡ self.old.faults) }
+        ensures still { OnOk result (self.new.faults ≡ self.old.faults) }
         ensures visits { self.new.past ≡ self.old.past }
         ensures order { IfOk result (λ _. self.new.planned.items ≡ drop 1 self.old.planned.items) }
         ensures fails { Contains self.old.failures.failing.items self.old.failures.calls → 0 < length self.old.planned.items → IsErr result }

@@ -1,6 +1,6 @@
 //! What starts the doors of a program, and stops them.
 
-ghost use Rattle.std.specs.Prelude.{◌≡◌, ◌≤◌, ◌+◌, ◌++◌, [], ℕ, IsTrue, vec_len, vec_capacity, List, Option, Some, Err, All, IfOk, OnOk, OnErr, length, map, option_map};
+ghost use Rattle.std.specs.Prelude.{◌≡◌, ◌≢◌, ◌≤◌, ◌+◌, ◌++◌, [], ℕ, IsTrue, vec_len, vec_capacity, List, Option, Some, Err, All, IfOk, OnOk, OnErr, length, map, option_map};
 ghost use Rattle.outside.specs.Faults.{Rose};
 ghost use Rattle.doors.specs.Starts.{Asked, IsNew, Stopped, connections_of, stopped_by};
 ghost use Rattle.doors.specs.Kept.{asked_by, stopped_door};
@@ -62,7 +62,8 @@ pub trait Doors {
         ensures refused { OnErr result ((asked self.new ≡ asked self.old) × (running self.new ≡ 0)) }
         ensures stopped { stopped self.new ≡ stopped self.old }
         ensures count { faults self.old ≤ faults self.new }
-        ensures cause { result ≡ Err StartFault.Failed → Rose (faults self.old) (faults self.new) };
+        ensures cause { result ≡ Err StartFault.Failed → Rose (faults self.old) (faults self.new) }
+        ensures still { result ≢ Err StartFault.Failed → faults self.new ≡ faults self.old };
 
     /// Stops the doors that run. It takes no memory.
     fn stop(&mut self, doors: Vec<Self::D>)

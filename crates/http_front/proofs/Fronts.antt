@@ -1,8 +1,9 @@
 -- A head at the front of bytes, and what stays when more bytes come.
-use Rattle.std.proofs.Common.{◌≡◌, ℕ, ◌+◌, ◌-◌, ◌≤◌, ◌<◌, inr, List, [], ◌++◌, length, take, drop, refl, sym, ap, ◌∙◌, subst, arith, Bool, true, false, Ok, Err}
+use Rattle.std.proofs.Common.{◌≡◌, ℕ, ◌+◌, ◌-◌, ◌≤◌, ◌<◌, inr, List, [], ◌++◌, length, take, drop, refl, sym, ap, ◌∙◌, subst, arith, Bool, true, false, Option, Some, Ok, Err}
 use Rattle.std.proofs.lemmas.Grind.{common_steps}
 use Rattle.std.proofs.lemmas.List.{length-drop, drop-drop}
 use Rattle.http_fields.proofs.Fronts.{take_grows}
+use Rattle.httparse.specs.declared.spans.HeaderSpan.{HeaderSpan}
 use Rattle.httparse.specs.declared.spans.RequestSpans.{RequestSpans}
 use Rattle.httparse.specs.declared.Error.{Error}
 use Rattle.httparse.specs.declared.Status.{Status}
@@ -15,8 +16,8 @@ use Rattle.http_front.specs.declared.fault.FrontFault.TheVariants as fault
 use Rattle.http_front.specs.declared.head.Head.{Head}
 use Rattle.http_front.specs.declared.front.Ask.{Ask}
 use Rattle.http_front.specs.Heads.{wants}
-use Rattle.http_front.specs.Asks.{in_room, BeginsWithHead, IsPartOfHead, IsRefused, HasFault, Lacks, IsAsk}
-use Rattle.http_front.specs.Service.{IsOfHead, AtEndIs, PieceSays, HeadIs, BodySays}
+use Rattle.http_front.specs.Asks.{in_room, BeginsWithHead, IsPartOfHead, IsRefused, HasFault, IsOfBytes, Lacks, IsAsk}
+use Rattle.http_front.specs.Service.{IsOfHead, AtEndIs, PieceSays, HeadFound, FoundIs, HeadIs, BodySays}
 
 -- a fault of a head's tests is the first fault
 pub refused_by : (bytes : List ℕ) (f : FrontFault) → IsOfHead f → IsRefused bytes f → HasFault bytes false f
@@ -42,6 +43,12 @@ of_memory bytes ended f e = subst (λ x. HasFault bytes ended x) (sym e) tt
 -- a fault of a head's tests isn't one of reading
 pub not_read : (f : FrontFault) → IsOfHead f → f ≡ fault.ReadFault → ⊥
 not_read f k e = subst IsOfHead e k
+
+not_memory : (f : FrontFault) → IsOfHead f → f ≡ fault.Memory → ⊥
+not_memory f k e = subst IsOfHead e k
+
+pub of_bytes : (f : FrontFault) → IsOfHead f → IsOfBytes f
+of_bytes f k = (not_read f k, not_memory f k)
 
 -- a head that stands in the room still stands there when more bytes come
 pub head_stays : (bytes more : List ℕ) (h : RequestHead) → BeginsWithHead bytes h → BeginsWithHead (bytes ++ more) h
@@ -114,7 +121,7 @@ body_fails bytes more new ended head fault.BadLength is inside k = absurd k
 body_fails bytes more new ended head (fault.BodyTooLarge n) is inside k = absurd k
 body_fails bytes more new ended head (fault.Truncated n) is inside k =
     (subst (λ m. Lacks (bytes ++ more) m) (sym k.1) (lacks bytes more head is inside k.0), k.2)
-body_fails bytes more new ended head fault.ReadFault is inside k = inr (_, lacks bytes more head is inside k)
+body_fails bytes more new ended head fault.ReadFault is inside k = (inr (_, lacks bytes more head is inside k.0), k.1)
 body_fails bytes more new ended head fault.Memory is inside k = tt
 
 -- a whole ask
@@ -144,3 +151,6 @@ complete_at P s r e k = subst (λ x. IfComplete {A = RequestSpans} {E = Error} (
 
 pub partial_at : (P : Type 0) (s : Status RequestSpans) → s ≡ Partial → OnPartial {A = RequestSpans} {E = Error} (Ok s) P → P
 partial_at P s e k = subst (λ x. OnPartial {A = RequestSpans} {E = Error} (Ok x) P) e k
+
+pub found_at : (bytes : List ℕ) (headers : List HeaderSpan) (o : Option RequestSpans) (spans : RequestSpans) → o ≡ Some spans → FoundIs bytes headers (Ok o) → HeadFound bytes headers spans
+found_at bytes headers o spans is found = subst (λ (x : Option RequestSpans). FoundIs bytes headers (Ok x)) is found

@@ -24,19 +24,19 @@ unfolding ok_or
 wants_one bytes h k w v x y =
     let e = head_one bytes h k x.0 y.0 in (e, ap (ok_or w) (sym x.1 ∙ ap (wanted) e ∙ y.1))
 
-not_open : (bytes : List ℕ) (h : RequestHead) → BeginsWithHead bytes h → IsPartOfHead bytes → ⊥
+pub not_open : (bytes : List ℕ) (h : RequestHead) → BeginsWithHead bytes h → IsPartOfHead bytes → ⊥
 not_open bytes h x o = o.0 h x.0 x.1
 
-not_bad : (bytes : List ℕ) (h : RequestHead) → BeginsWithHead bytes h → IsNoHead bytes → ⊥
+pub not_bad : (bytes : List ℕ) (h : RequestHead) → BeginsWithHead bytes h → IsNoHead bytes → ⊥
 not_bad bytes h x never = never [] h x.0 (subst (λ l. ReadsRequest l h x.0) (sym (append-nil (in_room bytes))) x.1)
 
-not_many : (bytes : List ℕ) (h : RequestHead) → BeginsWithHead bytes h → HasTooManyFields bytes → ⊥
+pub not_many : (bytes : List ℕ) (h : RequestHead) → BeginsWithHead bytes h → HasTooManyFields bytes → ⊥
 not_many bytes h x many =
     let over = many.1 [] h x.0 (subst (λ l. ReadsRequest l h x.0) (sym (append-nil (in_room bytes))) x.1) in
     let fits = x.2 in
     absurd (omega (arith, over, fits))
 
-not_refused : (bytes : List ℕ) (h : RequestHead) (w : Wants) (f : FrontFault) → AsksFor bytes h w → IsRefused bytes f → ⊥
+pub not_refused : (bytes : List ℕ) (h : RequestHead) (w : Wants) (f : FrontFault) → AsksFor bytes h w → IsRefused bytes f → ⊥
 not_refused bytes h w f x r =
     let e : Ok w ≡ Err f = sym x.1 ∙ ap (wanted) (head_one bytes h r.0 x.0 r.1) ∙ r.2 in absurd (cc e)
 
@@ -48,7 +48,7 @@ not_short bytes h w m x enough l =
     let short = l.short in
     absurd (omega (arith, one, two, short, enough))
 
-not_empty : (bytes : List ℕ) (h : RequestHead) → BeginsWithHead bytes h → bytes ≡ [] → ⊥
+pub not_empty : (bytes : List ℕ) (h : RequestHead) → BeginsWithHead bytes h → bytes ≡ [] → ⊥
 not_empty bytes h x none =
     let e : [] ≡ print_request h ++ x.0 = ap in_room (sym none) ∙ x.1.1 in
     let long : 0 ≡ length (print_blank h.blank ++ (h.method ++ 32 ∷ (h.target ++ 32 ∷ (print_version h.minor ++ (print_end h.line_end ++ (print_section h.fields h.last ++ x.0)))))) =
@@ -70,7 +70,7 @@ no_fault bytes rest ended ask fault.NoLength a k = absurd (not_refused bytes a.h
 no_fault bytes rest ended ask fault.BadLength a k = absurd (not_refused bytes a.head a.wants _ a.asks k)
 no_fault bytes rest ended ask (fault.BodyTooLarge n) a k = absurd (not_refused bytes a.head a.wants _ a.asks k)
 no_fault bytes rest ended ask (fault.Truncated n) a k = absurd (not_short bytes a.head a.wants n a.asks a.enough k.0)
-no_fault bytes rest ended ask fault.ReadFault a k = elim k [ inl o ↦ absurd (not_open bytes a.head a.asks.0 o.0) | inr l ↦ absurd (not_short bytes a.head a.wants l.0 a.asks a.enough l.1) ]
+no_fault bytes rest ended ask fault.ReadFault a k = elim k.0 [ inl o ↦ absurd (not_open bytes a.head a.asks.0 o.0) | inr l ↦ absurd (not_short bytes a.head a.wants l.0 a.asks a.enough l.1) ]
 no_fault bytes rest ended ask fault.Memory a k = refl
 
 -- two asks at the front of the same bytes are the same

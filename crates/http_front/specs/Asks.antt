@@ -1,6 +1,6 @@
 -- The request at the front of bytes, or the first fault there.
-use Rattle.std.specs.Prelude.{◌≡◌, ℕ, ◌-◌, ◌≤◌, ◌<◌, ◌⊎◌, Bool, List, [], length, take, drop, Option, Some, None, Result, Ok, Err, IsTrue, ⊤}
-use Rattle.httparse.specs.Grammar.{RequestHead, print_request, ReadsRequest, HasNoRequest, NeverHasRequest, MayBecomeRequest}
+use Rattle.std.specs.Prelude.{◌≡◌, ◌≢◌, ℕ, ◌-◌, ◌≤◌, ◌<◌, ◌⊎◌, Bool, false, List, [], length, take, drop, Option, Some, None, Result, Ok, Err, IsTrue, ⊤}
+use Rattle.httparse.specs.Grammar.{RequestHead, print_request, ReadsRequest, HasNoRequest, NeverHasRequest, MayBecomeRequest, EndsInTarget}
 use Rattle.httparse.specs.Spans.{RequestExceeds, RequestOverflows}
 use Rattle.http_front.specs.declared.fault.FrontFault.{FrontFault}
 use Rattle.http_front.specs.declared.fault.FrontFault.TheVariants as fault
@@ -69,9 +69,45 @@ HasFault bytes ended fault.BadHead =
     IsNoHead bytes ⊎ (IsPartOfHead bytes × (length bytes < 16384) × (0 < length bytes) × IsTrue ended)
 HasFault bytes ended fault.HeadTooLarge = HasTooManyFields bytes ⊎ (IsPartOfHead bytes × (16384 ≤ length bytes))
 HasFault bytes ended (fault.Truncated missing) = Lacks bytes missing × IsTrue ended
-HasFault bytes ended fault.ReadFault = IsUndecided bytes
+HasFault bytes ended fault.ReadFault = IsUndecided bytes × (ended ≡ false)
 HasFault bytes ended fault.Memory = ⊤
 HasFault bytes ended f = IsRefused bytes f
+
+-- ---- one answer
+
+-- A whole request stands at the front.
+pub record HoldsRequest (bytes : List ℕ) : Type 0 where
+  pub head : RequestHead
+  pub wants : Wants
+  pub asks : AsksFor bytes head wants
+  pub enough : wants.length ≤ length (behind head bytes)
+
+-- it is neither that the source failed nor want of memory
+abbrev pub IsOfBytes : FrontFault → Type 0
+IsOfBytes f = (f ≢ fault.ReadFault) × (f ≢ fault.Memory)
+
+-- the bytes have a fault that is one of theirs
+abbrev pub HoldsFault : List ℕ → Bool → Type 0
+HoldsFault bytes ended = (f : FrontFault) × HasFault bytes ended f × IsOfBytes f
+
+-- it is told before a whole head stands there
+abbrev pub IsBeforeHead : FrontFault → Type 0
+IsBeforeHead fault.End = ⊤
+IsBeforeHead fault.BadHead = ⊤
+IsBeforeHead fault.HeadTooLarge = ⊤
+IsBeforeHead fault.ReadFault = ⊤
+IsBeforeHead f = ⊥
+
+-- What the grammar of heads leaves open: inside a target that can't become text, whose bytes are tested where it ends;
+-- and behind more than 64 fields.
+abbrev pub IsLeftOpen : List ℕ → Type 0
+IsLeftOpen bytes = (IsNoHead bytes × EndsInTarget (in_room bytes)) ⊎ HasTooManyFields bytes
+
+-- Two faults are the same, or one is want of memory, or both are told before a whole head where it is left open which.
+abbrev pub AreOne : List ℕ → FrontFault → FrontFault → Type 0
+AreOne bytes f g = (f ≡ g) ⊎ ((f ≡ fault.Memory) ⊎ ((g ≡ fault.Memory) ⊎ (IsBeforeHead f × IsBeforeHead g × IsLeftOpen bytes)))
+
+-- ---- what a front answers
 
 -- What the bytes hold at their front is what was answered, and the front keeps the bytes behind it, or nothing
 -- after a fault.

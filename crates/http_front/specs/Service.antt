@@ -1,12 +1,15 @@
 -- In the service of the code: what its parts answer.
 use Rattle.std.specs.Prelude.{◌≡◌, ℕ, ◌-◌, ◌≤◌, ◌<◌, Bool, false, List, [], ◌++◌, length, Option, Some, None, Result, Ok, Err, IsTrue, ⊤}
 use Rattle.httparse.specs.Grammar.{RequestHead, print_request}
+use Rattle.httparse.specs.Spans.{IsRequestAt, IsRequestWithin}
+use Rattle.httparse.specs.declared.spans.HeaderSpan.{HeaderSpan}
+use Rattle.httparse.specs.declared.spans.RequestSpans.{RequestSpans}
 use Rattle.http_front.specs.declared.fault.FrontFault.{FrontFault}
 use Rattle.http_front.specs.declared.fault.FrontFault.TheVariants as fault
 use Rattle.http_front.specs.declared.front.Ask.{Ask}
 use Rattle.http_front.specs.declared.head.Head.{Head}
 use Rattle.http_front.specs.Heads.{wants}
-use Rattle.http_front.specs.Asks.{AsksFor, IsPartOfHead, IsAsk, HasFault}
+use Rattle.http_front.specs.Asks.{in_room, BeginsWithHead, AsksFor, IsPartOfHead, IsAsk, HasFault, IsOfBytes}
 
 -- the faults of the tests of a head
 abbrev pub IsOfHead : FrontFault → Type 0
@@ -26,6 +29,19 @@ pub record HeadIs (bytes : List ℕ) (head : Head) : Type 0 where
   pub of : RequestHead
   pub asks : AsksFor bytes of (wants head.key head.length head.close)
   pub len : head.len ≡ length (print_request of)
+
+-- a whole head at the front, by its spans
+pub record HeadFound (bytes : List ℕ) (headers : List HeaderSpan) (spans : RequestSpans) : Type 0 where
+  pub within : IsRequestWithin (in_room bytes) headers spans
+  pub head : RequestHead
+  pub at : IsRequestAt (in_room bytes) headers spans head
+  pub begins : BeginsWithHead bytes head
+
+-- one look for a head
+abbrev pub FoundIs : List ℕ → List HeaderSpan → Result (Option RequestSpans) FrontFault → Type 0
+FoundIs bytes headers (Ok (Some spans)) = HeadFound bytes headers spans
+FoundIs bytes headers (Ok None) = IsPartOfHead bytes × (length bytes < 16384)
+FoundIs bytes headers (Err f) = HasFault bytes false f × IsOfBytes f
 
 -- one look at the bytes
 abbrev pub LookIs : List ℕ → Result (Option Head) FrontFault → Type 0
@@ -47,7 +63,7 @@ HeadSays new (Err f) bytes ended = HasFault bytes ended f
 abbrev pub BodySays : ℕ → List ℕ → Result (Unit {0}) FrontFault → List ℕ → Bool → Type 0
 BodySays total new (Ok u) bytes ended = (total ≤ length bytes) × (new ≡ bytes)
 BodySays total new (Err (fault.Truncated missing)) bytes ended = (length bytes < total) × (missing ≡ total - length bytes) × IsTrue ended
-BodySays total new (Err fault.ReadFault) bytes ended = length bytes < total
+BodySays total new (Err fault.ReadFault) bytes ended = (length bytes < total) × (ended ≡ false)
 BodySays total new (Err fault.Memory) bytes ended = ⊤
 BodySays total new (Err f) bytes ended = ⊥
 

@@ -1,6 +1,6 @@
 //! Requests one after the other.
 
-ghost use Rattle.std.specs.Prelude.{◌≡◌, ◌+◌, ◌-◌, ◌≤◌, [], ℕ, List, Some, None, Ok, Err, IfOk, IfSome, IsTrue, length, take, drop};
+ghost use Rattle.std.specs.Prelude.{◌≡◌, ◌≢◌, ◌+◌, ◌-◌, ◌≤◌, [], ℕ, List, false, Some, None, Ok, Err, IfOk, OnOk, IfSome, IsTrue, length, take, drop};
 ghost use Rattle.std.specs.Io.KnownBytes.{IsAtEnd};
 ghost use Rattle.outside.specs.Faults.{Rose};
 ghost use Rattle.outside.specs.Taken.{Took, Taken};
@@ -30,6 +30,9 @@ fn take_piece<S: Source>(kept: &mut Vec<u8>, from: &mut S) -> Result<bool, Front
     ensures end { IfOk result (λ ended. IsTrue ended → IsAtEnd (S.left from.new)) }
     ensures count { S.faults from.old ≤ S.faults from.new }
     ensures cause { result ≡ Err FrontFault.ReadFault → Rose (S.faults from.old) (S.faults from.new) }
+    ensures still { result ≢ Err FrontFault.ReadFault → S.faults from.new ≡ S.faults from.old }
+    ensures on { IfOk result (λ ended. ended ≡ false → S.ended from.new ≡ S.ended from.old) }
+    ensures met { result ≡ Err FrontFault.ReadFault → S.ended from.new ≡ S.ended from.old }
 {
     let mut piece = [0u8; 4096];
     match from.read(&mut piece) {
@@ -76,6 +79,9 @@ fn take_head<S: Source>(alloc: Global, kept: &mut Vec<u8>, from: &mut S) -> Resu
     ensures within { IfOk result (λ head. (head.length ≤ 262144) × (head.len ≤ length kept.new.items)) }
     ensures count { S.faults from.old ≤ S.faults from.new }
     ensures cause { result ≡ Err FrontFault.ReadFault → Rose (S.faults from.old) (S.faults from.new) }
+    ensures still { result ≢ Err FrontFault.ReadFault → S.faults from.new ≡ S.faults from.old }
+    ensures on { OnOk result (S.ended from.new ≡ S.ended from.old) }
+    ensures met { result ≡ Err FrontFault.ReadFault → S.ended from.new ≡ S.ended from.old }
 {
     'pieces: loop {
         match look_at(alloc, kept) {
@@ -98,6 +104,9 @@ fn take_body<S: Source>(kept: &mut Vec<u8>, from: &mut S, total: usize) -> Resul
     ensures exact { Taken kept.old.items (S.left from.old) (S.left from.new) (BodySays total kept.new.items result) }
     ensures count { S.faults from.old ≤ S.faults from.new }
     ensures cause { result ≡ Err FrontFault.ReadFault → Rose (S.faults from.old) (S.faults from.new) }
+    ensures still { result ≢ Err FrontFault.ReadFault → S.faults from.new ≡ S.faults from.old }
+    ensures on { OnOk result (S.ended from.new ≡ S.ended from.old) }
+    ensures met { result ≡ Err FrontFault.ReadFault → S.ended from.new ≡ S.ended from.old }
 {
     while kept.len() < total {
         match take_piece(kept, from) {
@@ -118,6 +127,9 @@ fn take_ask<S: Source>(alloc: Global, kept: &mut Vec<u8>, from: &mut S) -> Resul
     ensures exact { Taken kept.old.items (S.left from.old) (S.left from.new) (AskSays kept.new.items result) }
     ensures count { S.faults from.old ≤ S.faults from.new }
     ensures cause { result ≡ Err FrontFault.ReadFault → Rose (S.faults from.old) (S.faults from.new) }
+    ensures still { result ≢ Err FrontFault.ReadFault → S.faults from.new ≡ S.faults from.old }
+    ensures on { OnOk result (S.ended from.new ≡ S.ended from.old) }
+    ensures met { result ≡ Err FrontFault.ReadFault → S.ended from.new ≡ S.ended from.old }
 {
     let head = match take_head(alloc, kept, from) {
         Ok(head) => head,
@@ -167,12 +179,15 @@ impl Front {
     }
 
     /// Takes the next request, or tells the first fault. Bytes behind the request are kept for the next
-    /// one. After a fault it answers `End`, without a read.
+    /// one. After a fault it answers `End`, without a read. `ReadFault` is told only where no read met the end,
+    /// and only with it the source's count changes.
     pub fn next<S: Source>(&mut self, alloc: Global, from: &mut S) -> Result<Ask, FrontFault>
         ensures exact { IfSome self.old (λ kept. Taken kept (S.left from.old) (S.left from.new) (AskOf self.new result)) }
         ensures over { self.old ≡ None → (result ≡ Err FrontFault.End) × (self.new ≡ None) × (from.new ≡ from.old) }
         ensures count { S.faults from.old ≤ S.faults from.new }
         ensures cause { result ≡ Err FrontFault.ReadFault → Rose (S.faults from.old) (S.faults from.new) }
+        ensures still { result ≢ Err FrontFault.ReadFault → S.faults from.new ≡ S.faults from.old }
+        ensures met { result ≡ Err FrontFault.ReadFault → S.ended from.new ≡ S.ended from.old }
     {
         if self.failed {
             return Err(FrontFault::End);

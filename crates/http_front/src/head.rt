@@ -6,7 +6,7 @@ ghost use Rattle.httparse.specs.Spans.{IsRequestAt, IsRequestWithin};
 ghost use Rattle.http_fields.specs.Fields.{pairs_of};
 ghost use Rattle.http_front.specs.Heads.{WantedIs, wanted, wanted_by, wants};
 ghost use Rattle.http_front.specs.Asks.{in_room};
-ghost use Rattle.http_front.specs.Service.{IsOfHead, LookIs};
+ghost use Rattle.http_front.specs.Service.{IsOfHead, FoundIs, LookIs};
 
 use crate::fault::FrontFault;
 use crate::reading::{body_length, is_json, key, says_close};
@@ -133,19 +133,16 @@ fn front_of(bytes: &[u8]) -> &[u8]
     &bytes[..bytes.len().min(HEAD_BYTES)]
 }
 
-/// The head at the front of the bytes, or nothing where that takes more bytes, or the first fault.
-pub(crate) fn look_at(alloc: Global, bytes: &[u8]) -> Result<Option<Head>, FrontFault>
-    ensures exact { LookIs bytes.now result }
-    ensures kind { ¬ (result ≡ Err FrontFault.ReadFault) }
-    ensures within { IfOk result (λ found. IfSome found (λ head. (head.length ≤ 262144) × (head.len ≤ length bytes.now))) }
+/// Where a whole head stands at the front of the bytes, or nothing where that takes more bytes, or the fault.
+pub(crate) fn find_head(
+    bytes: &[u8],
+    headers: &mut [HeaderSpan],
+) -> Result<Option<RequestSpans>, FrontFault>
+    requires room { length headers.old ≡ 64 }
+    ensures { FoundIs bytes.now headers.new result }
 {
-    let front = front_of(bytes);
-    let mut headers = [EMPTY_HEADER_SPAN; 64];
-    match parse_request(front, &mut headers) {
-        Ok(Status::Complete(spans)) => match head_at(alloc, front, spans, &headers) {
-            Ok(head) => Ok(Some(head)),
-            Err(fault) => Err(fault),
-        },
+    match parse_request(front_of(bytes), headers) {
+        Ok(Status::Complete(spans)) => Ok(Some(spans)),
         Ok(Status::Partial) => {
             if bytes.len() < HEAD_BYTES {
                 Ok(None)
@@ -155,5 +152,22 @@ pub(crate) fn look_at(alloc: Global, bytes: &[u8]) -> Result<Option<Head>, Front
         }
         Err(Error::TooManyHeaders) => Err(FrontFault::HeadTooLarge),
         Err(_) => Err(FrontFault::BadHead),
+    }
+}
+
+/// The head at the front of the bytes, or nothing where that takes more bytes, or the first fault.
+pub(crate) fn look_at(alloc: Global, bytes: &[u8]) -> Result<Option<Head>, FrontFault>
+    ensures exact { LookIs bytes.now result }
+    ensures kind { ¬ (result ≡ Err FrontFault.ReadFault) }
+    ensures within { IfOk result (λ found. IfSome found (λ head. (head.length ≤ 262144) × (head.len ≤ length bytes.now))) }
+{
+    let mut headers = [EMPTY_HEADER_SPAN; 64];
+    match find_head(bytes, &mut headers) {
+        Ok(Some(spans)) => match head_at(alloc, front_of(bytes), spans, &headers) {
+            Ok(head) => Ok(Some(head)),
+            Err(fault) => Err(fault),
+        },
+        Ok(None) => Ok(None),
+        Err(fault) => Err(fault),
     }
 }

@@ -188,6 +188,7 @@ pub fn write_reply<K: Sink>(to: &mut K, answer: &Answer) -> Result<(), WriteFaul
     requires costs { IfSome answer.now.costs AreCosts }
     ensures whole { OnOk result (Appends (K.written to.old) (K.written to.new) (reply_bytes answer.now)) }
     ensures count { K.faults to.old ≤ K.faults to.new }
+    ensures still { OnOk result (K.faults to.new ≡ K.faults to.old) }
     ensures cause { OnErr result (Rose (K.faults to.old) (K.faults to.new)) }
     ensures front { OnErr result (AppendsFront (K.written to.old) (K.written to.new) (reply_bytes answer.now)) }
 {

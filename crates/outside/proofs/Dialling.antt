@@ -1,9 +1,12 @@
 -- The log of a wire, call by call.
-use Rattle.std.proofs.Common.{◌≡◌, ℕ, List, [], ◌∷◌, ◌++◌, map, refl, sym, ap, ◌∙◌, subst, append_assoc, Bool, true, false}
-use Rattle.std.specs.Prelude.{Option, Some, None, ◌||◌}
+use Rattle.std.proofs.Common.{◌≡◌, ℕ, ◌+◌, ◌≤◌, List, [], ◌∷◌, ◌++◌, refl, sym, ap, ◌∙◌, subst, append_assoc, Bool, true, false, inl, inr}
+use Rattle.std.specs.Prelude.{Option, Some, None, ◌||◌, ◌⊎◌, flat_map}
+use Rattle.std.proofs.lemmas.Bool.{eqb-true}
+use Rattle.std.proofs.lemmas.Grind.{replicate_next, flat_map-append}
 use Rattle.std.proofs.lemmas.List.{append-nil}
 use Rattle.outside.specs.declared.mem_wire.WireDial.{WireDial}
-use Rattle.outside.specs.Dials.{Dial, Logged, LastBecomes, with_last, dial_of, dials_of, sends, takes}
+use Rattle.outside.specs.Faults.{last_count}
+use Rattle.outside.specs.Dials.{Dial, Logged, LoggedBy, LastBecomes, with_last, fresh_dial, missed_dial, missed_dials, dial_of, dials_to, dials_of, log_of, is_up, sends, takes}
 
 -- no dial more
 pub logged_none : (log : Option (List Dial)) → Logged log [] log
@@ -16,6 +19,15 @@ logged_then None b c first second x y = subst (λ (log : Option (List Dial)). Lo
 logged_then (Some log) b c first second x y =
     let later : Logged (Some (log ++ first)) second c = subst (λ (o : Option (List Dial)). Logged o second c) x y in
     later ∙ ap Some (append_assoc log first second)
+
+-- The same, where the count of dials that nobody answered may have come to its last value, at which it stays.
+pub logged_by_then : (c d : ℕ) (x y z : Option (List Dial)) (first second : List Dial) → (last_count ≤ c → last_count ≤ d) → LoggedBy c x first y → LoggedBy d y second z
+    → LoggedBy d x (first ++ second) z
+logged_by_then c d x y z first second stays one two =
+    elim one [
+      | inl a ↦ elim two [ inl b ↦ inl (logged_then x y z first second a b) | inr over ↦ inr over ]
+      | inr over ↦ inr (stays over)
+    ]
 
 -- the last of some dials is changed
 pub with_last_changed : {A : Type 0} (change : A → A) (front : List A) (x : A) → with_last change (front ++ x ∷ []) ≡ front ++ change x ∷ []
@@ -50,7 +62,7 @@ pub sends_then : (first second : List ℕ) (d : Dial) → sends second (sends fi
 sends_then first second d = ap (λ l. sends_to l d) (append_assoc d.sent first second)
   where
     sends_to : List ℕ → Dial → Dial
-    sends_to l d = record { sent = l; taken = d.taken; ended = d.ended; failed = d.failed }
+    sends_to l d = record { answered = d.answered; sent = l; taken = d.taken; ended = d.ended; failed = d.failed }
 
 or_false : (a b : Bool) → ((a || false) || b) ≡ (a || b)
 or_false true b = refl
@@ -58,11 +70,63 @@ or_false false b = refl
 
 -- bytes taken, and then more
 pub takes_then : (first second : List ℕ) (ended : Bool) (d : Dial) → takes second ended (takes first false d) ≡ takes (first ++ second) ended d
-takes_then first second ended d = λ i. record { sent = d.sent; taken = append_assoc d.taken first second i; ended = or_false d.ended ended i; failed = d.failed }
+takes_then first second ended d = λ i. record { answered = d.answered; sent = d.sent; taken = append_assoc d.taken first second i; ended = or_false d.ended ended i; failed = d.failed }
 
--- a wire in memory changes its latest dial
-pub latest_changed : (change : Dial → Dial) (past : List WireDial) (latest : Option WireDial) (d e : WireDial) → latest ≡ Some d → dial_of e ≡ change (dial_of d)
-    → Some (map dial_of past ++ dial_of e ∷ []) ≡ Some (with_last change (dials_of past latest))
-latest_changed change past latest d e is changed =
-    let whole : dials_of past latest ≡ map dial_of past ++ dial_of d ∷ [] = ap (dials_of past) is in
-    ap Some (ap (λ x. map dial_of past ++ x ∷ []) changed ∙ sym (with_last_changed change (map dial_of past) (dial_of d)) ∙ ap (with_last change) (sym whole))
+-- ---- a wire in memory
+
+-- where it is up, no dial went unanswered behind the latest
+pub none_missed : (dialled : Bool) (latest : Option WireDial) (missed : ℕ) → is_up dialled latest missed ≡ true → missed ≡ 0
+none_missed dialled None missed up = absurd (cc up)
+none_missed true (Some latest) missed up = eqb-true missed 0 up
+none_missed false (Some latest) missed up = absurd (cc up)
+
+-- where it is up, it stays so with another latest dial
+pub stays_up : (dialled : Bool) (latest : Option WireDial) (missed : ℕ) (e : WireDial) → is_up dialled latest missed ≡ true → is_up dialled (Some e) missed ≡ true
+stays_up dialled None missed e up = absurd (cc up)
+stays_up dialled (Some latest) missed e up = up
+
+-- where none was missed, the latest dial is the last
+latest_last : (past : List WireDial) (d : WireDial) → dials_of past (Some d) 0 ≡ (flat_map dials_to past ++ missed_dials d.missed) ++ dial_of d ∷ []
+latest_last past d =
+    ap (λ l. flat_map dials_to past ++ l) (append-nil (dials_to d)) ∙ sym (append_assoc (flat_map dials_to past) (missed_dials d.missed) (dial_of d ∷ []))
+
+-- it changes its latest dial
+pub latest_changed : (change : Dial → Dial) (past : List WireDial) (latest : Option WireDial) (missed : ℕ) (d e : WireDial) → latest ≡ Some d → missed ≡ 0
+    → e.missed ≡ d.missed → dial_of e ≡ change (dial_of d) → log_of past (Some e) missed ≡ Some (with_last change (dials_of past latest missed))
+latest_changed change past latest missed d e is none same changed =
+    let front : List Dial = flat_map dials_to past ++ missed_dials d.missed in
+    let now : dials_of past (Some e) 0 ≡ front ++ change (dial_of d) ∷ [] =
+    latest_last past e ∙ ap (λ n. (flat_map dials_to past ++ missed_dials n) ++ dial_of e ∷ []) same ∙ ap (λ x. front ++ x ∷ []) changed in
+    let before : with_last change (dials_of past (Some d) 0) ≡ front ++ change (dial_of d) ∷ [] =
+    ap (with_last change) (latest_last past d) ∙ with_last_changed change front (dial_of d) in
+    subst (λ n. log_of past (Some e) n ≡ Some (with_last change (dials_of past latest n))) (sym none)
+    (ap Some (now ∙ sym before ∙ ap (λ o. with_last change (dials_of past o 0)) (sym is)))
+
+-- a dial was answered
+pub one_answered : (past : List WireDial) (latest : Option WireDial) (d : WireDial) → latest ≡ None → dial_of d ≡ fresh_dial
+    → dials_of past (Some d) 0 ≡ dials_of past latest d.missed ++ fresh_dial ∷ []
+one_answered past latest d none fresh =
+    latest_last past d ∙ ap (λ x. (flat_map dials_to past ++ missed_dials d.missed) ++ x ∷ []) fresh ∙ ap (λ o. dials_of past o d.missed ++ fresh_dial ∷ []) (sym none)
+
+-- nobody answered one more
+pub one_missed : (past : List WireDial) (latest : Option WireDial) (missed : ℕ) → dials_of past latest (missed + 1) ≡ dials_of past latest missed ++ missed_dial ∷ []
+one_missed past None missed =
+    ap (λ l. flat_map dials_to past ++ l) (replicate_next missed missed_dial) ∙ sym (append_assoc (flat_map dials_to past) (missed_dials missed) (missed_dial ∷ []))
+one_missed past (Some d) missed =
+    ap (λ l. flat_map dials_to past ++ (dials_to d ++ l)) (replicate_next missed missed_dial)
+    ∙ ap (λ l. flat_map dials_to past ++ l) (sym (append_assoc (dials_to d) (missed_dials missed) (missed_dial ∷ [])))
+    ∙ sym (append_assoc (flat_map dials_to past) (dials_to d ++ missed_dials missed) (missed_dial ∷ []))
+
+-- and the log tells so
+pub missed_logged : (past : List WireDial) (latest : Option WireDial) (before missed faults : ℕ) (log : List Dial) → dials_of past latest before ≡ log
+    → (missed ≡ before + 1) ⊎ (last_count ≤ faults) → LoggedBy faults (Some log) (missed_dial ∷ []) (log_of past latest missed)
+missed_logged past latest before missed faults log same counted = elim counted [
+  | inl more ↦ inl (ap Some (ap (dials_of past latest) more ∙ one_missed past latest before ∙ ap (λ l. l ++ missed_dial ∷ []) same))
+  | inr over ↦ inr over
+]
+
+-- the latest dial is put behind those before it
+pub put_behind : (past : List WireDial) (d : WireDial) (missed : ℕ) → dials_of (past ++ d ∷ []) None missed ≡ dials_of past (Some d) missed
+put_behind past d missed =
+    ap (λ l. l ++ missed_dials missed) (flat_map-append dials_to past (d ∷ []) ∙ ap (λ l. flat_map dials_to past ++ l) (append-nil (dials_to d)))
+    ∙ append_assoc (flat_map dials_to past) (dials_to d) (missed_dials missed)

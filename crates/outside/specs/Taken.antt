@@ -1,5 +1,5 @@
 -- What was taken of an object's bytes, in whatever pieces it gave them.
-use Rattle.std.specs.Prelude.{◌≡◌, ℕ, ◌≤◌, ◌<◌, List, [], ◌++◌, length, take, Option, Some, None, Result, Ok, Err, Bool, IsTrue}
+use Rattle.std.specs.Prelude.{◌≡◌, ℕ, ◌≤◌, ◌<◌, List, [], ◌++◌, length, take, Option, Some, None, Result, Ok, Err, Bool, false, IsTrue, ◌&&◌, nat_eq, nat_lt}
 use Rattle.std.specs.Io.KnownBytes.{IsAtEnd}
 
 -- These bytes were taken: they stood before what is left. An object that doesn't tell what is left doesn't
@@ -14,6 +14,11 @@ abbrev pub ReadTakes : {E : Type 0} → Option (List ℕ) → Option (List ℕ) 
 ReadTakes before after (Ok count) into =
     (count ≤ length into) × Took before (take count into) after × (count ≡ 0 → 0 < length into → IsAtEnd after)
 ReadTakes before after (Err fault) into = Took before [] after
+
+-- the read met the end: it gave no byte of a piece that isn't empty
+abbrev pub meets_end : {E : Type 0} → Result ℕ E → List ℕ → Bool
+meets_end (Ok count) into = nat_eq count 0 && nat_lt 0 (length into)
+meets_end (Err fault) into = false
 
 -- Some bytes were taken, and `Says` holds of the bytes that were kept with those behind them. `ended` says
 -- that the end was met after them.

@@ -1,8 +1,8 @@
 //! Files that are read whole, and the form of them in memory.
 
-ghost use Rattle.std.specs.Prelude.{◌≡◌, ◌↔◌, ◌+◌, ◌≤◌, ℕ, List, Option, IfOk, IfSome, IsErrOf, find, take, vec_len};
+ghost use Rattle.std.specs.Prelude.{◌≡◌, ◌↔◌, ◌+◌, ◌≤◌, ℕ, List, Option, IfOk, OnOk, IfSome, IsErrOf, find, take, vec_len};
 ghost use Rattle.std.specs.Option.{option_copied};
-ghost use Rattle.outside.specs.Faults.{Rose, next_count};
+ghost use Rattle.outside.specs.Faults.{Rose, StayAll, ChangesAlone, next_count};
 ghost use Rattle.outside.specs.Contents.{content_of, has_name, Fails};
 
 use crate::failures::Failures;
@@ -34,7 +34,10 @@ pub trait Files {
         ensures most { IfOk result (λ read. vec_len read ≤ limit + 1) }
         ensures same { content self.new ≡ content self.old }
         ensures count { (other : List ℕ) → faults self.old other ≤ faults self.new other }
-        ensures cause { IsErrOf result FileFault.Failed → Rose (faults self.old name.now) (faults self.new name.now) };
+        ensures cause { IsErrOf result FileFault.Failed → Rose (faults self.old name.now) (faults self.new name.now) }
+        ensures alone { ChangesAlone name.now (faults self.old) (faults self.new) }
+        ensures still { OnOk result (StayAll (faults self.old) (faults self.new)) }
+        ensures memory { IsErrOf result FileFault.Memory → StayAll (faults self.old) (faults self.new) };
 }
 
 /// A file in memory.
@@ -101,6 +104,8 @@ impl Files for MemFiles {
         ensures same { content_of self.new.files.items ≡ content_of self.old.files.items }
         ensures count { self.old.faults ≤ self.new.faults }
         ensures cause { IsErrOf result FileFault.Failed → Rose self.old.faults self.new.faults }
+        ensures still { OnOk result (self.new.faults ≡ self.old.faults) }
+        ensures memory { IsErrOf result FileFault.Memory → self.new.faults ≡ self.old.faults }
         ensures fails { IsErrOf result FileFault.Failed ↔ Fails self.old.failures.failing.items
             self.old.failures.calls (content_of self.old.files.items name.now) }
         ensures calls { self.new.failures.calls ≡ next_count self.old.failures.calls }

@@ -1,6 +1,6 @@
 //! Forms in memory that never fail.
 
-ghost use Rattle.std.specs.Prelude.{◌≡◌, [], Option, Some, None};
+ghost use Rattle.std.specs.Prelude.{◌≡◌, Some, None, false};
 
 use crate::pieces::move_front;
 use crate::sink::{Sink, WriteFault};
@@ -12,16 +12,32 @@ use crate::wire::{DialFault, Wire, WireFault};
 pub struct FirmSource {
     /// The bytes that are left.
     pub left: Vec<u8>,
+    /// Whether a read met the end.
+    pub ended: bool,
+}
+
+impl FirmSource {
+    /// These bytes to read.
+    pub fn new(left: Vec<u8>) -> FirmSource
+        ensures left { result.left ≡ left }
+        ensures ended { result.ended ≡ false }
+    {
+        FirmSource { left, ended: false }
+    }
 }
 
 impl Source for FirmSource {
     ghost left = { λ source. Some source.left.items };
 
+    ghost ended = { λ source. source.ended };
+
     ghost faults = { λ _. 0 };
 
     fn read(&mut self, into: &mut [u8]) -> Result<usize, ReadFault> {
         let most = self.left.len();
-        Ok(move_front(&mut self.left, into, most))
+        let taken = move_front(&mut self.left, into, most);
+        self.ended |= taken == 0 && 0 < into.len();
+        Ok(taken)
     }
 }
 

@@ -28,6 +28,7 @@ pub trait Sink {
         ensures some { IfOk result (λ count. 0 < length piece.now → 0 < count) }
         ensures bytes { WriteAppends (written self.old) (written self.new) result piece.now }
         ensures count { faults self.old ≤ faults self.new }
+        ensures still { OnOk result (faults self.new ≡ faults self.old) }
         ensures cause { OnErr result (Rose (faults self.old) (faults self.new)) };
 }
 
@@ -35,6 +36,7 @@ pub trait Sink {
 pub fn write_whole<K: Sink>(to: &mut K, text: &[u8]) -> Result<(), WriteFault>
     ensures whole { OnOk result (Appends (K.written to.old) (K.written to.new) text.now) }
     ensures count { K.faults to.old ≤ K.faults to.new }
+    ensures still { OnOk result (K.faults to.new ≡ K.faults to.old) }
     ensures cause { OnErr result (Rose (K.faults to.old) (K.faults to.new)) }
     ensures front { OnErr result (AppendsFront (K.written to.old) (K.written to.new) text.now) }
 {
@@ -81,6 +83,7 @@ impl Sink for MemSink {
         ensures some { IfOk result (λ count. 0 < length piece.now → 0 < count) }
         ensures bytes { WriteAppends (Some self.old.written.items) (Some self.new.written.items) result piece.now }
         ensures count { self.old.faults ≤ self.new.faults }
+        ensures still { OnOk result (self.new.faults ≡ self.old.faults) }
         ensures cause { OnErr result (Rose self.old.faults self.new.faults) }
         ensures whole { IfOk result (λ count. count ≡ length piece.now) }
         ensures fails { Contains self.old.failures.failing.items self.old.failures.calls → IsErr result }

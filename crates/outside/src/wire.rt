@@ -1,7 +1,7 @@
 //! Wires to another program: dialled, written, read and hung up.
 
 ghost use Rattle.std.specs.Prelude.{◌≡◌, ◌<◌, ◌≤◌, [], ◌∷◌, ℕ, Bool, true, false, List, Option, IfOk, OnOk, OnErr, length};
-ghost use Rattle.outside.specs.Dials.{Dial, fresh_dial, Logged, LastBecomes, written_by, read_by};
+ghost use Rattle.outside.specs.Dials.{Dial, fresh_dial, missed_dial, Logged, LoggedBy, LastBecomes, written_by, read_by};
 ghost use Rattle.outside.specs.Faults.{Rose};
 ghost use Rattle.outside.specs.Taken.{ReadTakes};
 
@@ -22,8 +22,7 @@ pub struct WireFault;
 pub trait Wire {
     /// Whether the wire is dialled.
     ghost dialled: { Self → Bool };
-    /// The dials that were answered, each with what went over it, where the object tells them. A dial that
-    /// nobody answered is not among them, and is told by its count.
+    /// The dials, each with whether it was answered and what went over it, where the object tells them.
     ghost log: { Self → Option (List Dial) };
     /// The bytes to come on the latest dial, where the object tells them.
     ghost coming: { Self → Option (List ℕ) };
@@ -37,8 +36,9 @@ pub trait Wire {
         ensures up { OnOk result (dialled self.new ≡ true) }
         ensures down { OnErr result (dialled self.new ≡ false) }
         ensures logged { OnOk result (Logged (log self.old) (fresh_dial ∷ []) (log self.new)) }
-        ensures unlogged { OnErr result (log self.new ≡ log self.old) }
+        ensures missed { OnErr result (LoggedBy (dial_faults self.new) (log self.old) (missed_dial ∷ []) (log self.new)) }
         ensures count { dial_faults self.old ≤ dial_faults self.new }
+        ensures still { OnOk result (dial_faults self.new ≡ dial_faults self.old) }
         ensures cause { OnErr result (Rose (dial_faults self.old) (dial_faults self.new)) }
         ensures transfers { faults self.new ≡ faults self.old };
 
@@ -51,6 +51,7 @@ pub trait Wire {
         ensures sent { LastBecomes (written_by result piece.now) (log self.old) (log self.new) }
         ensures up { dialled self.new ≡ true }
         ensures count { faults self.old ≤ faults self.new }
+        ensures still { OnOk result (faults self.new ≡ faults self.old) }
         ensures cause { OnErr result (Rose (faults self.old) (faults self.new)) }
         ensures dials { dial_faults self.new ≡ dial_faults self.old };
 
@@ -62,6 +63,7 @@ pub trait Wire {
         ensures taken { LastBecomes (read_by result into.new) (log self.old) (log self.new) }
         ensures up { dialled self.new ≡ true }
         ensures count { faults self.old ≤ faults self.new }
+        ensures still { OnOk result (faults self.new ≡ faults self.old) }
         ensures cause { OnErr result (Rose (faults self.old) (faults self.new)) }
         ensures dials { dial_faults self.new ≡ dial_faults self.old };
 

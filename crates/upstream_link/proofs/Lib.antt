@@ -7,3 +7,4 @@ pub mod Answered
 pub mod Later
 pub mod OneReply
 pub mod NoFault
+pub mod OneFault

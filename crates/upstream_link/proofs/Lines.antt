@@ -87,7 +87,7 @@ line_is_stays here more len size x = (x.0, line_stays here more x.0 x.1, x.2, x.
 
 pub line_fault : (content here new : List ℕ) (ended : Bool) (f : LinkFault) → LineSays new (Err f) here ended → HasChunkFault content here ended f
 line_fault content here new ended fault.Down k = absurd k
-line_fault content here new ended fault.Failed k = inl k
+line_fault content here new ended fault.Failed k = (inl k.0, k.1)
 line_fault content here new ended fault.BadReplyHead k = absurd k
 line_fault content here new ended fault.Coded k = absurd k
 line_fault content here new ended fault.TooLarge k = absurd k
@@ -104,7 +104,7 @@ trailer_open here len size x zero_size none short =
 
 pub trailer_fault : (content here : List ℕ) (ended : Bool) (len size : ℕ) (f : LinkFault) → LineIs here len size → size ≡ 0 → length content ≤ body_limit → TrailerSays len (Err f) here ended → HasChunkFault content here ended f
 trailer_fault content here ended len size fault.Down x z fits k = absurd k
-trailer_fault content here ended len size fault.Failed x z fits k = inr (x.0, x.1, omega (arith, x.3, z, fits), inr (trailer_open here len size x z k.0 k.1))
+trailer_fault content here ended len size fault.Failed x z fits k = (inr (x.0, x.1, omega (arith, x.3, z, fits), inr (trailer_open here len size x z k.0 k.1)), k.2)
 trailer_fault content here ended len size fault.BadReplyHead x z fits k = absurd k
 trailer_fault content here ended len size fault.Coded x z fits k = absurd k
 trailer_fault content here ended len size fault.TooLarge x z fits k = absurd k
@@ -123,7 +123,7 @@ lacks here len size x some short =
 
 pub data_fault : (content here new : List ℕ) (ended : Bool) (len size : ℕ) (f : LinkFault) → LineIs here len size → ¬ (size ≡ 0) → length content + size ≤ body_limit → DataSays (len + size + 2) new (Err f) here ended → HasChunkFault content here ended f
 data_fault content here new ended len size fault.Down x some fits k = absurd k
-data_fault content here new ended len size fault.Failed x some fits k = inr (x.0, x.1, omega (arith, x.3, fits), inl (lacks here len size x some k))
+data_fault content here new ended len size fault.Failed x some fits k = (inr (x.0, x.1, omega (arith, x.3, fits), inl (lacks here len size x some k.0)), k.1)
 data_fault content here new ended len size fault.BadReplyHead x some fits k = absurd k
 data_fault content here new ended len size fault.Coded x some fits k = absurd k
 data_fault content here new ended len size fault.TooLarge x some fits k = absurd k

@@ -1,6 +1,5 @@
--- Bytes that begin with a whole reply have no fault, but want of memory or a failed transfer.
+-- Bytes that begin with a whole reply have no fault but want of memory.
 use Rattle.std.proofs.Common.{◌≡◌, ℕ, ◌+◌, ◌≤◌, List, [], ◌∷◌, ◌++◌, length, take, drop, Ok, Err, inl, inr, refl, sym, ap, ◌∙◌, subst, append_assoc, arith, Bool}
-use Rattle.std.specs.Prelude.{◌⊎◌}
 use Rattle.std.specs.List.{AllByRecursion}
 use Rattle.std.proofs.lemmas.List.{append-nil, length-append, drop_at}
 use Rattle.std.proofs.Math.Seq.{drop-append_seam}
@@ -17,13 +16,13 @@ use Rattle.upstream_link.specs.Replies.{ReplyOf}
 use Rattle.upstream_link.specs.ReplyHeads.{HasHead, HasBadHead, HasOpenHead, HasHeadFault, IsInterim, HeadsTo, after_head}
 use Rattle.upstream_link.proofs.OneReply.{head_one, heads_one, print_chunk_then, line_of, line_one, no_chunk, chunk_one, ok_or}
 
--- want of memory, or a failed transfer
+-- want of memory, which is free
 abbrev pub IsFree : LinkFault → Type 0
-IsFree f = (f ≡ fault.Memory) ⊎ (f ≡ fault.Failed)
+IsFree f = f ≡ fault.Memory
 
 -- ---- heads
 
-not_open_head : (here : List ℕ) (h : ResponseHead) → HasHead here h → HasOpenHead here → ⊥
+pub not_open_head : (here : List ℕ) (h : ResponseHead) → HasHead here h → HasOpenHead here → ⊥
 not_open_head here h x o = o.0 h x.0 x.1
 
 not_bad_head : (here : List ℕ) (h : ResponseHead) → HasHead here h → HasBadHead here → ⊥
@@ -34,18 +33,18 @@ not_bad_head here h x (inr (inl many)) =
     absurd (omega (arith, over, fits))
 not_bad_head here h x (inr (inr long)) = long.0 h x.0 x.1
 
-head_fault : (passed : ℕ) (here : List ℕ) (ended : Bool) (f : LinkFault) (h : ResponseHead) → HasHead here h → (IsInterim h → passed ≡ 8 → ⊥) → HasHeadFault passed here ended f → IsFree f
+pub head_fault : (passed : ℕ) (here : List ℕ) (ended : Bool) (f : LinkFault) (h : ResponseHead) → HasHead here h → (IsInterim h → passed ≡ 8 → ⊥) → HasHeadFault passed here ended f → IsFree f
 head_fault passed here ended fault.Down h x few k = absurd k
-head_fault passed here ended fault.Failed h x few k = inr refl
+head_fault passed here ended fault.Failed h x few k = absurd (not_open_head here h x k.0)
 head_fault passed here ended fault.BadReplyHead h x few (inl bad) = absurd (not_bad_head here h x bad)
 head_fault passed here ended fault.BadReplyHead h x few (inr ninth) = absurd (few (subst IsInterim (sym (head_one here h ninth.0 x ninth.1)) ninth.2) ninth.3)
 head_fault passed here ended fault.Coded h x few k = absurd k
 head_fault passed here ended fault.TooLarge h x few k = absurd k
 head_fault passed here ended fault.Truncated h x few k = absurd (not_open_head here h x k.0)
 head_fault passed here ended fault.BadChunk h x few k = absurd k
-head_fault passed here ended fault.Memory h x few k = inl refl
+head_fault passed here ended fault.Memory h x few k = refl
 
-heads_fault : (n : ℕ) (bytes : List ℕ) (hs ks : List ResponseHead) (here there : List ℕ) (ended : Bool) (f : LinkFault) (h : ResponseHead)
+pub heads_fault : (n : ℕ) (bytes : List ℕ) (hs ks : List ResponseHead) (here there : List ℕ) (ended : Bool) (f : LinkFault) (h : ResponseHead)
     → HeadsTo bytes hs here → HasHead here h → (IsInterim h → ⊥) → n + length hs ≤ 8 → HeadsTo bytes ks there → HasHeadFault (n + length ks) there ended f → IsFree f
 unfolding HeadsTo
 heads_fault n bytes [] [] here there ended f h to has plain most other k =
@@ -61,10 +60,10 @@ heads_fault n bytes (i ∷ hs) (j ∷ ks) here there ended f h to has plain most
 
 -- ---- chunks
 
-not_open_line : (here : List ℕ) (l : ChunkLine) → HasLine here l → HasOpenLine here → ⊥
+pub not_open_line : (here : List ℕ) (l : ChunkLine) → HasLine here l → HasOpenLine here → ⊥
 not_open_line here l x o = o.0 l x.0 x.1
 
-not_bad_line : (here : List ℕ) (l : ChunkLine) → HasLine here l → HasBadLine here → ⊥
+pub not_bad_line : (here : List ℕ) (l : ChunkLine) → HasLine here l → HasBadLine here → ⊥
 not_bad_line here l x (inl never) = never [] l x.0 (subst (λ b. ReadsChunkLine b l x.0) (sym (append-nil (room here))) x.1)
 not_bad_line here l x (inr long) = long.0 l x.0 x.1
 
@@ -78,7 +77,7 @@ not_cut_at_end content here x (inr (l, line, fits, inr tail)) =
 
 fault_at_end : (content here : List ℕ) (ended : Bool) (f : LinkFault) → Ends here → length content ≤ body_limit → HasChunkFault content here ended f → IsFree f
 fault_at_end content here ended fault.Down x most k = absurd k
-fault_at_end content here ended fault.Failed x most k = inr refl
+fault_at_end content here ended fault.Failed x most k = absurd (not_cut_at_end content here x k.0)
 fault_at_end content here ended fault.BadReplyHead x most k = absurd k
 fault_at_end content here ended fault.Coded x most k = absurd k
 fault_at_end content here ended fault.TooLarge x most k =
@@ -89,7 +88,7 @@ fault_at_end content here ended fault.BadChunk x most (inr (l, line, fits, inl l
     let same = ap chunk_size (line_one here x.0 l x.1 line) in absurd (omega (arith, same, x.2, lacks.0))
 fault_at_end content here ended fault.BadChunk x most (inr (l, line, fits, inr long)) =
     let same = line_one here x.0 l x.1 line in absurd (cc (x.3.1, long.1, same))
-fault_at_end content here ended fault.Memory x most k = inl refl
+fault_at_end content here ended fault.Memory x most k = refl
 
 -- the bytes behind the size line of a whole chunk
 behind_line : (c : Chunk) (rest : List ℕ) → after_line c.line (print_chunk c ++ rest) ≡ c.bytes ++ (line_end ++ rest)
@@ -111,9 +110,9 @@ not_cut_at_chunk content c rest is (inr (l, line, fits, inl lacks)) =
 not_cut_at_chunk content c rest is (inr (l, line, fits, inr tail)) =
     let same = ap chunk_size (line_one (print_chunk c ++ rest) c.line l (line_of c rest is) line) in absurd (omega (arith, same, is.some, tail.0))
 
-fault_at_chunk : (content : List ℕ) (c : Chunk) (rest : List ℕ) (ended : Bool) (f : LinkFault) → IsChunk c → length content + length c.bytes ≤ body_limit → HasChunkFault content (print_chunk c ++ rest) ended f → IsFree f
+pub fault_at_chunk : (content : List ℕ) (c : Chunk) (rest : List ℕ) (ended : Bool) (f : LinkFault) → IsChunk c → length content + length c.bytes ≤ body_limit → HasChunkFault content (print_chunk c ++ rest) ended f → IsFree f
 fault_at_chunk content c rest ended fault.Down is most k = absurd k
-fault_at_chunk content c rest ended fault.Failed is most k = inr refl
+fault_at_chunk content c rest ended fault.Failed is most k = absurd (not_cut_at_chunk content c rest is k.0)
 fault_at_chunk content c rest ended fault.BadReplyHead is most k = absurd k
 fault_at_chunk content c rest ended fault.Coded is most k = absurd k
 fault_at_chunk content c rest ended fault.TooLarge is most k =
@@ -125,7 +124,7 @@ fault_at_chunk content c rest ended fault.BadChunk is most (inr (l, line, fits, 
     absurd (lacks.2 (subst (λ k. take 2 (drop (chunk_size k) (after_line k (print_chunk c ++ rest))) ≡ line_end) same (end_behind c rest is)))
 fault_at_chunk content c rest ended fault.BadChunk is most (inr (l, line, fits, inr long)) =
     let same = ap chunk_size (line_one (print_chunk c ++ rest) c.line l (line_of c rest is) line) in absurd (omega (arith, same, is.some, long.0))
-fault_at_chunk content c rest ended fault.Memory is most k = inl refl
+fault_at_chunk content c rest ended fault.Memory is most k = refl
 
 chunks_fault : (n : ℕ) (content : List ℕ) (cs ds : List Chunk) (here there : List ℕ) (ended : Bool) (f : LinkFault)
     → AllByRecursion IsChunk cs → AllByRecursion IsChunk ds → print_chunks cs ++ here ≡ print_chunks ds ++ there → Ends here
@@ -156,21 +155,21 @@ body_fault : (g : Framing) (body bytes : List ℕ) (ended : Bool) (f : LinkFault
 body_fault framing.NoBody body bytes ended f x y = absurd (cc y)
 body_fault framing.Chunked body bytes ended f x y = chunked_fault body bytes ended f x y
 body_fault (framing.Length size) body bytes ended fault.Down x y = absurd y
-body_fault (framing.Length size) body bytes ended fault.Failed x y = inr refl
+body_fault (framing.Length size) body bytes ended fault.Failed x y = absurd (omega (arith, x.0, y.0))
 body_fault (framing.Length size) body bytes ended fault.BadReplyHead x y = absurd y
 body_fault (framing.Length size) body bytes ended fault.Coded x y = absurd y
 body_fault (framing.Length size) body bytes ended fault.TooLarge x y = absurd y
 body_fault (framing.Length size) body bytes ended fault.Truncated x y = absurd (omega (arith, x.0, y.0))
 body_fault (framing.Length size) body bytes ended fault.BadChunk x y = absurd y
-body_fault (framing.Length size) body bytes ended fault.Memory x y = inl refl
+body_fault (framing.Length size) body bytes ended fault.Memory x y = refl
 body_fault framing.UntilEnd body bytes ended fault.Down x y = absurd y
-body_fault framing.UntilEnd body bytes ended fault.Failed x y = inr refl
+body_fault framing.UntilEnd body bytes ended fault.Failed x y = absurd (cc (sym x.2 ∙ y.1))
 body_fault framing.UntilEnd body bytes ended fault.BadReplyHead x y = absurd y
 body_fault framing.UntilEnd body bytes ended fault.Coded x y = absurd y
 body_fault framing.UntilEnd body bytes ended fault.TooLarge x y = absurd (omega (arith, x.1, y))
 body_fault framing.UntilEnd body bytes ended fault.Truncated x y = absurd y
 body_fault framing.UntilEnd body bytes ended fault.BadChunk x y = absurd y
-body_fault framing.UntilEnd body bytes ended fault.Memory x y = inl refl
+body_fault framing.UntilEnd body bytes ended fault.Memory x y = refl
 
 pub no_fault : (bytes : List ℕ) (ended : Bool) (reply : UpstreamReply) (f : LinkFault) → ReplyOf (Ok reply) bytes ended → ReplyOf (Err f) bytes ended → IsFree f
 unfolding ok_or

@@ -11,21 +11,21 @@ use Rattle.outside.proofs.Dialling.{last_then}
 use Rattle.upstream_link.specs.Received.{receives, Told, Brings, Received}
 
 receives_none : (d : Dial) → d ≡ receives [] false false d
-receives_none d = λ i. record { sent = d.sent; taken = sym (append-nil d.taken) i; ended = sym (or-false d.ended) i; failed = sym (or-false d.failed) i }
+receives_none d = λ i. record { answered = d.answered; sent = d.sent; taken = sym (append-nil d.taken) i; ended = sym (or-false d.ended) i; failed = sym (or-false d.failed) i }
 
 receives_then : (first second : List ℕ) (ended failed : Bool) (d : Dial) → receives second ended failed (receives first false false d) ≡ receives (first ++ second) ended failed d
 receives_then first second ended failed d =
-    λ i. record { sent = d.sent; taken = append_assoc d.taken first second i; ended = ap (λ a. a || ended) (or-false d.ended) i; failed = ap (λ a. a || failed) (or-false d.failed) i }
+    λ i. record { answered = d.answered; sent = d.sent; taken = append_assoc d.taken first second i; ended = ap (λ a. a || ended) (or-false d.ended) i; failed = ap (λ a. a || failed) (or-false d.failed) i }
 
 takes_receives : (bytes : List ℕ) (ended : Bool) (d : Dial) → takes bytes ended d ≡ receives bytes ended false d
-takes_receives bytes ended d = λ i. record { sent = d.sent; taken = d.taken ++ bytes; ended = d.ended || ended; failed = sym (or-false d.failed) i }
+takes_receives bytes ended d = λ i. record { answered = d.answered; sent = d.sent; taken = d.taken ++ bytes; ended = d.ended || ended; failed = sym (or-false d.failed) i }
 
 or_true : (a : Bool) → true ≡ (a || true)
 or_true true = refl
 or_true false = refl
 
 fails_receives : (d : Dial) → fails d ≡ receives [] false true d
-fails_receives d = λ i. record { sent = d.sent; taken = sym (append-nil d.taken) i; ended = sym (or-false d.ended) i; failed = or_true d.failed i }
+fails_receives d = λ i. record { answered = d.answered; sent = d.sent; taken = sym (append-nil d.taken) i; ended = sym (or-false d.ended) i; failed = or_true d.failed i }
 
 pub same_last : (change other : Dial → Dial) → ((d : Dial) → change d ≡ other d) → (a b : Option (List Dial)) → LastBecomes change a b → LastBecomes other a b
 same_last change other same a b x = subst (λ (f : Dial → Dial). LastBecomes f a b) (λ i d. same d i) x

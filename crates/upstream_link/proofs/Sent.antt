@@ -11,7 +11,7 @@ use Rattle.upstream_link.specs.Exchanges.{IsFrontOf, SendSays}
 use Rattle.upstream_link.proofs.Receiving.{same_last, with_last_none}
 
 sends_none : (d : Dial) → d ≡ sends [] d
-sends_none d = λ i. record { sent = sym (append-nil d.sent) i; taken = d.taken; ended = d.ended; failed = d.failed }
+sends_none d = λ i. record { answered = d.answered; sent = sym (append-nil d.sent) i; taken = d.taken; ended = d.ended; failed = d.failed }
 
 -- nothing was sent
 pub sent_none : (log : Option (List Dial)) → LastBecomes (sends []) log log

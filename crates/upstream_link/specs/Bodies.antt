@@ -1,5 +1,5 @@
 -- The body behind the head of a reply, or its first fault (RFC 9112, section 6.3).
-use Rattle.std.specs.Prelude.{◌≡◌, ℕ, ◌≤◌, ◌<◌, Bool, List, [], length, take, Result, Ok, Err, IsTrue, ⊤, Vec}
+use Rattle.std.specs.Prelude.{◌≡◌, ℕ, ◌≤◌, ◌<◌, Bool, false, List, [], length, take, Result, Ok, Err, IsTrue, ⊤, Vec}
 use Rattle.std.specs.declared.alloc.Global.{Global}
 use Rattle.upstream_link.specs.declared.fault.LinkFault.{LinkFault}
 use Rattle.upstream_link.specs.declared.fault.LinkFault.TheVariants as fault
@@ -11,7 +11,7 @@ use Rattle.upstream_link.specs.Chunks.{body_limit, ChunkedIs}
 abbrev pub SizedIs : ℕ → Result (List ℕ) LinkFault → List ℕ → Bool → Type 0
 SizedIs size (Ok body) bytes ended = (size ≤ length bytes) × (body ≡ take size bytes)
 SizedIs size (Err fault.Truncated) bytes ended = (length bytes < size) × IsTrue ended
-SizedIs size (Err fault.Failed) bytes ended = length bytes < size
+SizedIs size (Err fault.Failed) bytes ended = (length bytes < size) × (ended ≡ false)
 SizedIs size (Err fault.Memory) bytes ended = ⊤
 SizedIs size (Err f) bytes ended = ⊥
 
@@ -19,7 +19,7 @@ SizedIs size (Err f) bytes ended = ⊥
 abbrev pub RestIs : Result (List ℕ) LinkFault → List ℕ → Bool → Type 0
 RestIs (Ok body) bytes ended = (body ≡ bytes) × (length bytes ≤ body_limit) × IsTrue ended
 RestIs (Err fault.TooLarge) bytes ended = body_limit < length bytes
-RestIs (Err fault.Failed) bytes ended = length bytes ≤ body_limit
+RestIs (Err fault.Failed) bytes ended = (length bytes ≤ body_limit) × (ended ≡ false)
 RestIs (Err fault.Memory) bytes ended = ⊤
 RestIs (Err f) bytes ended = ⊥
 
@@ -40,6 +40,6 @@ items_of (Err f) = Err f
 abbrev pub AllSays : List ℕ → Result (Unit {0}) LinkFault → List ℕ → Bool → Type 0
 AllSays new (Ok u) bytes ended = (new ≡ bytes) × (length bytes ≤ body_limit) × IsTrue ended
 AllSays new (Err fault.TooLarge) bytes ended = body_limit < length bytes
-AllSays new (Err fault.Failed) bytes ended = length bytes ≤ body_limit
+AllSays new (Err fault.Failed) bytes ended = (length bytes ≤ body_limit) × (ended ≡ false)
 AllSays new (Err fault.Memory) bytes ended = ⊤
 AllSays new (Err f) bytes ended = ⊥

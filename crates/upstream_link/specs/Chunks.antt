@@ -1,5 +1,5 @@
 -- A chunked body at the front of bytes, or its first fault (RFC 9112, section 7.1).
-use Rattle.std.specs.Prelude.{◌≡◌, ◌≢◌, ℕ, ◌+◌, ◌≤◌, ◌<◌, ◌⊎◌, ◌==◌, ◌&&◌, if◌then◌else◌, nat_lt, Bool, List, [], ◌∷◌, ◌++◌, length, take, drop, Option, Some, None, Result, Ok, Err, IsTrue, ⊤}
+use Rattle.std.specs.Prelude.{◌≡◌, ◌≢◌, ℕ, ◌+◌, ◌≤◌, ◌<◌, ◌⊎◌, ◌==◌, ◌&&◌, if◌then◌else◌, nat_lt, Bool, false, List, [], ◌∷◌, ◌++◌, length, take, drop, Option, Some, None, Result, Ok, Err, IsTrue, ⊤}
 use Rattle.std.specs.List.{AllByRecursion}
 use Rattle.std.specs.Option.{option_map}
 use Rattle.httparse.specs.Grammar.{ChunkLine, print_chunk_line, chunk_size, IsChunkLine, ReadsChunkLine, HasNoChunkLine, NeverHasChunkLine, MayBecomeChunkLine}
@@ -107,7 +107,7 @@ Ends here = (l : ChunkLine) × HasLine here l × (chunk_size l ≡ 0) × ((n : �
 
 -- what goes wrong behind whole chunks with this content
 abbrev pub HasChunkFault : List ℕ → List ℕ → Bool → LinkFault → Type 0
-HasChunkFault content here ended fault.Failed = IsCut content here
+HasChunkFault content here ended fault.Failed = IsCut content here × (ended ≡ false)
 HasChunkFault content here ended fault.TooLarge = (l : ChunkLine) × HasLine here l × (body_limit < length content + chunk_size l)
 HasChunkFault content here ended fault.Truncated = IsCut content here × IsTrue ended
 HasChunkFault content here ended fault.BadChunk =

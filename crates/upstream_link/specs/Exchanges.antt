@@ -1,6 +1,6 @@
--- What a request to the upstream came to, by the dials that were answered.
+-- What a request to the upstream came to, by its dials.
 use Rattle.std.specs.Prelude.{◌≡◌, ℕ, ◌<◌, ◌⊎◌, true, false, List, [], ◌∷◌, ◌++◌, length, Option, Result, Ok, Err}
-use Rattle.outside.specs.Dials.{Dial, LastBecomes, sends, fails}
+use Rattle.outside.specs.Dials.{Dial, missed_dial, LastBecomes, sends, fails}
 use Rattle.upstream_link.specs.declared.fault.LinkFault.{LinkFault}
 use Rattle.upstream_link.specs.declared.fault.LinkFault.TheVariants as fault
 use Rattle.upstream_link.specs.declared.reply.UpstreamReply.{UpstreamReply}
@@ -12,8 +12,14 @@ use Rattle.upstream_link.specs.Replies.{ReplyOf}
 abbrev pub IsFrontOf : List ℕ → List ℕ → Type 0
 IsFrontOf front bytes = (rest : List ℕ) × (bytes ≡ front ++ rest) × (0 < length rest)
 
+-- nobody answered the dial
+pub record WasDown (r : Result UpstreamReply LinkFault) (dial : Dial) : Type 0 where
+  pub down : r ≡ Err fault.Down
+  pub missed : dial ≡ missed_dial
+
 -- only a front of the request was sent, since a transfer failed
 pub record WasCutOff (request : List ℕ) (r : Result UpstreamReply LinkFault) (dial : Dial) : Type 0 where
+  pub answered : dial.answered ≡ true
   pub failed : r ≡ Err fault.Failed
   pub sent : IsFrontOf dial.sent request
   pub taken : dial.taken ≡ []
@@ -22,14 +28,16 @@ pub record WasCutOff (request : List ℕ) (r : Result UpstreamReply LinkFault) (
 
 -- the request was sent, and the bytes that were taken begin with this reply, or have this fault
 pub record WasAnswered (request : List ℕ) (r : Result UpstreamReply LinkFault) (dial : Dial) : Type 0 where
+  pub answered : dial.answered ≡ true
   pub sent : dial.sent ≡ request
   pub taken : ReplyOf r dial.taken dial.ended
   pub marked : dial.failed ≡ is_failed r
 
--- What a request came to. `untouched` says that the wire is as it was.
+-- What a request came to: it was dialled just once, unless there was no memory before. `untouched` says that the wire is
+-- as it was.
 abbrev pub CameTo : Type 0 → List ℕ → Result UpstreamReply LinkFault → List Dial → Type 0
-CameTo untouched request r [] = (r ≡ Err fault.Down) ⊎ ((r ≡ Err fault.Memory) × untouched)
-CameTo untouched request r (dial ∷ []) = WasCutOff request r dial ⊎ WasAnswered request r dial
+CameTo untouched request r [] = (r ≡ Err fault.Memory) × untouched
+CameTo untouched request r (dial ∷ []) = WasDown r dial ⊎ (WasCutOff request r dial ⊎ WasAnswered request r dial)
 CameTo untouched request r (dial ∷ other ∷ dials) = ⊥
 
 -- ---- in the service of the code

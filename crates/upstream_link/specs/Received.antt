@@ -8,7 +8,7 @@ use Rattle.upstream_link.specs.declared.fault.LinkFault.TheVariants as fault
 
 -- a dial on which these bytes more were taken; perhaps the end was met after them, or a transfer failed
 abbrev pub receives : List ℕ → Bool → Bool → Dial → Dial
-receives bytes ended failed d = record { sent = d.sent; taken = d.taken ++ bytes; ended = d.ended || ended; failed = d.failed || failed }
+receives bytes ended failed d = record { answered = d.answered; sent = d.sent; taken = d.taken ++ bytes; ended = d.ended || ended; failed = d.failed || failed }
 
 -- what a wire tells: the bytes to come, and its log
 abbrev pub Told : Type 0

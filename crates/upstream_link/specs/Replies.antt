@@ -1,12 +1,13 @@
 -- A reply of the upstream at the front of bytes, or its first fault.
-use Rattle.std.specs.Prelude.{◌≡◌, ℕ, ◌⊎◌, Bool, List, Result, Ok, Err}
+use Rattle.std.specs.Prelude.{◌≡◌, ℕ, ◌⊎◌, Bool, List, Result, Ok, Err, ⊤}
 use Rattle.httparse.specs.Grammar.{ResponseHead, status_code}
 use Rattle.upstream_link.specs.declared.fault.LinkFault.{LinkFault}
+use Rattle.upstream_link.specs.declared.fault.LinkFault.TheVariants as fault
 use Rattle.upstream_link.specs.declared.framing.Framing.{Framing}
 use Rattle.upstream_link.specs.declared.reply.UpstreamReply.{UpstreamReply}
 use Rattle.upstream_link.specs.Framing.{framing_of}
 use Rattle.upstream_link.specs.Bodies.{BodyIs}
-use Rattle.upstream_link.specs.ReplyHeads.{ReplyHeadAt, ReplyHeadFails, after_head}
+use Rattle.upstream_link.specs.ReplyHeads.{ReplyHeadAt, ReplyHeadFails, HeadsTo, HasOpenHead, HasTooManyFields, after_head}
 
 -- the body behind the head, by its framing
 abbrev pub HasBody : ResponseHead → Result (List ℕ) LinkFault → List ℕ → Bool → Type 0
@@ -22,3 +23,20 @@ ReplyOf (Ok reply) bytes ended =
     (here : List ℕ) × (h : ResponseHead) × ReplyHeadAt bytes here h × (reply.status ≡ status_code h) × HasBody h (Ok reply.body.items) (after_head h here) ended
 ReplyOf (Err f) bytes ended =
     ReplyHeadFails f bytes ended ⊎ ((here : List ℕ) × (h : ResponseHead) × ReplyHeadAt bytes here h × BodyFails h f (after_head h here) ended)
+
+-- ---- one fault
+
+-- it is told before a whole head stands there
+abbrev pub IsBeforeHead : LinkFault → Type 0
+IsBeforeHead fault.Failed = ⊤
+IsBeforeHead fault.BadReplyHead = ⊤
+IsBeforeHead fault.Truncated = ⊤
+IsBeforeHead f = ⊥
+
+-- what the grammar of heads leaves open: a head that isn't whole and has too many fields already
+abbrev pub IsLeftOpen : List ℕ → Type 0
+IsLeftOpen bytes = (hs : List ResponseHead) × (here : List ℕ) × HeadsTo bytes hs here × HasOpenHead here × HasTooManyFields here
+
+-- Two faults are the same, or one is want of memory, or both are told before a whole head where it is left open which.
+abbrev pub AreOne : List ℕ → LinkFault → LinkFault → Type 0
+AreOne bytes f g = (f ≡ g) ⊎ ((f ≡ fault.Memory) ⊎ ((g ≡ fault.Memory) ⊎ (IsBeforeHead f × IsBeforeHead g × IsLeftOpen bytes)))

@@ -1,5 +1,5 @@
 -- The head of a reply behind those that are passed over, or the first fault (RFC 9110, section 15.2).
-use Rattle.std.specs.Prelude.{◌≡◌, ℕ, ◌≤◌, ◌<◌, ◌⊎◌, Bool, List, [], ◌∷◌, length, drop, IsTrue, ⊤}
+use Rattle.std.specs.Prelude.{◌≡◌, ℕ, ◌≤◌, ◌<◌, ◌⊎◌, Bool, false, List, [], ◌∷◌, length, drop, IsTrue, ⊤}
 use Rattle.httparse.specs.Grammar.{ResponseHead, print_response, ReadsResponse, HasNoResponse, NeverHasResponse, MayBecomeResponse, status_code}
 use Rattle.httparse.specs.Spans.{ResponseExceeds, ResponseOverflows}
 use Rattle.http.specs.StatusCode.{IsInClass}
@@ -45,7 +45,7 @@ HasNinth passed here = (h : ResponseHead) × HasHead here h × IsInterim h × (p
 
 -- what goes wrong behind so many heads that were passed over
 abbrev pub HasHeadFault : ℕ → List ℕ → Bool → LinkFault → Type 0
-HasHeadFault passed here ended fault.Failed = HasOpenHead here
+HasHeadFault passed here ended fault.Failed = HasOpenHead here × (ended ≡ false)
 HasHeadFault passed here ended fault.BadReplyHead = HasBadHead here ⊎ HasNinth passed here
 HasHeadFault passed here ended fault.Truncated = HasOpenHead here × IsTrue ended
 HasHeadFault passed here ended fault.Memory = ⊤

@@ -26,7 +26,7 @@ PieceSays old new piece (Err f) = ⊥
 abbrev pub DataSays : ℕ → List ℕ → Result (Unit {0}) LinkFault → List ℕ → Bool → Type 0
 DataSays total new (Ok u) here ended = (total ≤ length here) × (new ≡ here) × (ended ≡ false)
 DataSays total new (Err fault.Truncated) here ended = (length here < total) × IsTrue ended
-DataSays total new (Err fault.Failed) here ended = length here < total
+DataSays total new (Err fault.Failed) here ended = (length here < total) × (ended ≡ false)
 DataSays total new (Err fault.Memory) here ended = ⊤
 DataSays total new (Err f) here ended = ⊥
 
@@ -45,7 +45,7 @@ abbrev pub LineSays : List ℕ → Result (ℕ × ℕ) LinkFault → List ℕ �
 LineSays new (Ok line) here ended = LineIs here line.0 line.1 × (new ≡ here) × (ended ≡ false)
 LineSays new (Err fault.BadChunk) here ended = HasBadLine here
 LineSays new (Err fault.Truncated) here ended = HasOpenLine here × IsTrue ended
-LineSays new (Err fault.Failed) here ended = HasOpenLine here
+LineSays new (Err fault.Failed) here ended = HasOpenLine here × (ended ≡ false)
 LineSays new (Err fault.Memory) here ended = ⊤
 LineSays new (Err f) here ended = ⊥
 
@@ -56,7 +56,7 @@ LacksTrailer len here = trailer_length (room (drop len here)) ≡ None
 abbrev pub TrailerSays : ℕ → Result (Unit {0}) LinkFault → List ℕ → Bool → Type 0
 TrailerSays len (Ok u) here ended = (n : ℕ) × (trailer_length (room (drop len here)) ≡ Some n)
 TrailerSays len (Err fault.Truncated) here ended = LacksTrailer len here × (length (drop len here) < 16384) × IsTrue ended
-TrailerSays len (Err fault.Failed) here ended = LacksTrailer len here × (length (drop len here) < 16384)
+TrailerSays len (Err fault.Failed) here ended = LacksTrailer len here × (length (drop len here) < 16384) × (ended ≡ false)
 TrailerSays len (Err fault.BadChunk) here ended = LacksTrailer len here × (16384 ≤ length (drop len here))
 TrailerSays len (Err fault.Memory) here ended = ⊤
 TrailerSays len (Err f) here ended = ⊥
@@ -95,7 +95,7 @@ abbrev pub HeadSays : List ℕ → Result Head LinkFault → List ℕ → Bool �
 HeadSays new (Ok head) here ended = HeadIs here head × (new ≡ here) × (ended ≡ false)
 HeadSays new (Err fault.BadReplyHead) here ended = HasBadHead here
 HeadSays new (Err fault.Truncated) here ended = HasOpenHead here × IsTrue ended
-HeadSays new (Err fault.Failed) here ended = HasOpenHead here
+HeadSays new (Err fault.Failed) here ended = HasOpenHead here × (ended ≡ false)
 HeadSays new (Err fault.Memory) here ended = ⊤
 HeadSays new (Err f) here ended = ⊥
 

@@ -1,6 +1,6 @@
 //! Bodies behind the head of a reply (RFC 9112, section 6.3).
 
-ghost use Rattle.std.specs.Prelude.{◌≡◌, ◌≤◌, ◌<◌, ◌++◌, ℕ, List, true, false, Err, IfOk, IsTrue, length, take};
+ghost use Rattle.std.specs.Prelude.{◌≡◌, ◌≢◌, ◌≤◌, ◌<◌, ◌++◌, ℕ, List, true, false, Err, IfOk, IsTrue, length, take};
 ghost use Rattle.outside.specs.Faults.{Rose};
 ghost use Rattle.upstream_link.specs.Bodies.{SizedIs, RestIs, BodyIs, AllSays, items_of};
 ghost use Rattle.upstream_link.specs.Received.{Received, is_failed};
@@ -26,6 +26,7 @@ fn take_sized<W: Wire>(
     ensures up { W.dialled wire.new ≡ true }
     ensures count { W.faults wire.old ≤ W.faults wire.new }
     ensures cause { result ≡ Err LinkFault.Failed → Rose (W.faults wire.old) (W.faults wire.new) }
+    ensures still { result ≢ Err LinkFault.Failed → W.faults wire.new ≡ W.faults wire.old }
     ensures dials { W.dial_faults wire.new ≡ W.dial_faults wire.old }
 {
     match take_data(kept, wire, size) {
@@ -42,6 +43,7 @@ fn take_all<W: Wire>(kept: &mut Kept, wire: &mut W) -> Result<(), LinkFault>
     ensures up { W.dialled wire.new ≡ true }
     ensures count { W.faults wire.old ≤ W.faults wire.new }
     ensures cause { result ≡ Err LinkFault.Failed → Rose (W.faults wire.old) (W.faults wire.new) }
+    ensures still { result ≢ Err LinkFault.Failed → W.faults wire.new ≡ W.faults wire.old }
     ensures dials { W.dial_faults wire.new ≡ W.dial_faults wire.old }
 {
     'pieces: while kept.len() <= BODY_LIMIT {
@@ -62,6 +64,7 @@ fn take_rest<W: Wire>(alloc: Global, kept: &mut Kept, wire: &mut W) -> Result<Ve
     ensures up { W.dialled wire.new ≡ true }
     ensures count { W.faults wire.old ≤ W.faults wire.new }
     ensures cause { result ≡ Err LinkFault.Failed → Rose (W.faults wire.old) (W.faults wire.new) }
+    ensures still { result ≢ Err LinkFault.Failed → W.faults wire.new ≡ W.faults wire.old }
     ensures dials { W.dial_faults wire.new ≡ W.dial_faults wire.old }
 {
     match take_all(kept, wire) {
@@ -86,6 +89,7 @@ pub(crate) fn take_body<W: Wire>(
     ensures up { W.dialled wire.new ≡ true }
     ensures count { W.faults wire.old ≤ W.faults wire.new }
     ensures cause { result ≡ Err LinkFault.Failed → Rose (W.faults wire.old) (W.faults wire.new) }
+    ensures still { result ≢ Err LinkFault.Failed → W.faults wire.new ≡ W.faults wire.old }
     ensures dials { W.dial_faults wire.new ≡ W.dial_faults wire.old }
 {
     match framing {

@@ -1,6 +1,6 @@
 //! Chunked bodies (RFC 9112, section 7.1).
 
-ghost use Rattle.std.specs.Prelude.{◌≡◌, ◌+◌, ◌-◌, ◌≤◌, ◌<◌, ◌++◌, ◌==◌, ◌&&◌, ◌↔◌, nat_lt, ℕ, List, true, false, Err, IfOk, IfSome, OnOk, IsTrue, length, take, drop};
+ghost use Rattle.std.specs.Prelude.{◌≡◌, ◌≢◌, ◌+◌, ◌-◌, ◌≤◌, ◌<◌, ◌++◌, ◌==◌, ◌&&◌, ◌↔◌, nat_lt, ℕ, List, true, false, Err, IfOk, IfSome, OnOk, IsTrue, length, take, drop};
 ghost use Rattle.outside.specs.Faults.{Rose};
 ghost use Rattle.upstream_link.specs.Bodies.{items_of};
 ghost use Rattle.upstream_link.specs.Received.{Received, is_failed};
@@ -55,6 +55,7 @@ fn take_line<W: Wire>(kept: &mut Kept, wire: &mut W) -> Result<(usize, u64), Lin
     ensures up { W.dialled wire.new ≡ true }
     ensures count { W.faults wire.old ≤ W.faults wire.new }
     ensures cause { result ≡ Err LinkFault.Failed → Rose (W.faults wire.old) (W.faults wire.new) }
+    ensures still { result ≢ Err LinkFault.Failed → W.faults wire.new ≡ W.faults wire.old }
     ensures dials { W.dial_faults wire.new ≡ W.dial_faults wire.old }
 {
     'pieces: loop {
@@ -129,6 +130,7 @@ fn take_trailer<W: Wire>(kept: &mut Kept, wire: &mut W, len: usize) -> Result<()
     ensures up { W.dialled wire.new ≡ true }
     ensures count { W.faults wire.old ≤ W.faults wire.new }
     ensures cause { result ≡ Err LinkFault.Failed → Rose (W.faults wire.old) (W.faults wire.new) }
+    ensures still { result ≢ Err LinkFault.Failed → W.faults wire.new ≡ W.faults wire.old }
     ensures dials { W.dial_faults wire.new ≡ W.dial_faults wire.old }
 {
     'pieces: loop {
@@ -176,6 +178,7 @@ fn take_chunk<W: Wire>(
     ensures up { W.dialled wire.new ≡ true }
     ensures count { W.faults wire.old ≤ W.faults wire.new }
     ensures cause { result ≡ Err LinkFault.Failed → Rose (W.faults wire.old) (W.faults wire.new) }
+    ensures still { result ≢ Err LinkFault.Failed → W.faults wire.new ≡ W.faults wire.old }
     ensures dials { W.dial_faults wire.new ≡ W.dial_faults wire.old }
 {
     let (len, size) = match take_line(kept, wire) {
@@ -219,6 +222,7 @@ pub(crate) fn take_chunks<W: Wire>(
     ensures up { W.dialled wire.new ≡ true }
     ensures count { W.faults wire.old ≤ W.faults wire.new }
     ensures cause { result ≡ Err LinkFault.Failed → Rose (W.faults wire.old) (W.faults wire.new) }
+    ensures still { result ≢ Err LinkFault.Failed → W.faults wire.new ≡ W.faults wire.old }
     ensures dials { W.dial_faults wire.new ≡ W.dial_faults wire.old }
 {
     let mut content: Vec<u8> = Vec::new(alloc);

@@ -1,6 +1,6 @@
 //! Heads of replies (RFC 9112, section 4), and those that are passed over (RFC 9110, section 15.2).
 
-ghost use Rattle.std.specs.Prelude.{◌≡◌, ◌≤◌, ◌<◌, ℕ, List, true, Err, IfOk, IfSome, IsTrue, ◌↔◌, length};
+ghost use Rattle.std.specs.Prelude.{◌≡◌, ◌≢◌, ◌≤◌, ◌<◌, ℕ, List, true, Err, IfOk, IfSome, IsTrue, ◌↔◌, length};
 ghost use Rattle.http.specs.StatusCode.{IsInClass};
 ghost use Rattle.httparse.specs.Grammar.{ResponseHead};
 ghost use Rattle.httparse.specs.Spans.{IsResponseAt, IsResponseWithin};
@@ -78,6 +78,7 @@ fn take_head<W: Wire>(kept: &mut Kept, wire: &mut W) -> Result<Head, LinkFault>
     ensures up { W.dialled wire.new ≡ true }
     ensures count { W.faults wire.old ≤ W.faults wire.new }
     ensures cause { result ≡ Err LinkFault.Failed → Rose (W.faults wire.old) (W.faults wire.new) }
+    ensures still { result ≢ Err LinkFault.Failed → W.faults wire.new ≡ W.faults wire.old }
     ensures dials { W.dial_faults wire.new ≡ W.dial_faults wire.old }
 {
     'pieces: loop {
@@ -113,6 +114,7 @@ pub(crate) fn take_reply_head<W: Wire>(kept: &mut Kept, wire: &mut W) -> Result<
     ensures up { W.dialled wire.new ≡ true }
     ensures count { W.faults wire.old ≤ W.faults wire.new }
     ensures cause { result ≡ Err LinkFault.Failed → Rose (W.faults wire.old) (W.faults wire.new) }
+    ensures still { result ≢ Err LinkFault.Failed → W.faults wire.new ≡ W.faults wire.old }
     ensures dials { W.dial_faults wire.new ≡ W.dial_faults wire.old }
 {
     let mut passed = 0u32;

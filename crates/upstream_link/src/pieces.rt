@@ -1,6 +1,6 @@
 //! Pieces received over a wire.
 
-ghost use Rattle.std.specs.Prelude.{◌≡◌, ◌≤◌, ◌<◌, ◌++◌, ℕ, List, true, false, Err, IfOk, IsTrue, length};
+ghost use Rattle.std.specs.Prelude.{◌≡◌, ◌≢◌, ◌≤◌, ◌<◌, ◌++◌, ℕ, List, true, false, Err, IfOk, IsTrue, length};
 ghost use Rattle.std.specs.Io.KnownBytes.{IsAtEnd};
 ghost use Rattle.outside.specs.Faults.{Rose};
 ghost use Rattle.upstream_link.specs.Received.{Brings, Received, is_failed};
@@ -20,6 +20,7 @@ pub(crate) fn take_piece<W: Wire>(kept: &mut Kept, wire: &mut W) -> Result<bool,
     ensures up { W.dialled wire.new ≡ true }
     ensures count { W.faults wire.old ≤ W.faults wire.new }
     ensures cause { result ≡ Err LinkFault.Failed → Rose (W.faults wire.old) (W.faults wire.new) }
+    ensures still { result ≢ Err LinkFault.Failed → W.faults wire.new ≡ W.faults wire.old }
     ensures dials { W.dial_faults wire.new ≡ W.dial_faults wire.old }
 {
     let mut piece = [0u8; 4096];
@@ -45,6 +46,7 @@ pub(crate) fn take_data<W: Wire>(
     ensures up { W.dialled wire.new ≡ true }
     ensures count { W.faults wire.old ≤ W.faults wire.new }
     ensures cause { result ≡ Err LinkFault.Failed → Rose (W.faults wire.old) (W.faults wire.new) }
+    ensures still { result ≢ Err LinkFault.Failed → W.faults wire.new ≡ W.faults wire.old }
     ensures dials { W.dial_faults wire.new ≡ W.dial_faults wire.old }
 {
     'pieces: while kept.len() < total {

@@ -1,6 +1,6 @@
 //! A reply of the upstream.
 
-ghost use Rattle.std.specs.Prelude.{◌≡◌, ◌≤◌, ℕ, List, true, Err};
+ghost use Rattle.std.specs.Prelude.{◌≡◌, ◌≢◌, ◌≤◌, ℕ, List, true, Err};
 ghost use Rattle.outside.specs.Faults.{Rose};
 ghost use Rattle.upstream_link.specs.Received.{Received, is_failed};
 ghost use Rattle.upstream_link.specs.Replies.{ReplyOf};
@@ -31,6 +31,7 @@ pub(crate) fn take_reply<W: Wire>(
     ensures up { W.dialled wire.new ≡ true }
     ensures count { W.faults wire.old ≤ W.faults wire.new }
     ensures cause { result ≡ Err LinkFault.Failed → Rose (W.faults wire.old) (W.faults wire.new) }
+    ensures still { result ≢ Err LinkFault.Failed → W.faults wire.new ≡ W.faults wire.old }
     ensures dials { W.dial_faults wire.new ≡ W.dial_faults wire.old }
 {
     let head = match take_reply_head(kept, wire) {

@@ -1,6 +1,6 @@
 //! Bytes sent over a wire.
 
-ghost use Rattle.std.specs.Prelude.{◌≡◌, ◌≤◌, ◌<◌, true, Err};
+ghost use Rattle.std.specs.Prelude.{◌≡◌, ◌≢◌, ◌≤◌, ◌<◌, true, Err};
 ghost use Rattle.outside.specs.Faults.{Rose};
 ghost use Rattle.upstream_link.specs.Exchanges.{bytes_of, SendSays};
 
@@ -15,6 +15,7 @@ fn send<W: Wire>(wire: &mut W, piece: &[u8]) -> Result<(), LinkFault>
     ensures up { W.dialled wire.new ≡ true }
     ensures count { W.faults wire.old ≤ W.faults wire.new }
     ensures cause { result ≡ Err LinkFault.Failed → Rose (W.faults wire.old) (W.faults wire.new) }
+    ensures still { result ≢ Err LinkFault.Failed → W.faults wire.new ≡ W.faults wire.old }
     ensures dials { W.dial_faults wire.new ≡ W.dial_faults wire.old }
 {
     let mut done = 0;
@@ -34,6 +35,7 @@ pub(crate) fn send_request<W: Wire>(wire: &mut W, request: &Request) -> Result<(
     ensures up { W.dialled wire.new ≡ true }
     ensures count { W.faults wire.old ≤ W.faults wire.new }
     ensures cause { result ≡ Err LinkFault.Failed → Rose (W.faults wire.old) (W.faults wire.new) }
+    ensures still { result ≢ Err LinkFault.Failed → W.faults wire.new ≡ W.faults wire.old }
     ensures dials { W.dial_faults wire.new ≡ W.dial_faults wire.old }
 {
     match send(wire, request.first.as_slice()) {

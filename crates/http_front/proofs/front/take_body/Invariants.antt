@@ -1,12 +1,13 @@
 -- What is kept was taken.
-use Rattle.std.proofs.Common.{◌≡◌, ◌≤◌, ◌-◌, ◌++◌, ℕ, List, length}
+use Rattle.std.proofs.Common.{◌≡◌, ◌-◌, ◌++◌, ℕ, List, length}
 use Rattle.outside.specs.Taken.{Took}
 use Rattle.http_front.proofs.front.take_body.Given as goal
 
 abbrev pub invariant-loop-kept : goal.invariant-loop-kept
 invariant-loop-kept g l =
-    (g.S.Source.faults l.initial.from ≤ g.S.Source.faults l.from)
+    (g.S.Source.faults l.from ≡ g.S.Source.faults l.initial.from)
     × ((t : List ℕ) × Took (g.S.Source.left l.initial.from) t (g.S.Source.left l.from) × (l.kept.items ≡ l.initial.kept.items ++ t))
+    × (g.S.Source.ended l.from ≡ g.S.Source.ended l.initial.from)
 
 abbrev pub decreases-loop-kept : goal.decreases-loop-kept
 decreases-loop-kept g l = l.total - length l.kept.items

@@ -1,5 +1,5 @@
 -- A look, and then a piece more.
-use Rattle.std.proofs.Common.{◌≡◌, ◌<◌, ◌++◌, inl, sym, ap, subst, arith, length, ◌∙◌, Ok, refl, false, List, ℕ, Option, None}
+use Rattle.std.proofs.Common.{◌≡◌, ◌<◌, ◌++◌, inl, sym, ap, subst, length, ◌∙◌, Ok, refl, false, List, ℕ, Option, None}
 use Rattle.std.proofs.lemmas.List.{append-nil}
 use Rattle.http_front.specs.Asks.{HasFault, IsPartOfHead}
 use Rattle.http_front.specs.Service.{AtEndIs, LookIs}
@@ -28,8 +28,9 @@ returns-in-Ok-true-clause-exact g c =
 pub pieces-preserved : goal.pieces-preserved
 pieces-preserved g c =
     let e = c.in-Ok-false.ensures.exact in (
-      omega (arith, c.pieces.invariant.0, c.in-Ok-false.ensures.count),
+      c.in-Ok-false.ensures.still (λ e. cc e) ∙ c.pieces.invariant.0,
       after_piece c.args.kept.now.items c.pieces.kept.items c.take_piece.new.kept.items _ _ _ c.pieces.invariant.1.0 e.0 c.pieces.invariant.1.1 c.pieces.invariant.1.2 e.1 e.2.0,
+      c.in-Ok-false.ensures.on c.in-Ok-false.field-0-test ∙ c.pieces.invariant.2,
     )
 
 pub returns-in-Err-take_piece-clause-exact : goal.returns-in-Err-take_piece-clause-exact
@@ -38,5 +39,5 @@ returns-in-Err-take_piece-clause-exact g c =
     let s = after_piece c.args.kept.now.items c.pieces.kept.items (c.pieces.kept.items ++ e.0) _ _ _ c.pieces.invariant.1.0 e.0 c.pieces.invariant.1.1 c.pieces.invariant.1.2 e.1 refl in
     taken_open c.args.kept.now.items (c.pieces.kept.items ++ e.0) _ _ s.0 s.1 s.2
     (piece_fails (λ f. HasFault (c.pieces.kept.items ++ e.0) false f) c.pieces.kept.items c.take_piece.new.kept.items e.0 c.in-Err-take_piece.fault e.2
-    (λ none. inl (subst (λ l. IsPartOfHead l × (length l < 16384)) (sym (ap (λ l. c.pieces.kept.items ++ l) none ∙ append-nil c.pieces.kept.items)) (seen c.deref.result.now c.pieces.kept.items c.in-Ok-None.field-0 c.deref.ensures.value c.in-Ok-None.field-0-is c.in-Ok-None.ensures.exact)))
+    (λ none. (inl (subst (λ l. IsPartOfHead l × (length l < 16384)) (sym (ap (λ l. c.pieces.kept.items ++ l) none ∙ append-nil c.pieces.kept.items)) (seen c.deref.result.now c.pieces.kept.items c.in-Ok-None.field-0 c.deref.ensures.value c.in-Ok-None.field-0-is c.in-Ok-None.ensures.exact)), refl))
     tt)

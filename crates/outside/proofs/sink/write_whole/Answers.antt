@@ -1,5 +1,5 @@
 -- One more piece was written.
-use Rattle.std.proofs.Common.{subst, arith}
+use Rattle.std.proofs.Common.{subst, ◌∙◌}
 use Rattle.std.specs.Io.KnownBytes.{Appends}
 use Rattle.std.proofs.KnownBytes.{Appends-trans}
 use Rattle.outside.proofs.Growing.{take_further, within_rest}
@@ -11,5 +11,5 @@ loop-done-preserved g c = record {
   written = subst (Appends (g.K.Sink.written c.args.to.now) (g.K.Sink.written c.write.new.self))
       (take_further c.loop-done.done c.in_ok-done.field-0 c.args.text.now)
       (Appends-trans (g.K.Sink.written c.args.to.now) (g.K.Sink.written c.loop-done.to) (g.K.Sink.written c.write.new.self) _ _ c.loop-done.invariant.written c.in_ok-done.ensures.bytes);
-  count = omega (arith, c.loop-done.invariant.count, c.in_ok-done.ensures.count);
+  still = c.in_ok-done.ensures.still ∙ c.loop-done.invariant.still;
 }

@@ -1,5 +1,5 @@
--- One dial was answered, and what was exchanged over it stays when it is hung up.
-use Rattle.std.proofs.Common.{◌∷◌, [], ◌⊎◌, subst, sym}
+-- One dial was made, and what was exchanged over it stays when it is hung up.
+use Rattle.std.proofs.Common.{◌∷◌, [], ◌⊎◌, subst, sym, inl, inr}
 use Rattle.outside.specs.Dials.{Logged, fresh_dial}
 use Rattle.outside.proofs.Dialling.{logged_last}
 use Rattle.upstream_link.specs.Exchanges.{WasCutOff, WasAnswered}
@@ -13,6 +13,6 @@ returns-clause-exact g c =
     let before = g.W.Wire.log c.args.wire.now in
     let logged = logged_last went.change before (g.W.Wire.log c.dial.new.self) (g.W.Wire.log c.exchange-answer.new.wire) fresh_dial c.in-Ok-dial.ensures.logged went.becomes in (
       dial ∷ [],
-      subst (Logged before (dial ∷ [])) (sym c.hang_up.ensures.log) logged,
-      subst (λ l. WasCutOff l r dial ⊎ WasAnswered l r dial) c.in-Ok.ensures.bytes went.came_to,
+      inl (subst (Logged before (dial ∷ [])) (sym c.hang_up.ensures.log) logged),
+      inr (subst (λ l. WasCutOff l r dial ⊎ WasAnswered l r dial) c.in-Ok.ensures.bytes went.came_to),
     )

@@ -14,7 +14,7 @@ returns-in-Ok-take_reply-clause-exact g c =
     let reply = c.in-Ok-take_reply.reply in record {
       change = λ d. receives got.bytes got.ended false (sends sent d);
       becomes = last_then (sends sent) (receives got.bytes got.ended false) (g.W.Wire.log c.args.wire.now) (g.W.Wire.log c.send_request.new.wire) (g.W.Wire.log c.take_reply.new.wire) c.in-Ok.ensures.exact got.brings.1;
-      came_to = inr record { sent = refl; taken = subst (λ l. ReplyOf (Ok reply) (l ++ got.bytes) got.ended) c.requires.nothing got.says; marked = refl };
+      came_to = inr record { answered = refl; sent = refl; taken = subst (λ l. ReplyOf (Ok reply) (l ++ got.bytes) got.ended) c.requires.nothing got.says; marked = refl };
     }
 
 pub returns-in-Err-take_reply-clause-exact : goal.returns-in-Err-take_reply-clause-exact
@@ -25,5 +25,5 @@ returns-in-Err-take_reply-clause-exact g c =
     let failed = is_failure f in record {
       change = λ d. receives got.bytes got.ended failed (sends sent d);
       becomes = last_then (sends sent) (receives got.bytes got.ended failed) (g.W.Wire.log c.args.wire.now) (g.W.Wire.log c.send_request.new.wire) (g.W.Wire.log c.take_reply.new.wire) c.in-Ok.ensures.exact got.brings.1;
-      came_to = inr record { sent = refl; taken = subst (λ l. ReplyOf (Err f) (l ++ got.bytes) got.ended) c.requires.nothing got.says; marked = refl };
+      came_to = inr record { answered = refl; sent = refl; taken = subst (λ l. ReplyOf (Err f) (l ++ got.bytes) got.ended) c.requires.nothing got.says; marked = refl };
     }

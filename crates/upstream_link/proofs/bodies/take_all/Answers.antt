@@ -18,7 +18,7 @@ pieces-preserved g c =
     let b : Told = (g.W.Wire.coming c.pieces.wire, g.W.Wire.log c.pieces.wire) in
     let d : Told = (g.W.Wire.coming c.take_piece.new.wire, g.W.Wire.log c.take_piece.new.wire) in (
       c.in-Ok-false.ensures.up,
-      omega (arith, c.pieces.invariant.1, c.in-Ok-false.ensures.count),
+      c.in-Ok-false.ensures.still (λ e. cc e) ∙ c.pieces.invariant.1,
       c.in-Ok-false.ensures.dials ∙ c.pieces.invariant.2,
       piece_behind c.args.kept.now c.pieces.kept c.take_piece.new.kept a b d so_far.0 e.0 false false so_far.1 so_far.2 (subst (λ x. Brings b e.0 x false d) c.in-Ok-false.field-0-test e.1) e.2.0,
     )
@@ -47,5 +47,5 @@ returns-in-Err-clause-exact g c =
     let s = piece_behind c.args.kept.now old (old ++ e.0) a b d so_far.0 e.0 false (is_failure c.in-Err.fault) so_far.1 so_far.2 e.1 refl in
     received_open c.args.kept.now (old ++ e.0) a d (is_failure c.in-Err.fault) s.0 s.1 s.2
     (piece_fails (λ f. AllSays c.take_piece.new.kept (Err f) (old ++ e.0) false) old c.take_piece.new.kept e.0 c.in-Err.fault e.2
-    (λ none. subst (λ l. length l ≤ 4194304) (sym (ap (λ l. old ++ l) none ∙ append-nil old)) (omega (arith, c.pieces-test.true, c.len.ensures)))
+    (λ none. (subst (λ l. length l ≤ 4194304) (sym (ap (λ l. old ++ l) none ∙ append-nil old)) (omega (arith, c.pieces-test.true, c.len.ensures)), refl))
     tt)

@@ -49,7 +49,7 @@ chunks-preserved g c =
     subst (λ b. ChunkSays c.chunks.content.items c.take_chunk.new.content.items c.take_chunk.new.kept (Ok b) here second.ended) c.in-Ok-false.field-0-test second.says in (
       says.fits,
       c.in-Ok-false.ensures.up,
-      omega (arith, c.chunks.invariant.2, c.in-Ok-false.ensures.count),
+      c.in-Ok-false.ensures.still (λ e. cc e) ∙ c.chunks.invariant.2,
       c.in-Ok-false.ensures.dials ∙ c.chunks.invariant.3,
       (
         t.0 ++ second.bytes,

@@ -4,7 +4,7 @@ use Rattle.upstream_link.proofs.chunks.take_trailer.Given as goal
 
 abbrev pub invariant-pieces : goal.invariant-pieces
 invariant-pieces g l =
-    (l.len ≤ length l.kept) × (g.W.Wire.dialled l.wire ≡ true) × (g.W.Wire.faults l.initial.wire ≤ g.W.Wire.faults l.wire) × (g.W.Wire.dial_faults l.wire ≡ g.W.Wire.dial_faults l.initial.wire)
+    (l.len ≤ length l.kept) × (g.W.Wire.dialled l.wire ≡ true) × (g.W.Wire.faults l.wire ≡ g.W.Wire.faults l.initial.wire) × (g.W.Wire.dial_faults l.wire ≡ g.W.Wire.dial_faults l.initial.wire)
     × ((t : List ℕ) × Brings (g.W.Wire.coming l.initial.wire, g.W.Wire.log l.initial.wire) t false false (g.W.Wire.coming l.wire, g.W.Wire.log l.wire) × (l.kept ≡ l.initial.kept ++ t))
 
 abbrev pub decreases-pieces : goal.decreases-pieces

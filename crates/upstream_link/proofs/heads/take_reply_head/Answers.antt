@@ -77,7 +77,7 @@ heads-preserved g c =
     let left : after_head h here ≡ c.pass.new.self = (λ j. drop (sym k.0.len_is j) (sym k.1 j)) ∙ sym c.pass.ensures in (
       omega (arith, c.heads.invariant.0, c.if-passed-eq8.false),
       c.in-Ok.ensures.up,
-      omega (arith, c.heads.invariant.2, c.in-Ok.ensures.count),
+      c.in-Ok.ensures.still (λ e. cc e) ∙ c.heads.invariant.2,
       c.in-Ok.ensures.dials ∙ c.heads.invariant.3,
       (
         i.0 ++ second.bytes,

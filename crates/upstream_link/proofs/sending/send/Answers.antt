@@ -17,7 +17,7 @@ pieces-preserved g c =
     let before = g.W.Wire.log c.args.wire.now in
     let after = g.W.Wire.log c.write.new.self in (
       one.up,
-      omega (arith, so_far.1, one.count),
+      one.still ∙ so_far.1,
       one.dials ∙ so_far.2,
       within_rest done count piece one.within so_far.3,
       subst (λ l. LastBecomes (sends l) before after) (take_further done count piece)

@@ -5,7 +5,7 @@ use Rattle.upstream_link.proofs.sending.send.Given as goal
 
 abbrev pub invariant-pieces : goal.invariant-pieces
 invariant-pieces g l =
-    (g.W.Wire.dialled l.wire ≡ true) × (g.W.Wire.faults l.initial.wire ≤ g.W.Wire.faults l.wire) × (g.W.Wire.dial_faults l.wire ≡ g.W.Wire.dial_faults l.initial.wire)
+    (g.W.Wire.dialled l.wire ≡ true) × (g.W.Wire.faults l.wire ≡ g.W.Wire.faults l.initial.wire) × (g.W.Wire.dial_faults l.wire ≡ g.W.Wire.dial_faults l.initial.wire)
     × (l.done ≤ length l.piece) × LastBecomes (sends (take l.done l.piece)) (g.W.Wire.log l.initial.wire) (g.W.Wire.log l.wire)
 
 abbrev pub decreases-pieces : goal.decreases-pieces
