@@ -13,6 +13,7 @@ use Rattle.cost_directives.specs.declared.fault.DirectiveFault.{DirectiveFault}
 use Rattle.cost_directives.specs.declared.fault.DirectiveFault.TheVariants.{Memory as NoWeights}
 use Rattle.cost_directives.specs.declared.weights.Weights.{Weights}
 use Rattle.cost_directives.specs.DirectiveFaults.{Weighs}
+use Rattle.outside.specs.Faults.{StayAll}
 use Rattle.command_outcomes.specs.declared.limits.TheConstants.{SCHEMA_LIMIT}
 use Rattle.command_words.specs.declared.command.TheConstants.{UNDECLARED}
 use Rattle.command_outcomes.specs.declared.checked.SchemaRefusal.{SchemaRefusal}
@@ -89,7 +90,7 @@ CheckOf name bytes outcome = (outcome ≡ Memory)
     ⊎ ((schema : Schema) × HoldsWeighed bytes schema × IsDone (counts_text (schema_data schema).defined (length (schema_data schema).fields)) outcome)
     ⊎ ((refusal : SchemaRefusal) × IsUnchecked bytes refusal × IsRefusedAs (schema_refusal_text name refusal) outcome)
 
--- The file was not read, or it was, and came to that.
+-- The file was not read; or it was, and came to that, and none failed.
 abbrev pub CheckCameTo : List ℕ → FilesTold → Outcome → Type 0
 CheckCameTo name files outcome = IsStopped (λ other. other ≡ name) files outcome
-    ⊎ ((bytes : List ℕ) × IsRead SCHEMA_LIMIT (files.content name) bytes × CheckOf name bytes outcome)
+    ⊎ ((bytes : List ℕ) × IsRead SCHEMA_LIMIT (files.content name) bytes × CheckOf name bytes outcome × StayAll files.faults_before files.faults_after)

@@ -1,6 +1,6 @@
 -- What commands come to.
 use Rattle.std.specs.Prelude.{◌≡◌, ℕ, List, Option}
-use Rattle.outside.specs.Faults.{Rose}
+use Rattle.outside.specs.Faults.{Rose, StayAll, ChangesAlone}
 use Rattle.command_outcomes.specs.declared.outcome.Outcome.{Outcome}
 use Rattle.command_outcomes.specs.declared.outcome.Outcome.TheVariants.{Done, Refused, FileFailed, Faulty, Memory}
 
@@ -17,10 +17,12 @@ files_told content before after = record {
   faults_after = after;
 }
 
--- The file of one of these names was not read, and the count of its faults rose; or there was no memory.
+-- The file of one of these names was not read, and the count of its faults rose, and that of no other; or there was no memory,
+-- and no count changed.
 abbrev pub IsStopped : (List ℕ → Type 0) → FilesTold → Outcome → Type 0
-IsStopped IsName files (FileFailed name) = IsName name × Rose (files.faults_before name) (files.faults_after name)
-IsStopped IsName files Memory = Unit {0}
+IsStopped IsName files (FileFailed name) =
+    IsName name × Rose (files.faults_before name) (files.faults_after name) × ChangesAlone name files.faults_before files.faults_after
+IsStopped IsName files Memory = StayAll files.faults_before files.faults_after
 IsStopped IsName files other = ⊥
 
 -- It was done with this output, or there was no memory.

@@ -1,5 +1,6 @@
 -- What a read took of a file.
 use Rattle.std.specs.Prelude.{◌≡◌, ℕ, ◌+◌, ◌≤◌, ◌<◌, ◌⊎◌, List, Option, IfSome, IsUtf8, take, length}
+use Rattle.outside.specs.Faults.{StayAll}
 use Rattle.command_outcomes.specs.declared.outcome.Outcome.{Outcome}
 use Rattle.command_outcomes.specs.Texts.{too_large_text, not_text_text}
 use Rattle.command_outcomes.specs.Outcomes.{FilesTold, IsStopped, IsRefusedAs}
@@ -26,7 +27,7 @@ abbrev pub IsNoText : ℕ → List ℕ → List ℕ → Outcome → Type 0
 IsNoText limit name bytes outcome = ((limit < length bytes) × IsRefusedAs (too_large_text name) outcome)
     ⊎ ((length bytes ≤ limit) × (¬ IsUtf8 bytes) × IsRefusedAs (not_text_text name) outcome)
 
--- The file of this name was not read, or holds no text within the limit.
+-- The file of this name was not read; or it holds no text within the limit, and no other file failed before that was told.
 abbrev pub HasNoText : ℕ → List ℕ → FilesTold → Outcome → Type 0
 HasNoText limit name files outcome = IsStopped (λ other. other ≡ name) files outcome
-    ⊎ ((bytes : List ℕ) × IsRead limit (files.content name) bytes × IsNoText limit name bytes outcome)
+    ⊎ ((bytes : List ℕ) × IsRead limit (files.content name) bytes × IsNoText limit name bytes outcome × StayAll files.faults_before files.faults_after)

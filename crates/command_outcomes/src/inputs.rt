@@ -1,7 +1,7 @@
 //! The files that commands read.
 
-ghost use Rattle.std.specs.Prelude.{◌≡◌, ◌≤◌, ℕ, List, IfOk, IfErr};
-ghost use Rattle.outside.specs.Faults.{Rose};
+ghost use Rattle.std.specs.Prelude.{◌≡◌, ◌≤◌, ℕ, List, IfOk, IfErr, OnOk};
+ghost use Rattle.outside.specs.Faults.{Rose, StayAll};
 ghost use Rattle.command_outcomes.specs.Reading.{IsRead, IsText, IsTextOf, IsNoText, HasNoText};
 ghost use Rattle.command_outcomes.specs.Outcomes.{files_told, IsStopped};
 
@@ -21,6 +21,7 @@ pub fn read_file<F: Files>(
     ensures read { IfOk result (λ read. IsRead limit (F.content files.old name) read.items) }
     ensures same { F.content files.new ≡ F.content files.old }
     ensures count { (other : List ℕ) → F.faults files.old other ≤ F.faults files.new other }
+    ensures still { OnOk result (StayAll (F.faults files.old) (F.faults files.new)) }
     ensures stopped { IfErr result (IsStopped (λ other. other ≡ name)
         (files_told (F.content files.old) (F.faults files.old) (F.faults files.new))) }
 {
@@ -55,6 +56,7 @@ pub fn read_text<F: Files>(
     ensures held { IfOk result (IsTextOf limit (F.content files.old name.now)) }
     ensures same { F.content files.new ≡ F.content files.old }
     ensures count { (other : List ℕ) → F.faults files.old other ≤ F.faults files.new other }
+    ensures still { OnOk result (StayAll (F.faults files.old) (F.faults files.new)) }
     ensures none { IfErr result (HasNoText limit name.now (files_told (F.content files.old) (F.faults files.old) (F.faults files.new))) }
 {
     let Ok(own) = Text::copy_of(alloc, name.as_str()) else {

@@ -13,6 +13,7 @@ use Rattle.response_meter.specs.declared.fault.MeterFault.{MeterFault}
 use Rattle.response_meter.specs.declared.fault.MeterFault.TheVariants.{NotResponse, SizeBroken, Memory as MeterMemory}
 use Rattle.response_meter.specs.Faults.{Tells}
 use Rattle.response_meter.specs.Metered.{IsMetered, first_fault_in}
+use Rattle.outside.specs.Faults.{StayAll}
 use Rattle.command_outcomes.specs.declared.limits.TheConstants.{REPLY_LIMIT}
 use Rattle.operation_commands.specs.declared.asked.AskedTexts.{AskedTexts}
 use Rattle.operation_commands.specs.declared.asking.Inputs.{Inputs}
@@ -34,10 +35,11 @@ IsReply content bytes = IsRead REPLY_LIMIT content bytes × (length bytes ≤ RE
 abbrev pub HoldsReply : Option (List ℕ) → Type 0
 HoldsReply content = (bytes : List ℕ) × IsReply content bytes
 
--- The reply file was not read, or is longer than its limit.
+-- The reply file was not read; or it is longer than its limit, and no other failed before that was told.
 abbrev pub HasNoReply : List ℕ → FilesTold → Outcome → Type 0
 HasNoReply name files outcome = IsStopped (λ other. other ≡ name) files outcome
-    ⊎ ((bytes : List ℕ) × IsRead REPLY_LIMIT (files.content name) bytes × (REPLY_LIMIT < length bytes) × IsRefusedAs (too_large_text name) outcome)
+    ⊎ ((bytes : List ℕ) × IsRead REPLY_LIMIT (files.content name) bytes × (REPLY_LIMIT < length bytes) × IsRefusedAs (too_large_text name) outcome
+    × StayAll files.faults_before files.faults_after)
 
 -- The first of the files that was not read, or doesn't hold what it must: the schema, the document, the reply, the variables.
 abbrev pub HaveNoMetering : Asked → List ℕ → FilesTold → Outcome → Type 0

@@ -1,6 +1,7 @@
 //! The files of an operation: reading them, and what they hold.
 
-ghost use Rattle.std.specs.Prelude.{◌≡◌, ◌≤◌, ℕ, List, IfOk, IfErr};
+ghost use Rattle.std.specs.Prelude.{◌≡◌, ◌≤◌, ℕ, List, IfOk, IfErr, OnOk};
+ghost use Rattle.outside.specs.Faults.{StayAll};
 ghost use Rattle.command_outcomes.specs.Reading.{IsTextOf};
 ghost use Rattle.command_outcomes.specs.Outcomes.{files_told};
 ghost use Rattle.operation_commands.specs.Asked.{HoldVariables, HasNoVariables, HaveNoOperation, HoldTexts, HaveNoTexts};
@@ -29,6 +30,7 @@ pub fn read_variables<F: Files>(
     ensures held { IfOk result (HoldVariables name.now (F.content files.old)) }
     ensures same { F.content files.new ≡ F.content files.old }
     ensures count { (other : List ℕ) → F.faults files.old other ≤ F.faults files.new other }
+    ensures still { OnOk result (StayAll (F.faults files.old) (F.faults files.new)) }
     ensures none { IfErr result (HasNoVariables name.now (files_told (F.content files.old) (F.faults files.old) (F.faults files.new))) }
 {
     match name {
@@ -57,6 +59,7 @@ pub fn read_operation<F: Files>(
     ensures document { IfOk result (λ texts. IsTextOf DOCUMENT_LIMIT (F.content files.old asked.now.document) texts.document) }
     ensures same { F.content files.new ≡ F.content files.old }
     ensures count { (other : List ℕ) → F.faults files.old other ≤ F.faults files.new other }
+    ensures still { OnOk result (StayAll (F.faults files.old) (F.faults files.new)) }
     ensures none { IfErr result (HaveNoOperation asked.now (files_told (F.content files.old) (F.faults files.old) (F.faults files.new))) }
 {
     let schema = match read_text(alloc, &asked.schema, SCHEMA_LIMIT, files) {

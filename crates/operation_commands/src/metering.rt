@@ -1,10 +1,11 @@
 //! The command `meter SCHEMA DOCUMENT REPLY`.
 
-ghost use Rattle.std.specs.Prelude.{◌≡◌, ◌≤◌, ℕ, List, IfOk, IfErr};
+ghost use Rattle.std.specs.Prelude.{◌≡◌, ◌≤◌, ℕ, List, IfOk, IfErr, OnOk};
 ghost use Rattle.cost_num.specs.declared.TheConstants.{CAP};
 ghost use Rattle.response_model.specs.Plan.{Plan as PlanTree};
 ghost use Rattle.response_model.specs.Cost.{Part as PartOfCost};
 ghost use Rattle.plan_table.specs.TableBounds.{HoldsSound, IsWithinCap};
+ghost use Rattle.outside.specs.Faults.{StayAll};
 ghost use Rattle.command_outcomes.specs.Reading.{IsText};
 ghost use Rattle.command_outcomes.specs.Outcomes.{files_told, IsDone};
 ghost use Rattle.operation_commands.specs.Asked.{HoldTexts, IsRefusalOf, IfAskedRefused};
@@ -36,6 +37,7 @@ fn read_reply<F: Files>(alloc: Global, name: &Text, files: &mut F) -> Result<Vec
     ensures held { IfOk result (λ read. IsReply (F.content files.old name.now) read.items) }
     ensures same { F.content files.new ≡ F.content files.old }
     ensures count { (other : List ℕ) → F.faults files.old other ≤ F.faults files.new other }
+    ensures still { OnOk result (StayAll (F.faults files.old) (F.faults files.new)) }
     ensures none { IfErr result (HasNoReply name.now (files_told (F.content files.old) (F.faults files.old) (F.faults files.new))) }
 {
     let Ok(own) = Text::copy_of(alloc, name.as_str()) else {

@@ -11,5 +11,5 @@ returns-in-Err-read_variables-clause-none g c =
     inr (
       ((c.in-Ok.texts.schema, c.in-Ok.ensures.schema), (c.in-Ok.texts.document, c.in-Ok.ensures.document)),
       no_variables_sooner (g.F.Files.content c.args.files.now) (g.F.Files.content c.read_operation.new.files) (g.F.Files.faults c.args.files.now) (g.F.Files.faults c.read_operation.new.files) (g.F.Files.faults c.read_variables.new.files)
-          c.in-Ok.ensures.same c.in-Ok.ensures.count c.args.asked.now.variables c.in-Err-read_variables.outcome c.in-Err-read_variables.ensures.none,
+          c.in-Ok.ensures.same c.in-Ok.ensures.still c.args.asked.now.variables c.in-Err-read_variables.outcome c.in-Err-read_variables.ensures.none,
     )

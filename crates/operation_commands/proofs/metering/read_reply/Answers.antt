@@ -12,6 +12,7 @@ returns-in-Ok-read_file-clause-none g c =
       subst (λ name. IsRead REPLY_LIMIT (g.F.Files.content c.args.files.now name) c.in-Ok-read_file.read.items) (c.in-Ok.ensures ∙ c.as_str.ensures) c.in-Ok-read_file.ensures.read,
       omega (arith, c.if-len-gt-REPLY_LIMIT.true, c.len.ensures),
       c.too_large.ensures,
+      c.in-Ok-read_file.ensures.still,
     )
 
 pub returns-in-Err-clause-none : goal.returns-in-Err-clause-none
