@@ -1,9 +1,9 @@
 -- What words ask to serve keeps the limits.
 use Rattle.std.proofs.Common.{◌≤◌, ◌<◌, List, ℕ, [], ◌∷◌, Option, arith}
 use Rattle.std.specs.Prelude.{None, Some}
-use Rattle.command_words.specs.declared.command.TheConstants.{WORKERS, GREATEST_WORKERS, GREATEST_CONNECTIONS}
 use Rattle.command_words.specs.declared.command.Command.{Command}
 use Rattle.command_words.specs.declared.command.Command.TheVariants.{Help, Version, Check, Price, Worst, Forward, Meter, Replay, Serve, Exercise, Migrate}
+use Rattle.command_words.specs.Defaults.{usual_workers, greatest_workers, greatest_connections}
 use Rattle.command_words.specs.Words.{IsWithin, Asks, ServesWithinLimits}
 
 between : (greatest usual n : ℕ) (given : Option (List ℕ)) → 1 ≤ usual → usual ≤ greatest → IsWithin 1 greatest usual given n → (0 < n) × (n ≤ greatest)
@@ -21,8 +21,8 @@ serves_within (name ∷ words) (Forward asked) asks = tt
 serves_within (name ∷ words) (Meter asked reply) asks = tt
 serves_within (name ∷ words) (Replay asked) asks = tt
 serves_within (name ∷ words) (Serve asked) asks =
-    let workers = between GREATEST_WORKERS WORKERS asked.workers _ (omega (arith)) (omega (arith)) asks.1.1.workers in
-    let connections = between GREATEST_CONNECTIONS GREATEST_CONNECTIONS asked.connections _ (omega (arith)) (omega (arith)) asks.1.1.connections in
+    let workers = between greatest_workers usual_workers asked.workers _ (omega (arith)) (omega (arith)) asks.1.1.workers in
+    let connections = between greatest_connections greatest_connections asked.connections _ (omega (arith)) (omega (arith)) asks.1.1.connections in
     (workers.0, workers.1, connections.0, connections.1)
 serves_within (name ∷ words) (Exercise requests) asks = tt
 serves_within (name ∷ words) (Migrate clients) asks = tt

@@ -4,7 +4,6 @@ use Rattle.std.specs.Str.Parse.{IsNumeral, digits_value}
 use Rattle.clap.specs.Walk.{Row, first_of}
 use Rattle.clap.specs.Simple.{App, matches_of}
 use Rattle.clap.specs.Faults.{fault_of}
-use Rattle.command_words.specs.declared.command.TheConstants.{UNDECLARED, GREATEST_UNSIZED, GREATEST_EXERCISE, TARGET, WORKERS, GREATEST_WORKERS, GREATEST_CONNECTIONS}
 use Rattle.command_words.specs.declared.command.Command.{Command}
 use Rattle.command_words.specs.declared.command.Command.TheVariants.{Help, Version, Check, Price, Worst, Forward, Meter, Replay, Serve, Exercise, Migrate}
 use Rattle.command_words.specs.declared.command.Asked.{Asked}
@@ -12,6 +11,7 @@ use Rattle.command_words.specs.declared.command.AskedReplay.{AskedReplay}
 use Rattle.command_words.specs.declared.command.AskedServe.{AskedServe}
 use Rattle.response_model.specs.declared.part.Part.{Part}
 use Rattle.response_model.specs.declared.part.Part.TheVariants.{Types, Fields}
+use Rattle.command_words.specs.Defaults.{usual_size, greatest_size, greatest_exercise, usual_target, usual_workers, greatest_workers, greatest_connections}
 use Rattle.command_words.specs.Apps.{check_app, price_app, worst_app, forward_app, meter_app, replay_app, serve_app, exercise_app, migrate_app}
 
 -- The text is this number, in one decimal digit or more, and it is no greater than that.
@@ -20,8 +20,8 @@ IsNumber most text n = IsNumeral 10 text × (n ≡ digits_value 10 text) × (n �
 
 -- the size of lists that declare none
 abbrev pub IsUndeclared : Option (List ℕ) → ℕ → Type 0
-IsUndeclared None n = n ≡ UNDECLARED
-IsUndeclared (Some text) n = IsNumber GREATEST_UNSIZED text n
+IsUndeclared None n = n ≡ usual_size
+IsUndeclared (Some text) n = IsNumber greatest_size text n
 
 -- the number of an option, from the least to the greatest one; without the option it is the usual one
 abbrev pub IsWithin : ℕ → ℕ → ℕ → Option (List ℕ) → ℕ → Type 0
@@ -30,21 +30,21 @@ IsWithin least greatest usual (Some text) n = IsNumber greatest text n × (least
 
 -- how many workers serve
 abbrev pub IsWorkers : Option (List ℕ) → ℕ → Type 0
-IsWorkers given n = IsWithin 1 GREATEST_WORKERS WORKERS given n
+IsWorkers given n = IsWithin 1 greatest_workers usual_workers given n
 
 -- how many connections each of them serves
 abbrev pub IsConnections : Option (List ℕ) → ℕ → Type 0
-IsConnections given n = IsWithin 1 GREATEST_CONNECTIONS GREATEST_CONNECTIONS given n
+IsConnections given n = IsWithin 1 greatest_connections greatest_connections given n
 
 -- the target of requests to the upstream
 abbrev pub IsTarget : Option (List ℕ) → List ℕ → Type 0
-IsTarget None target = target ≡ TARGET.now
+IsTarget None target = target ≡ usual_target
 IsTarget (Some text) target = target ≡ text
 
 -- the number of requests of an exercise
 abbrev pub IsRequests : Option (List ℕ) → ℕ → Type 0
 IsRequests None n = ⊥
-IsRequests (Some text) n = IsNumber GREATEST_EXERCISE text n × (0 < n)
+IsRequests (Some text) n = IsNumber greatest_exercise text n × (0 < n)
 
 -- the words at places and of options, by their names
 abbrev pub Rows : Type 0
@@ -178,7 +178,7 @@ Asks (name ∷ words) command = AsksAfter name words command
 
 -- A gateway that is to be served has 1 worker or more, with 1 connection or more each, within their limits.
 abbrev pub ServesWithinLimits : Command → Type 0
-ServesWithinLimits (Serve asked) = (0 < asked.workers) × (asked.workers ≤ GREATEST_WORKERS) × (0 < asked.connections) × (asked.connections ≤ GREATEST_CONNECTIONS)
+ServesWithinLimits (Serve asked) = (0 < asked.workers) × (asked.workers ≤ greatest_workers) × (0 < asked.connections) × (asked.connections ≤ greatest_connections)
 ServesWithinLimits other = ⊤
 
 -- They ask for no command.
