@@ -1,15 +1,15 @@
 -- Exchanges one after the other: what they add up to.
-use Rattle.std.proofs.Common.{◌≡◌, ℕ, ◌+◌, List, [], ◌∷◌, ◌++◌, length, map, refl, sym, ap, ◌∙◌, subst, append_assoc, arith, Option, Some, None, Bool}
+use Rattle.std.proofs.Common.{inl, ◌≡◌, ℕ, ◌+◌, List, [], ◌∷◌, ◌++◌, length, map, refl, sym, ap, ◌∙◌, subst, append_assoc, arith, Option, Some, None, Bool}
 use Rattle.std.proofs.lemmas.List.{append-nil, length-append}
 use Rattle.std.specs.Io.KnownBytes.{Appends}
 use Rattle.std.specs.List.{AllByRecursion}
 use Rattle.account_shared.specs.Views.{PassesView}
 use Rattle.account_shared.specs.Gains.{ClientCall, Gains}
 use Rattle.account_shared.proofs.Stretches.{none_gained, gained_then}
-use Rattle.outside.specs.Dials.{Dial, Logged}
+use Rattle.outside.specs.Dials.{Dial, Logged, LoggedBy}
 use Rattle.outside.specs.Faults.{RoseBy}
 use Rattle.outside.specs.Ticks.{Ticks}
-use Rattle.outside.proofs.Dialling.{logged_none, logged_then}
+use Rattle.outside.proofs.Dialling.{logged_none, logged_by_then}
 use Rattle.outside.proofs.Readings.{ticks_none, ticks_one, ticks_then}
 use Rattle.outside.proofs.Rises.{rose_by_none, rose_then}
 use Rattle.doors.specs.Visits.{Told}
@@ -70,7 +70,7 @@ pub leaves_none : (t : Told) → Leaves t t []
 unfolding dials_of downs_of failures_of
 leaves_none t = record {
   ticks = ticks_none t.readings;
-  logged = logged_none t.log;
+  logged = inl (logged_none t.log);
   downs = rose_by_none t.dial_faults t.dial_faults (omega arith);
   failures = rose_by_none t.transfer_faults t.transfer_faults (omega arith);
 }
@@ -78,7 +78,7 @@ leaves_none t = record {
 leaves_then : (a b c : Told) (xs ys : List Exchange) → Leaves a b xs → Leaves b c ys → Leaves a c (xs ++ ys)
 leaves_then a b c xs ys m n = record {
   ticks = ticks_as (sym (moments_then xs ys)) (ticks_then a.readings b.readings c.readings (moments_of xs) (moments_of ys) m.ticks n.ticks);
-  logged = logged_as (sym (dials_then xs ys)) (logged_then a.log b.log c.log (dials_of xs) (dials_of ys) m.logged n.logged);
+  logged = logged_as (sym (dials_then xs ys)) (logged_by_then b.dial_faults c.dial_faults a.log b.log c.log (dials_of xs) (dials_of ys) (λ over. omega (arith, over, n.downs)) m.logged n.logged);
   downs = rose_as a.dial_faults c.dial_faults (sym (downs_then xs ys)) (rose_then (downs_of xs) (downs_of ys) a.dial_faults b.dial_faults c.dial_faults m.downs n.downs);
   failures = rose_as a.transfer_faults c.transfer_faults (sym (failures_then xs ys)) (rose_then (failures_of xs) (failures_of ys) a.transfer_faults b.transfer_faults c.transfer_faults m.failures n.failures);
 }
@@ -86,8 +86,8 @@ leaves_then a b c xs ys m n = record {
     ticks_as : {ms ns : List ℕ} → ms ≡ ns → Ticks a.readings ms c.readings → Ticks a.readings ns c.readings
     ticks_as e = subst (λ l. Ticks a.readings l c.readings) e
 
-    logged_as : {ds es : List Dial} → ds ≡ es → Logged a.log ds c.log → Logged a.log es c.log
-    logged_as e = subst (λ l. Logged a.log l c.log) e
+    logged_as : {ds es : List Dial} → ds ≡ es → LoggedBy c.dial_faults a.log ds c.log → LoggedBy c.dial_faults a.log es c.log
+    logged_as e = subst (λ l. LoggedBy c.dial_faults a.log l c.log) e
 
     rose_as : (f g : ℕ) {m n : ℕ} → m ≡ n → RoseBy m f g → RoseBy n f g
     rose_as f g e = subst (λ k. RoseBy k f g) e
@@ -100,7 +100,7 @@ makes_still p given back e f g h = record {
   gains = none_gained p;
   leaves = record {
     ticks = subst (λ r. Ticks given.readings [] r) (sym e) (ticks_none given.readings);
-    logged = subst (λ l. Logged given.log [] l) (sym f) (logged_none given.log);
+    logged = inl (subst (λ l. Logged given.log [] l) (sym f) (logged_none given.log));
     downs = rose_by_none given.dial_faults back.dial_faults (omega (arith, g));
     failures = rose_by_none given.transfer_faults back.transfer_faults (omega (arith, h));
   };

@@ -1,15 +1,18 @@
 -- One exchange, and its turn.
-use Rattle.std.proofs.Common.{◌≡◌, ℕ, ◌+◌, ◌⊎◌, inl, inr, List, [], ◌∷◌, ◌++◌, refl, sym, ap, ◌∙◌, subst, Bool, true, false, Option, Some, None, Result}
+use Rattle.std.proofs.Common.{◌≡◌, ℕ, ◌+◌, ◌⊎◌, inl, inr, List, [], ◌∷◌, ◌++◌, refl, sym, ap, ◌∙◌, subst, arith, Bool, true, false, Option, Some, None, Result}
 use Rattle.std.specs.Prelude.{IfSome}
 use Rattle.std.specs.Io.KnownBytes.{Appends}
 use Rattle.account_shared.specs.Views.{PassesView, IsIdle}
 use Rattle.account_shared.specs.Gains.{Gains}
 use Rattle.account_shared.proofs.Idle.{idle_past, idle_past_refusal}
-use Rattle.outside.specs.Dials.{Dial, Logged}
+use Rattle.outside.specs.Contents.{AppendsFront}
+use Rattle.outside.specs.Dials.{Dial, LoggedBy}
 use Rattle.outside.specs.Faults.{RoseBy}
 use Rattle.outside.specs.Ticks.{Tick, Ticks}
 use Rattle.outside.proofs.Readings.{ticks_one}
 use Rattle.doors.specs.Visits.{Told}
+use Rattle.http_front.specs.declared.fault.FrontFault.{FrontFault}
+use Rattle.http_front.specs.declared.fault.FrontFault.TheVariants as fault
 use Rattle.http_front.specs.declared.front.Ask.{Ask}
 use Rattle.http_front.specs.Asks.{IsAsk}
 use Rattle.upstream_link.specs.declared.fault.LinkFault.{LinkFault}
@@ -20,10 +23,12 @@ use Rattle.gateway_core.specs.declared.beginning.Denial.TheVariants.{UnknownKey,
 use Rattle.gateway_core.specs.declared.beginning.Begun.TheVariants.{Denied}
 use Rattle.gateway_core.specs.Begins.{calls_begun}
 use Rattle.gateway_connections.specs.declared.reply.Reply.{Reply}
+use Rattle.gateway_connections.specs.declared.ending.ConnectionEnd.{ConnectionEnd}
+use Rattle.gateway_connections.specs.declared.ending.ConnectionEnd.TheVariants as ending
 use Rattle.gateway_connections.specs.declared.ending.Served.{Served}
 use Rattle.gateway_connections.specs.Replies.{written}
 use Rattle.gateway_connections.specs.Exchanges.{Service, Exchange, IsExchange, downs, failures}
-use Rattle.gateway_connections.specs.Connections.{Answers, after_last, carries, calls_of, dials_of, downs_of, failures_of}
+use Rattle.gateway_connections.specs.Connections.{Answers, Refuses, UnlessEndsBy, after_last, carries, calls_of, dials_of, downs_of, failures_of}
 use Rattle.gateway_connections.specs.Serving.{Makes, Leaves, TurnsTo}
 use Rattle.gateway_connections.proofs.Growing.{calls_one, dials_one, downs_one, failures_one}
 
@@ -43,8 +48,7 @@ denied_idle p q client window (Short left bound) g idle = idle_past_refusal p q 
 denied_idle p q client window Memory g idle = idle_past p q [] g idle (λ k. refl)
 
 came_anyhow : (Untouched : Type 0) (request : List ℕ) (r : Result UpstreamReply LinkFault) (dials : List Dial) → CameTo Untouched request r dials → CameTo (Unit {0}) request r dials
-came_anyhow Untouched request r [] (inl down) = inl down
-came_anyhow Untouched request r [] (inr none) = inr (none.0, tt)
+came_anyhow Untouched request r [] none = (none.0, tt)
 came_anyhow Untouched request r (d ∷ []) came = came
 came_anyhow Untouched request r (d ∷ e ∷ dials) came = absurd came
 
@@ -76,13 +80,13 @@ exchange_anyhow s made Untouched x (inr f) = inr record {
 
 -- just one exchange was made
 pub made_one : (p q : PassesView) (given back : Told) (x : Exchange) (moment : ℕ) → Gains p q x.calls → x.moment ≡ moment → Tick given.readings moment back.readings
-    → Logged given.log x.dials back.log → RoseBy (downs x.outcome) given.dial_faults back.dial_faults → RoseBy (failures x.outcome) given.transfer_faults back.transfer_faults
+    → LoggedBy back.dial_faults given.log x.dials back.log → RoseBy (downs x.outcome) given.dial_faults back.dial_faults → RoseBy (failures x.outcome) given.transfer_faults back.transfer_faults
     → Makes p q given back (x ∷ [])
 made_one p q given back x moment gains at tick logged down failed = record {
   gains = subst (Gains p q) (sym (calls_one x)) gains;
   leaves = record {
     ticks = ticks_one given.readings back.readings x.moment (subst (λ m. Tick given.readings m back.readings) (sym at) tick);
-    logged = subst (λ d. Logged given.log d back.log) (sym (dials_one x)) logged;
+    logged = subst (λ d. LoggedBy back.dial_faults given.log d back.log) (sym (dials_one x)) logged;
     downs = subst (λ n. RoseBy n given.dial_faults back.dial_faults) (sym (downs_one x)) down;
     failures = subst (λ n. RoseBy n given.transfer_faults back.transfer_faults) (sym (failures_one x)) failed;
   };
@@ -103,3 +107,21 @@ pub answers_exchange : (x : Exchange) (ask : Ask) (reply : Reply) (number : ℕ)
     → Answers reply ask.close number before after r → Answers x.reply x.ask.close number before after r
 answers_exchange x ask reply number before after r e f a =
     subst (λ t. Answers t x.ask.close number before after r) (sym f) (subst (λ (k : Ask). Answers reply k.close number before after r) (sym e) a)
+
+-- what holds anyway
+pub unless_anyway : (end : ConnectionEnd) (r : Option Served) (P : Type 0) → P → UnlessEndsBy end r P
+unless_anyway end None P holds = holds
+unless_anyway end (Some served) P holds = λ other. holds
+
+-- where the source failed, the end says so
+pub refused_read : (f : FrontFault) (number : ℕ) (before after : Option (List ℕ)) (count : ℕ) (end : ConnectionEnd) → Refuses f number before after count end → f ≡ fault.ReadFault
+    → end ≡ ending.ReadFault
+refused_read f number before after count end refuses is = at_read (subst (λ g. Refuses g number before after count end) is refuses)
+  where
+    no_front : (a b : Option (List ℕ)) → AppendsFront a b [] → ⊥
+    no_front a b x = absurd (omega (arith, x.1))
+
+    at_read : Refuses fault.ReadFault number before after count end → end ≡ ending.ReadFault
+    at_read (None, silent, inl out) = out.2
+    at_read (None, silent, inr out) = absurd (no_front before after out.0)
+    at_read (Some r, silent, out) = absurd (cc silent)

@@ -158,6 +158,11 @@ abbrev pub IfEndsBy : ConnectionEnd → Option Served → Type 0 → Type 0
 IfEndsBy end None P = ⊤
 IfEndsBy end (Some served) P = served.end ≡ end → P
 
+-- unless it ended so, this holds
+abbrev pub UnlessEndsBy : ConnectionEnd → Option Served → Type 0 → Type 0
+UnlessEndsBy end None P = P
+UnlessEndsBy end (Some served) P = served.end ≢ end → P
+
 -- all its exchanges
 abbrev pub all_of : List Exchange → Stop → List Exchange
 all_of xs stop = xs ++ last_of stop

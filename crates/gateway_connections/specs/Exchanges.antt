@@ -3,7 +3,7 @@ use Rattle.std.specs.Prelude.{◌≡◌, ◌⊎◌, ℕ, ◌+◌, List, [], ◌�
 use Rattle.account_core.specs.Machine.{reservation, granted}
 use Rattle.account_shared.specs.Views.{PassesView}
 use Rattle.account_shared.specs.Gains.{ClientCall, client_call, Gains}
-use Rattle.outside.specs.Dials.{Dial, Logged}
+use Rattle.outside.specs.Dials.{Dial, LoggedBy}
 use Rattle.outside.specs.Faults.{RoseBy}
 use Rattle.http_front.specs.declared.front.Ask.{Ask}
 use Rattle.upstream_link.specs.declared.fault.LinkFault.{LinkFault}
@@ -35,7 +35,7 @@ abbrev pub service_of : Gate → Service
 service_of g = record { rules = rules_of g; host = g.settings.host; target = g.settings.target }
 
 -- An exchange as it went: the request, the moment, the calls at the accounts, what the upstream made of it where it was
--- forwarded, the dials that were answered, and the reply.
+-- forwarded, its dials, and the reply.
 pub record Exchange : Type 0 where
   pub ask : Ask
   pub moment : ℕ
@@ -94,7 +94,7 @@ failures other = 0
 
 -- ---- what an exchange did
 
--- what a wire tells: the dials that were answered, and the counts of its faults
+-- what a wire tells: its dials, and the counts of its faults
 pub record WireTelling (W : Type 0) : Type 0 where
   pub log : W → Option (List Dial)
   pub dial_faults : W → ℕ
@@ -107,7 +107,7 @@ telling log dial_faults faults = record { log = log; dial_faults = dial_faults; 
 pub record Exchanges {W : Type 0} (s : Service) (t : WireTelling W) (before now : PassesView) (wire after : W) (x : Exchange) : Type 0 where
   pub is_exchange : IsExchange s before.made (after ≡ wire) x
   pub gains : Gains before now x.calls
-  pub logged : Logged (t.log wire) x.dials (t.log after)
+  pub logged : LoggedBy (t.dial_faults after) (t.log wire) x.dials (t.log after)
   pub downs : RoseBy (downs x.outcome) (t.dial_faults wire) (t.dial_faults after)
   pub failures : RoseBy (failures x.outcome) (t.faults wire) (t.faults after)
 
@@ -124,7 +124,7 @@ pub record Forwards {W : Type 0} (s : Service) (t : WireTelling W) (grant : Gran
   pub asked : Result UpstreamReply LinkFault
   pub dials : List Dial
   pub came_to : CameTo (after ≡ wire) (request_bytes s.host s.target grant.forward) asked dials
-  pub logged : Logged (t.log wire) dials (t.log after)
+  pub logged : LoggedBy (t.dial_faults after) (t.log wire) dials (t.log after)
   pub downs : RoseBy (downs (Some (outcome_of asked))) (t.dial_faults wire) (t.dial_faults after)
   pub failures : RoseBy (failures (Some (outcome_of asked))) (t.faults wire) (t.faults after)
   pub finished : Finished

@@ -3,7 +3,7 @@ use Rattle.std.specs.Prelude.{◌≡◌, ℕ, ◌<◌, Bool, false, List, [], �
 use Rattle.std.specs.Io.KnownBytes.{Appends, IsAtEnd}
 use Rattle.account_shared.specs.Views.{PassesView}
 use Rattle.account_shared.specs.Gains.{ClientCall, Gains}
-use Rattle.outside.specs.Dials.{Dial, Logged}
+use Rattle.outside.specs.Dials.{Dial, LoggedBy}
 use Rattle.outside.specs.Faults.{RoseBy}
 use Rattle.outside.specs.Taken.{Took}
 use Rattle.outside.specs.Ticks.{Ticks}
@@ -17,7 +17,7 @@ use Rattle.gateway_connections.specs.Connections.{Connection, Stop, StopsAt, End
 -- What exchanges did outside: a reading of the clock for each, and their dials.
 pub record Leaves (given back : Told) (exchanges : List Exchange) : Type 0 where
   pub ticks : Ticks given.readings (moments_of exchanges) back.readings
-  pub logged : Logged given.log (dials_of exchanges) back.log
+  pub logged : LoggedBy back.dial_faults given.log (dials_of exchanges) back.log
   pub downs : RoseBy (downs_of exchanges) given.dial_faults back.dial_faults
   pub failures : RoseBy (failures_of exchanges) given.transfer_faults back.transfer_faults
 

@@ -154,6 +154,7 @@ fn write_with<K: Sink>(
     ensures whole { OnOk result.0 (Appends (K.written to.old) (K.written to.new) (bytes_with close status costs body.items)) }
     ensures front { OnErr result.0 (AppendsFront (K.written to.old) (K.written to.new) (bytes_with close status costs body.items)) }
     ensures count { K.faults to.old ≤ K.faults to.new }
+    ensures still { OnOk result.0 (K.faults to.new ≡ K.faults to.old) }
     ensures cause { OnErr result.0 (Rose (K.faults to.old) (K.faults to.new)) }
     ensures body { result.1 ≡ body }
 {
@@ -186,6 +187,7 @@ pub(crate) fn write<K: Sink>(
     ensures whole { OnOk result (Appends (K.written to.old) (K.written to.new) (written close reply)) }
     ensures front { OnErr result (AppendsFront (K.written to.old) (K.written to.new) (written close reply)) }
     ensures count { K.faults to.old ≤ K.faults to.new }
+    ensures still { OnOk result (K.faults to.new ≡ K.faults to.old) }
     ensures cause { OnErr result (Rose (K.faults to.old) (K.faults to.new)) }
     ensures spare { spare.new.items ≡ message_body no_memory_text }
 {

@@ -1,6 +1,6 @@
 //! Serving a connection.
 
-ghost use Rattle.std.specs.Prelude.{◌≡◌, ◌≤◌, ◌+◌, ◌^◌, [], Some, IfOk};
+ghost use Rattle.std.specs.Prelude.{◌≡◌, ◌≢◌, ◌≤◌, ◌+◌, ◌^◌, [], Some, IfOk};
 ghost use Rattle.outside.specs.Faults.{Rose};
 ghost use Rattle.account_shared.specs.Views.{Belongs, IsIdle};
 ghost use Rattle.gateway_core.specs.Messages.{message_body, no_memory_text};
@@ -41,6 +41,8 @@ fn serve<R: Wait, S: Source + Drop, K: Sink + Drop, W: Wire + Drop, C: Clock + D
     ensures serves { Serves (service_of gate.now) passes.old passes.new (⟦<Conn<S, K, W, C> as Tells>⟧.told conn.old) (⟦<Conn<S, K, W, C> as Tells>⟧.told conn.new) result }
     ensures read_fault { result.end ≡ ending.ReadFault → Rose (S.faults conn.old.source) (S.faults conn.new.source) }
     ensures write_fault { result.end ≡ ending.WriteFault → Rose (K.faults conn.old.sink) (K.faults conn.new.sink) }
+    ensures read_still { result.end ≢ ending.ReadFault → S.faults conn.new.source ≡ S.faults conn.old.source }
+    ensures write_still { result.end ≢ ending.WriteFault → K.faults conn.new.sink ≡ K.faults conn.old.sink }
 {
     let mut number = 0u32;
     'turns: loop {
@@ -81,6 +83,8 @@ pub fn serve_connection<R: Wait, S: Source + Drop, K: Sink + Drop, W: Wire + Dro
     ensures serves { Serves (service_of gate.now) passes.old passes.new (⟦<Conn<S, K, W, C> as Tells>⟧.told conn.old) (⟦<Conn<S, K, W, C> as Tells>⟧.told conn.new) result }
     ensures read_fault { result.end ≡ ending.ReadFault → Rose (S.faults conn.old.source) (S.faults conn.new.source) }
     ensures write_fault { result.end ≡ ending.WriteFault → Rose (K.faults conn.old.sink) (K.faults conn.new.sink) }
+    ensures read_still { result.end ≢ ending.ReadFault → S.faults conn.new.source ≡ S.faults conn.old.source }
+    ensures write_still { result.end ≢ ending.WriteFault → K.faults conn.new.sink ≡ K.faults conn.old.sink }
 {
     match begin(alloc) {
         Ok((front, spare)) => serve(gate, alloc, rt, passes, conn, front, spare),

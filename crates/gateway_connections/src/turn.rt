@@ -1,12 +1,12 @@
 //! One turn of a connection: the next request, its exchange, and its reply.
 
-ghost use Rattle.std.specs.Prelude.{◌≡◌, ◌≤◌, ◌<◌, ◌+◌, ◌^◌, [], IfSome, Option, Some};
+ghost use Rattle.std.specs.Prelude.{◌≡◌, ◌≢◌, ◌≤◌, ◌<◌, ◌+◌, ◌^◌, [], IfSome, Option, Some};
 ghost use Rattle.outside.specs.Faults.{Rose};
 ghost use Rattle.account_shared.specs.Views.{Belongs, IsIdle};
 ghost use Rattle.gateway_core.specs.Messages.{message_body, no_memory_text};
 ghost use Rattle.gateway_connections.specs.Replies.{IsWritable};
 ghost use Rattle.gateway_connections.specs.Exchanges.{service_of};
-ghost use Rattle.gateway_connections.specs.Connections.{Refuses, Answers, IfEndsBy};
+ghost use Rattle.gateway_connections.specs.Connections.{Refuses, Answers, IfEndsBy, UnlessEndsBy};
 ghost use Rattle.gateway_connections.specs.Serving.{Turns};
 ghost use Rattle.gateway_connections.specs.declared.ending.ConnectionEnd.TheVariants as ending;
 
@@ -35,6 +35,7 @@ fn refuse<K: Sink>(
     ensures most { result.replies ≤ number + 1 }
     ensures count { K.faults to.old ≤ K.faults to.new }
     ensures cause { result.end ≡ ending.WriteFault → Rose (K.faults to.old) (K.faults to.new) }
+    ensures still { result.end ≢ ending.WriteFault → K.faults to.new ≡ K.faults to.old }
     ensures spare { spare.new.items ≡ message_body no_memory_text }
 {
     let Some(reply) = fault_reply(alloc, fault) else {
@@ -72,6 +73,7 @@ fn answer<K: Sink>(
     ensures most { IfSome result (λ served. served.replies ≤ number + 1) }
     ensures count { K.faults to.old ≤ K.faults to.new }
     ensures cause { IfEndsBy ending.WriteFault result (Rose (K.faults to.old) (K.faults to.new)) }
+    ensures still { UnlessEndsBy ending.WriteFault result (K.faults to.new ≡ K.faults to.old) }
     ensures spare { spare.new.items ≡ message_body no_memory_text }
 {
     let status = reply.status;
@@ -116,6 +118,8 @@ pub(crate) fn turn<R: Wait, S: Source + Drop, K: Sink + Drop, W: Wire + Drop, C:
     ensures writes { K.faults conn.old.sink ≤ K.faults conn.new.sink }
     ensures read_fault { IfEndsBy ending.ReadFault result (Rose (S.faults conn.old.source) (S.faults conn.new.source)) }
     ensures write_fault { IfEndsBy ending.WriteFault result (Rose (K.faults conn.old.sink) (K.faults conn.new.sink)) }
+    ensures read_still { UnlessEndsBy ending.ReadFault result (S.faults conn.new.source ≡ S.faults conn.old.source) }
+    ensures write_still { UnlessEndsBy ending.WriteFault result (K.faults conn.new.sink ≡ K.faults conn.old.sink) }
 {
     let ask = match front.next(alloc, &mut conn.source) {
         Ok(ask) => ask,

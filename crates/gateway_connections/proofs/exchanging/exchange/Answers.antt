@@ -85,7 +85,7 @@ returns-in-Denied-clause-replied g c =
           reply = c.denial_reply.ensures.reply;
         };
         gains = begun.2;
-        logged = logged_none (g.W.Wire.log c.args.wire.now);
+        logged = inl (logged_none (g.W.Wire.log c.args.wire.now));
         downs = rose_by_none (g.W.Wire.dial_faults c.args.wire.now) (g.W.Wire.dial_faults c.args.wire.now) (omega arith);
         failures = rose_by_none (g.W.Wire.faults c.args.wire.now) (g.W.Wire.faults c.args.wire.now) (omega arith);
       };

@@ -1,4 +1,4 @@
-use Rattle.std.proofs.Common.{◌≡◌, ◌+◌, ◌*◌, [], refl, arith, Some, None}
+use Rattle.std.proofs.Common.{◌≡◌, ◌+◌, ◌*◌, ◌∙◌, [], refl, arith, Some, None}
 use Rattle.doors.specs.Visits.{Told}
 use Rattle.gateway_connections.specs.Exchanges.{service_of}
 use Rattle.gateway_connections.specs.Serving.{Turns}
@@ -36,6 +36,6 @@ turns-preserved g c =
       c.in-None.ensures.idle,
       omega (arith, i.5, c.in-None.ensures.few),
       c.in-None.ensures.spare,
-      omega (arith, i.7, c.in-None.ensures.reads),
-      omega (arith, i.8, c.in-None.ensures.writes),
+      c.in-None.ensures.read_still ∙ i.7,
+      c.in-None.ensures.write_still ∙ i.8,
     )

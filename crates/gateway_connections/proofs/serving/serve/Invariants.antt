@@ -13,8 +13,8 @@ invariant-turns g l =
     record { left = g.S.Source.left l.conn.source; written = g.K.Sink.written l.conn.sink; readings = g.C.Clock.readings l.conn.clock; log = g.W.Wire.log l.conn.wire; read_faults = g.S.Source.faults l.conn.source; write_faults = g.K.Sink.faults l.conn.sink; dial_faults = g.W.Wire.dial_faults l.conn.wire; transfer_faults = g.W.Wire.faults l.conn.wire }
     × Belongs l.passes l.gate.accounts × IsIdle l.passes × (l.passes.made ≤ l.initial.passes.made + 2 * l.number)
     × (l.spare.items ≡ message_body no_memory_text)
-    × (g.S.Source.faults l.initial.conn.source ≤ g.S.Source.faults l.conn.source)
-    × (g.K.Sink.faults l.initial.conn.sink ≤ g.K.Sink.faults l.conn.sink)
+    × (g.S.Source.faults l.conn.source ≡ g.S.Source.faults l.initial.conn.source)
+    × (g.K.Sink.faults l.conn.sink ≡ g.K.Sink.faults l.initial.conn.sink)
 
 abbrev pub decreases-turns : goal.decreases-turns
 decreases-turns g l = 1000 - l.number

@@ -1,10 +1,11 @@
 use Rattle.std.proofs.Common.{◌≡◌, ◌++◌, ◌∷◌, [], refl, sym, subst, Some, None, List, ℕ}
 use Rattle.http_front.specs.Asks.{IsAsk}
 use Rattle.http_front.specs.declared.front.Ask.{Ask}
+use Rattle.gateway_connections.specs.declared.ending.ConnectionEnd.TheVariants as ending
 use Rattle.gateway_connections.specs.Exchanges.{service_of}
 use Rattle.gateway_connections.specs.Connections.{at_fault}
 use Rattle.gateway_connections.proofs.Growing.{makes_still}
-use Rattle.gateway_connections.proofs.OneExchange.{some_then, exchange_anyhow, made_one, turned_by, answers_exchange}
+use Rattle.gateway_connections.proofs.OneExchange.{some_then, exchange_anyhow, made_one, turned_by, answers_exchange, unless_anyway, refused_read}
 use Rattle.gateway_connections.proofs.turn.turn.Goals as goal
 
 pub returns-in-Err-clause-turns : goal.returns-in-Err-clause-turns
@@ -39,3 +40,10 @@ returns-clause-turns g c =
           (exchange_anyhow (service_of c.args.gate.now) c.args.passes.now.made _ x r.exchanges.is_exchange)
           (answers_exchange x c.in-Ok.ask c.exchange-reply.result c.args.number (g.K.Sink.written c.args.conn.now.sink) (g.K.Sink.written c.answer.new.to) c.answer.result r.asked r.replied c.answer.ensures.answers);
     }) c.in-Ok.ensures.exact
+
+pub returns-in-Err-clause-read_still : goal.returns-in-Err-clause-read_still
+returns-in-Err-clause-read_still g c =
+    λ not_read. c.in-Err.ensures.still (λ e. not_read (refused_read c.in-Err.fault c.args.number (g.K.Sink.written c.args.conn.now.sink) (g.K.Sink.written c.refuse.new.to) c.refuse.result.replies c.refuse.result.end c.refuse.ensures.refuses (cc e)))
+
+pub returns-clause-read_still : goal.returns-clause-read_still
+returns-clause-read_still g c = unless_anyway ending.ReadFault c.answer.result _ (c.in-Ok.ensures.still (λ e. cc e))
