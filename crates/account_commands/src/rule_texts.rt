@@ -1,6 +1,7 @@
 //! The files of a schema and of clients, by which requests are decided: reading them.
 
-ghost use Rattle.std.specs.Prelude.{◌≡◌, ◌≤◌, ℕ, List, IfOk, IfErr};
+ghost use Rattle.std.specs.Prelude.{◌≡◌, ◌≤◌, ℕ, List, IfOk, IfErr, OnOk};
+ghost use Rattle.outside.specs.Faults.{StayAll};
 ghost use Rattle.command_outcomes.specs.Outcomes.{files_told};
 ghost use Rattle.account_commands.specs.RuleFiles.{HoldRuleTexts, HaveNoRules};
 
@@ -26,6 +27,7 @@ pub fn read_rules<F: Files>(
     ensures held { IfOk result (HoldRuleTexts schema.now clients.now (F.content files.old)) }
     ensures same { F.content files.new ≡ F.content files.old }
     ensures count { (other : List ℕ) → F.faults files.old other ≤ F.faults files.new other }
+    ensures still { OnOk result (StayAll (F.faults files.old) (F.faults files.new)) }
     ensures none { IfErr result (HaveNoRules schema.now clients.now (files_told (F.content files.old) (F.faults files.old) (F.faults files.new))) }
 {
     let schema = match read_text(alloc, schema, SCHEMA_LIMIT, files) {

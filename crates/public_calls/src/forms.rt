@@ -55,10 +55,9 @@ fn files_in_memory_fail_in_turn(rt: HostRuntime) -> Result<(), Fail> {
 #[test]
 fn firm_streams_are_read_and_written(rt: HostRuntime) -> Result<(), Fail> {
     let mut into = [0u8; 8];
-    let mut source = FirmSource {
-        left: Vec::from_slice(rt.alloc(), b"POST")?,
-    };
-    assert!(rt; source.read(&mut into) == Ok(4));
+    let mut source = FirmSource::new(Vec::from_slice(rt.alloc(), b"POST")?);
+    assert!(rt; source.read(&mut into) == Ok(4) && !source.ended);
+    assert!(rt; source.read(&mut into) == Ok(0) && source.ended);
     assert!(rt; write_whole(&mut FirmSink, b"anything").is_ok());
     Ok(())
 }

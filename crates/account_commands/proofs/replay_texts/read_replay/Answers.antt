@@ -12,5 +12,5 @@ returns-in-Err-read_text-clause-none g c =
     inr (
       ((c.in-Ok.rules.schema, c.in-Ok.ensures.held.is_schema), (c.in-Ok.rules.clients, c.in-Ok.ensures.held.are_clients)),
       no_text_sooner (g.F.Files.content c.args.files.now) (g.F.Files.content c.read_rules.new.files) (g.F.Files.faults c.args.files.now) (g.F.Files.faults c.read_rules.new.files) (g.F.Files.faults c.read_text.new.files)
-          c.in-Ok.ensures.same c.in-Ok.ensures.count SCRIPT_LIMIT c.args.asked.now.script c.in-Err-read_text.outcome c.in-Err-read_text.ensures.none,
+          c.in-Ok.ensures.same c.in-Ok.ensures.still SCRIPT_LIMIT c.args.asked.now.script c.in-Err-read_text.outcome c.in-Err-read_text.ensures.none,
     )
