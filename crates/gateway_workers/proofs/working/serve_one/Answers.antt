@@ -15,7 +15,7 @@ returns-in-Ok-Some g c =
             c.accept.ensures.visits given c.hand_back.ensures.visit c.number.ensures)
             refl (omega (arith, c.from.ensures)) (omega (arith, gave.1, c.hand_back.ensures.to_come)) c.hand_back.ensures.free c.serve_connection-served.ensures.most c.serve_connection-served.ensures.few,
       ),
-      c.hand_back.ensures.count ∙ c.in-Ok-Some.ensures.calm,
+      c.hand_back.ensures.count ∙ c.in-Ok-Some.ensures.still,
       refl,
     )
 
@@ -23,7 +23,7 @@ pub returns-in-Ok-None : goal.returns-in-Ok-None
 returns-in-Ok-None g c =
     let none = none_at _ c.in-Ok-None.field-0 c.in-Ok-None.field-0-is c.in-Ok-None.ensures.none in (
       did_still _ (service_of c.args.gate.now) c.args.gate.now.accounts c.args.worker.now _ c.requires.belong c.requires.idle refl refl refl c.accept.ensures.visits (none.2 ∙ sym none.1) none.0,
-      c.in-Ok-None.ensures.calm,
+      c.in-Ok-None.ensures.still,
       refl,
       none.2,
     )
