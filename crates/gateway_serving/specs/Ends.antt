@@ -35,8 +35,8 @@ WasUnserved serving before now =
     (stopped : List Stopped) × StartAndStop serving before now stopped × (length stopped ≡ serving.workers) × All IsUnused stopped
 
 -- It was served; or the doors were not started, and the count of their faults rose; or memory was wanting, before the doors
--- were started or before the first connection.
+-- were started, where that count is as it was, or before the first connection.
 abbrev pub ComesTo : Service → Serving → DoorsTold → DoorsTold → Result ServeEnd ServeFault → Type 0
 ComesTo s serving before now (Ok end) = WasServed s serving before now end
 ComesTo s serving before now (Err NotStarted) = StartNone before now × Rose before.faults now.faults
-ComesTo s serving before now (Err Memory) = StartNone before now ⊎ WasUnserved serving before now
+ComesTo s serving before now (Err Memory) = (StartNone before now × (now.faults ≡ before.faults)) ⊎ WasUnserved serving before now
