@@ -10,14 +10,14 @@ pub returns-in_default : goal.returns-in_default
 returns-in_default g c = (
   record { listen = c.as_str.result; upstream = c.as_str-2.result; workers = c.args.asked.now.workers; connections = c.args.asked.now.connections },
   record { listen = c.as_str.ensures; upstream = c.as_str-2.ensures; workers = refl; connections = refl },
-  inl record { asked = refl; idle = c.requires.idle; same = refl },
+  inl (record { asked = refl; idle = c.requires.idle; same = refl }, refl),
 )
 
 pub returns-in_default-made : goal.returns-in_default-made
 returns-in_default-made g c = (
   record { listen = c.as_str.result; upstream = c.as_str-2.result; workers = c.args.asked.now.workers; connections = c.args.asked.now.connections },
   record { listen = c.as_str.ensures; upstream = c.as_str-2.ensures; workers = refl; connections = refl },
-  inl record { asked = refl; idle = c.requires.idle; same = refl },
+  inl (record { asked = refl; idle = c.requires.idle; same = refl }, refl),
 )
 
 pub returns : goal.returns
