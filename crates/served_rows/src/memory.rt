@@ -33,7 +33,7 @@ pub(crate) fn sent_of<'a>(plan: &Planned<'a>, each: u64) -> &'a [u8] {
 }
 
 fn wire_of(alloc: Global, plan: &Planned<'_>, each: u64) -> Result<MemWire, RowFault>
-    ensures log { IfOk result (λ wire. dials_of wire.past.items wire.latest ≡ []) }
+    ensures log { IfOk result (λ wire. dials_of wire.past.items wire.latest wire.missed ≡ []) }
     ensures faults { IfOk result (λ wire. (wire.dial_faults ≡ 0) × (wire.faults ≡ 0)) }
 {
     let mut replies = Vec::new(alloc);
