@@ -1,4 +1,4 @@
-//! The doors that rows have: two, in memory.
+//! The doors that rows have: two or four, in memory.
 
 ghost use Rattle.std.specs.Prelude.{◌≡◌, IfOk, string_bytes};
 ghost use Rattle.worked_rows.specs.Fresh.{fresh_told};
@@ -52,12 +52,8 @@ fn add_door(
     doors.add(door).map_err(|_| AllocError)
 }
 
-/// What starts two doors for a connection each, and nothing else. The second one fails, or none does.
-pub(crate) fn two_doors(
-    alloc: Global,
-    exchange: &Exchange,
-    fails: bool,
-) -> Result<RowDoors, AllocError>
+// What starts two doors for a connection each, and nothing else. The second one fails, or none does.
+fn two_doors(alloc: Global, exchange: &Exchange, fails: bool) -> Result<RowDoors, AllocError>
     ensures { IfOk result (λ doors. doors.running ≡ 0) }
 {
     let failures = if fails {
@@ -69,4 +65,43 @@ pub(crate) fn two_doors(
     add_door(alloc, exchange, &mut doors, Failures::none(alloc))?;
     add_door(alloc, exchange, &mut doors, failures)?;
     Ok(doors)
+}
+
+/// What starts the doors of a row with this mark, for a connection each, and nothing else: four where it is `*`, and else two, of which
+/// the second fails where it is `!`.
+pub(crate) fn doors_for(
+    alloc: Global,
+    exchange: &Exchange,
+    mark: &str,
+) -> Result<RowDoors, AllocError>
+    ensures { IfOk result (λ doors. doors.running ≡ 0) }
+{
+    let mut doors = two_doors(alloc, exchange, mark == "!")?;
+    if mark == "*" {
+        add_door(alloc, exchange, &mut doors, Failures::none(alloc))?;
+        add_door(alloc, exchange, &mut doors, Failures::none(alloc))?;
+    }
+    Ok(doors)
+}
+
+// The first line of a text.
+fn first_line(text: &[u8]) -> &[u8] {
+    match text.iter().position(|byte| *byte == b'\r') {
+        Some(at) => &text[..at],
+        None => text,
+    }
+}
+
+/// Adds the first line of what each worker sent to the upstream.
+pub(crate) fn push_asked(into: &mut Vec<u8>, doors: &RowDoors) -> Result<(), AllocError> {
+    for stopped in doors.stopped() {
+        for visit in stopped.door.visits() {
+            if let Some(dial) = &visit.back.wire.latest {
+                into.extend_from_slice(b"^ ")?;
+                into.extend_from_slice(first_line(&dial.sent))?;
+                into.push(b'\n')?;
+            }
+        }
+    }
+    Ok(())
 }

@@ -2,10 +2,12 @@
 //!
 //! The words of this program are the names of lists. In a list a line that begins with `$` is a row: the words behind
 //! it, with spaces between them, are those of a command. A number right behind the `$` is that of the write which fails on
-//! each stream, a `!` there says that one of the two doors fails, and the word `?` alone stands for words that the system
+//! each stream, and behind an `r` there that of the read of a file which fails; a `!` there says that one of the two doors fails, a `*` that
+//! there are four doors, and the word `?` alone stands for words that the system
 //! didn't give. Every other line is a heading or a note.
 //! The transcript has all lines of the list; below a row stand what it wrote on its output, each line behind `> `, and on its
-//! error stream, behind `! `, and then its status, behind `= `.
+//! error stream, behind `! `, and then its status, behind `= `. Where there are four doors, the first lines of what was sent to the upstream
+//! stand below that, behind `^ `.
 #![tactic(auto)]
 
 mod doors_of_rows;

@@ -5,20 +5,31 @@ ghost use Rattle.std.specs.Prelude.{◌≡◌, ◌+◌, ◌≤◌, IfOk, vec_len
 use outside::{FileFault, Files};
 use std::alloc::Global;
 
-/// Other files, and more: the name `FILE+N` stands for the file FILE, filled up with spaces to N bytes.
+/// Other files, and more: the name `FILE+N` stands for the file FILE, filled up with spaces to N bytes; and the read with one number
+/// may fail.
 #[derive(Drop)]
 pub struct PaddedFiles<F: Files + Drop> {
     inner: F,
+    /// How many reads there were.
+    reads: u64,
+    /// The number of the read that fails, counted from 1, or 0.
+    failing: u64,
     faults: u64,
 }
 
 impl<F: Files + Drop> PaddedFiles<F> {
-    /// These files, without a fault so far.
-    pub fn new(inner: F) -> PaddedFiles<F>
+    /// These files, without a read so far. The read with this number fails, counted from 1, and none where it is 0.
+    pub fn new(inner: F, failing: u64) -> PaddedFiles<F>
         ensures inner { result.inner ≡ inner }
+        ensures failing { result.failing ≡ failing }
         ensures faults { result.faults ≡ 0 }
     {
-        PaddedFiles { inner, faults: 0 }
+        PaddedFiles {
+            inner,
+            reads: 0,
+            failing,
+            faults: 0,
+        }
     }
 }
 
@@ -50,6 +61,11 @@ impl<F: Files + Drop> Files for PaddedFiles<F> {
     ghost faults = { λ files _. files.faults };
 
     fn read(&mut self, alloc: Global, name: &str, limit: usize) -> Result<Vec<u8>, FileFault> {
+        self.reads = self.reads.saturating_add(1);
+        if self.reads == self.failing {
+            self.faults = self.faults.saturating_add(1);
+            return Err(FileFault::Failed);
+        }
         let (name, length) = padded_name(name);
         let read = match self.inner.read(alloc, name, limit) {
             Ok(mut read) => match fill(&mut read, length, limit) {

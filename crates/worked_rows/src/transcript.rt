@@ -2,7 +2,7 @@
 
 ghost use Rattle.std.specs.Prelude.{◌≡◌};
 
-use crate::doors_of_rows::{Exchange, two_doors};
+use crate::doors_of_rows::{Exchange, doors_for, push_asked};
 use crate::padded_files::PaddedFiles;
 use gateway_run::{WordsFault, end_without_command, run};
 use gql_base::Text;
@@ -51,6 +51,14 @@ fn stream(alloc: Global, failing: Option<u64>) -> Result<MemSink, AllocError> {
     Ok(MemSink::new(alloc, failures))
 }
 
+// The number of the read that fails in a row with this mark, or 0.
+fn failing_read(mark: &str) -> u64 {
+    match mark.strip_prefix('r') {
+        Some(number) => number.parse().unwrap_or(0),
+        None => 0,
+    }
+}
+
 // Runs one row, and gives what it came to.
 fn outcome_of<W: Threads + Wait + Sync>(
     rt: &HostRuntime,
@@ -63,16 +71,17 @@ fn outcome_of<W: Threads + Wait + Sync>(
     let failing = mark.parse().ok();
     let mut out = stream(alloc, failing)?;
     let mut err = stream(alloc, failing)?;
+    let mut doors = doors_for(alloc, exchange, mark)?;
     let status = if words == "?" {
         end_without_command(WordsFault::Usage, &mut out, &mut err)
     } else {
-        let mut files = PaddedFiles::new(StdFiles::new(rt.clone()?));
+        let mut files = PaddedFiles::new(StdFiles::new(rt.clone()?), failing_read(mark));
         run(
             workers,
             alloc,
             &words_of(alloc, words)?,
             &mut files,
-            &mut two_doors(alloc, exchange, mark == "!")?,
+            &mut doors,
             &mut out,
             &mut err,
         )
@@ -81,6 +90,9 @@ fn outcome_of<W: Threads + Wait + Sync>(
     push_marked(&mut text, b"> ", &out.written)?;
     push_marked(&mut text, b"! ", &err.written)?;
     text.extend_from_slice(format!(in alloc; "= {status}\n")?.as_bytes())?;
+    if mark == "*" {
+        push_asked(&mut text, &doors)?;
+    }
     Ok(text)
 }
 
