@@ -9,9 +9,10 @@ use Rattle.plan_table.specs.declared.table.Plan.{Plan}
 use Rattle.response_model.specs.declared.part.Part.{Part}
 use Rattle.static_cost.specs.declared.filling.TheConstants.{VALUE_LIMIT}
 use Rattle.response_model.specs.Components.{part_of}
+use Rattle.static_cost.specs.CostBound.{Attains}
 use Rattle.static_cost.specs.Worst.{values}
 use Rattle.command_words.specs.declared.command.Asked.{Asked}
-use Rattle.acceptance.specs.Requests.{plan_tree}
+use Rattle.acceptance.specs.Requests.{RequestData, Prepared, setting, plan_tree}
 use Rattle.acceptance.specs.Bounds.{IsAccepted}
 use Rattle.operation_commands.specs.declared.asked.AskedTexts.{AskedTexts}
 use Rattle.operation_commands.specs.declared.asking.Inputs.{Inputs}
@@ -35,9 +36,16 @@ WorstOfTree part tree outcome = (outcome ≡ Memory)
     ⊎ ((values (worst_tree part tree) ≤ VALUE_LIMIT) × IsDone (response_text (Some (worst_tree part tree)) []) outcome)
     ⊎ ((VALUE_LIMIT < values (worst_tree part tree)) × IsRefusedAs (codes "worst 1 TooLarge") outcome)
 
--- The operation is accepted, and came to that.
+-- That response answers the operation, keeps its declared sizes, and costs just what the bound says in this part.
+abbrev pub IsWorstFor : (r : RequestData) → Prepared r → Cost → Part → Type 0
+IsWorstFor r p bound part = Attains (setting r p) p.root p.operation (part_of part) bound (worst_tree part (plan_tree r p))
+
+-- The operation is accepted with this bound, and came to that.
 abbrev pub WorstOfAccepted : Asked → Part → AskedTexts → Outcome → Type 0
-WorstOfAccepted asked part texts outcome = OfPlan asked texts (λ tree. WorstOfTree part tree outcome)
+WorstOfAccepted asked part texts outcome = (inputs : Inputs) × HoldInputs asked texts inputs
+    × ((plan : Plan) × (bound : Cost) × (accepted : IsAccepted (request_in asked inputs) plan bound)
+    × WorstOfTree part (plan_tree (request_in asked inputs) accepted.is_planned.prepared) outcome
+    × IsWorstFor (request_in asked inputs) accepted.is_planned.prepared bound part)
 
 -- By the texts: the operation is accepted, and its response told or too large; or it is refused, or there was no memory.
 abbrev pub WorstOf : Asked → Part → AskedTexts → Outcome → Type 0

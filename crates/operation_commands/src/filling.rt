@@ -20,6 +20,7 @@ use command_outcomes::{Outcome, SCHEMA_LIMIT, refused_as};
 use command_words::Asked;
 use outside::Files;
 use plan_table::{Tree, response_text};
+use static_cost::laws::worst_attains_the_bound;
 use static_cost::{Part, WorstFault};
 use std::alloc::Global;
 
@@ -61,6 +62,7 @@ fn worst_in(
         Ok(inputs) => inputs,
         Err(fault) => return Err(fault),
     };
+    worst_attains_the_bound();
     match accepted(alloc, asked, texts, &inputs) {
         Ok(accepted) => Ok(worst_of(alloc, &accepted, part)),
         Err(fault) => Err(fault),
