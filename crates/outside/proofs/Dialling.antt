@@ -6,7 +6,7 @@ use Rattle.std.proofs.lemmas.Grind.{replicate_next, flat_map-append}
 use Rattle.std.proofs.lemmas.List.{append-nil}
 use Rattle.outside.specs.declared.mem_wire.WireDial.{WireDial}
 use Rattle.outside.specs.Faults.{last_count}
-use Rattle.outside.specs.Dials.{Dial, Logged, LoggedBy, LastBecomes, with_last, fresh_dial, missed_dial, missed_dials, dial_of, dials_to, dials_of, log_of, is_up, sends, takes}
+use Rattle.outside.specs.Dials.{Dial, Logged, LacksMissed, LoggedBy, LastBecomes, with_last, fresh_dial, missed_dial, missed_dials, dial_of, dials_to, dials_of, log_of, is_up, sends, takes}
 
 -- no dial more
 pub logged_none : (log : Option (List Dial)) → Logged log [] log
@@ -20,14 +20,33 @@ logged_then (Some log) b c first second x y =
     let later : Logged (Some (log ++ first)) second c = subst (λ (o : Option (List Dial)). Logged o second c) x y in
     later ∙ ap Some (append_assoc log first second)
 
+-- nothing is lacking
+lacks_none : (dials : List Dial) → LacksMissed dials dials
+unfolding LacksMissed
+lacks_none [] = refl
+lacks_none (d ∷ dials) = inl (dials, refl, lacks_none dials)
+
+lacks_then : (first second a b : List Dial) → LacksMissed first a → LacksMissed second b → LacksMissed (first ++ second) (a ++ b)
+unfolding LacksMissed
+lacks_then [] second a b x y = subst (λ l. LacksMissed second (l ++ b)) (sym x) y
+lacks_then (d ∷ first) second a b (inl x) y = inl (x.0 ++ b, ap (λ l. l ++ b) x.1, lacks_then first second x.0 b x.2 y)
+lacks_then (d ∷ first) second a b (inr x) y = inr (x.0, lacks_then first second a b x.1 y)
+
+-- what the log has grown by, whether it lacks some or not
+shown_by : (count : ℕ) (before after : Option (List Dial)) (dials : List Dial) → LoggedBy count before dials after
+    → (shown : List Dial) × LacksMissed dials shown × Logged before shown after
+shown_by count before after dials (inl all) = (dials, lacks_none dials, all)
+shown_by count before after dials (inr some) = (some.1, some.2, some.3)
+
 -- The same, where the count of dials that nobody answered may have come to its last value, at which it stays.
 pub logged_by_then : (c d : ℕ) (x y z : Option (List Dial)) (first second : List Dial) → (last_count ≤ c → last_count ≤ d) → LoggedBy c x first y → LoggedBy d y second z
     → LoggedBy d x (first ++ second) z
-logged_by_then c d x y z first second stays one two =
-    elim one [
-      | inl a ↦ elim two [ inl b ↦ inl (logged_then x y z first second a b) | inr over ↦ inr over ]
-      | inr over ↦ inr (stays over)
-    ]
+logged_by_then c d x y z first second stays (inl a) (inl b) = inl (logged_then x y z first second a b)
+logged_by_then c d x y z first second stays (inl a) (inr b) =
+    inr (b.0, first ++ b.1, lacks_then first second first b.1 (lacks_none first) b.2, logged_then x y z first b.1 a b.3)
+logged_by_then c d x y z first second stays (inr a) two =
+    let b = shown_by d y z second two in
+    inr (stays a.0, a.1 ++ b.0, lacks_then first second a.1 b.0 a.2 b.1, logged_then x y z a.1 b.0 a.3 b.2)
 
 -- the last of some dials is changed
 pub with_last_changed : {A : Type 0} (change : A → A) (front : List A) (x : A) → with_last change (front ++ x ∷ []) ≡ front ++ change x ∷ []
@@ -119,10 +138,11 @@ one_missed past (Some d) missed =
 
 -- and the log tells so
 pub missed_logged : (past : List WireDial) (latest : Option WireDial) (before missed faults : ℕ) (log : List Dial) → dials_of past latest before ≡ log
-    → (missed ≡ before + 1) ⊎ (last_count ≤ faults) → LoggedBy faults (Some log) (missed_dial ∷ []) (log_of past latest missed)
+    → (missed ≡ before + 1) ⊎ ((missed ≡ before) × (last_count ≤ faults)) → LoggedBy faults (Some log) (missed_dial ∷ []) (log_of past latest missed)
+unfolding LacksMissed
 missed_logged past latest before missed faults log same counted = elim counted [
   | inl more ↦ inl (ap Some (ap (dials_of past latest) more ∙ one_missed past latest before ∙ ap (λ l. l ++ missed_dial ∷ []) same))
-  | inr over ↦ inr over
+  | inr over ↦ inr (over.1, [], inr (refl, refl), ap Some (ap (dials_of past latest) over.0 ∙ same ∙ sym (append-nil log)))
 ]
 
 -- the latest dial is put behind those before it

@@ -26,9 +26,17 @@ abbrev pub Logged : Option (List Dial) → List Dial → Option (List Dial) → 
 Logged None dials after = after ≡ None
 Logged (Some log) dials after = after ≡ Some (log ++ dials)
 
--- The same, unless the count of dials that nobody answered stands at its last value afterwards.
+-- the same dials, but for some that nobody answered
+unfoldable pub LacksMissed : List Dial → List Dial → Type 0
+LacksMissed [] shown = shown ≡ []
+LacksMissed (d ∷ dials) shown =
+    ((rest : List Dial) × (shown ≡ d ∷ rest) × LacksMissed dials rest) ⊎ ((d ≡ missed_dial) × LacksMissed dials shown)
+
+-- The log has grown by these dials. Where the count of dials that nobody answered stands at its last value afterwards, it
+-- may lack some of those, and of those alone.
 abbrev pub LoggedBy : ℕ → Option (List Dial) → List Dial → Option (List Dial) → Type 0
-LoggedBy missed before dials after = Logged before dials after ⊎ (last_count ≤ missed)
+LoggedBy missed before dials after =
+    Logged before dials after ⊎ ((last_count ≤ missed) × (shown : List Dial) × LacksMissed dials shown × Logged before shown after)
 
 -- the list with its last item changed
 unfoldable pub with_last : {A : Type 0} → (A → A) → List A → List A

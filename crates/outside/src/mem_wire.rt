@@ -147,7 +147,7 @@ fn put_by(past: &mut Vec<WireDial>, latest: &mut Option<WireDial>) -> bool
 // Counts one more dial that nobody answered, among those since the latest that was answered and among all.
 // Where the former stand at their last value already, so do the latter.
 fn count_missed(missed: &mut u64, faults: &mut u64)
-    ensures missed { (missed.new ≡ missed.old + 1) ⊎ (last_count ≤ faults.new) }
+    ensures missed { (missed.new ≡ missed.old + 1) ⊎ ((missed.new ≡ missed.old) × (last_count ≤ faults.new)) }
     ensures count { faults.old ≤ faults.new }
     ensures cause { Rose faults.old faults.new }
 {
