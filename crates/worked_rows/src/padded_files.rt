@@ -62,17 +62,17 @@ impl<F: Files + Drop> Files for PaddedFiles<F> {
 
     fn read(&mut self, alloc: Global, name: &str, limit: usize) -> Result<Vec<u8>, FileFault> {
         self.reads = self.reads.saturating_add(1);
-        if self.reads == self.failing {
-            self.faults = self.faults.saturating_add(1);
-            return Err(FileFault::Failed);
-        }
         let (name, length) = padded_name(name);
-        let read = match self.inner.read(alloc, name, limit) {
-            Ok(mut read) => match fill(&mut read, length, limit) {
-                Ok(()) => Ok(read),
+        let read = if self.reads == self.failing {
+            Err(FileFault::Failed)
+        } else {
+            match self.inner.read(alloc, name, limit) {
+                Ok(mut read) => match fill(&mut read, length, limit) {
+                    Ok(()) => Ok(read),
+                    Err(fault) => Err(fault),
+                },
                 Err(fault) => Err(fault),
-            },
-            Err(fault) => Err(fault),
+            }
         };
         if let Err(FileFault::Failed) = &read {
             self.faults = self.faults.saturating_add(1);
