@@ -1,6 +1,4 @@
--- Keys on one line; the entries of lists; the bodies that stand for a client's; and that each body is read.
-pub mod ShownKeys
-pub mod OneLine
+-- The entries of lists; the bodies that stand for a client's; and that each body is read.
 pub mod Entries
 pub mod FilledObjects
 pub mod StandingBodies

@@ -1,41 +1,19 @@
 //! The texts of faults: a stage, the number of the fault, its name, and what it holds.
 
-ghost use Rattle.std.specs.Prelude.{◌≡◌, ◌++◌, IfOk, OnOk, string_bytes, codes};
+ghost use Rattle.std.specs.Prelude.{◌≡◌, ◌++◌, IfOk, codes};
 ghost use Rattle.std.specs.Fmt.{decimal};
-ghost use Rattle.trusted_documents.specs.FaultTexts.{shown_character, shown_key, trusted_fault_text, expand_fault_text};
+ghost use Rattle.gql_base.specs.printing.OneLine.{shown_in_line as shown};
+ghost use Rattle.trusted_documents.specs.FaultTexts.{trusted_fault_text, expand_fault_text};
 
 use crate::fault::{ExpandFault, TrustedFault};
-use gql_base::Text;
+use gql_base::{Text, shown_in_line};
 use std::alloc::{AllocError, Global};
-
-/// One character of a key.
-fn push_shown(alloc: Global, into: &mut String, character: char) -> Result<(), AllocError>
-    ensures { OnOk result (string_bytes into.new ≡ string_bytes into.old ++ shown_character character) }
-{
-    if character.is_ascii_control() {
-        let digits = hex::encode(alloc, [character as u8])?;
-        into.push_str("\\u00")?;
-        return into.push_str(digits.as_str());
-    }
-    into.push(character)
-}
-
-/// A key on one line.
-fn shown_key(alloc: Global, key: &str) -> Result<String, AllocError>
-    ensures { IfOk result (λ shown. string_bytes shown ≡ shown_key key.now) }
-{
-    let mut shown = String::new(alloc);
-    for character in key.chars() {
-        push_shown(alloc, &mut shown, character)?;
-    }
-    Ok(shown)
-}
 
 /// A fault with its key.
 fn with_key(alloc: Global, fault: &str, key: &Text) -> Result<Text, AllocError>
-    ensures { IfOk result (λ text. text ≡ fault.now ++ shown_key key.now) }
+    ensures { IfOk result (λ text. text ≡ fault.now ++ shown key.now) }
 {
-    let key = shown_key(alloc, key.as_str())?;
+    let key = shown_in_line(alloc, key.as_str())?;
     let key = key.as_str();
     Ok(Text::from(format!(in alloc; "{fault}{key}")?))
 }

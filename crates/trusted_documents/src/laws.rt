@@ -9,7 +9,6 @@ ghost use Rattle.trusted_documents.specs.Hashes.{hash_of};
 ghost use Rattle.trusted_documents.specs.DocumentLists.{listed_by, document_under, most_documents, longest_document, IsDocumentOf, IsTheOneWith};
 ghost use Rattle.trusted_documents.specs.Listings.{Listing, document_for, Names};
 ghost use Rattle.trusted_documents.specs.Requests.{IsRead, IsRequestBy, IsUnreadBy, AreGivenIn};
-ghost use Rattle.trusted_documents.specs.FaultTexts.{shown_key, is_one_line};
 ghost use Rattle.trusted_documents.specs.declared.requests.Unread.{Unread as Reason};
 ghost use Rattle.trusted_documents.specs.declared.requests.Unread.TheVariants.{Memory as NoMemory};
 
@@ -55,11 +54,6 @@ pub fn a_body_is_one_request_by_a_list()
 pub fn variables_are_the_clients()
     ensures object { (list : Option Listing) (body : List ℕ) (asked : RequestData) → IsRequestBy list body asked → is_some (as_object asked.variables) ≡ true }
     ensures source { (list : Option Listing) (body : List ℕ) (asked : RequestData) → IsRequestBy list body asked → AreGivenIn body asked.variables }
-{}
-
-/// A key is shown on one line: no control character of ASCII is in what is shown of it.
-pub fn a_key_is_shown_on_one_line()
-    ensures { (key : List ℕ) → is_one_line (shown_key key) ≡ true }
 {}
 
 /// Threads may share lists, what bodies are expanded to, and faults.

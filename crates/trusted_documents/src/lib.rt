@@ -16,7 +16,7 @@ pub use expanding::{Expanded, expand};
 pub use fault::{ExpandFault, TrustedFault};
 pub use fault_texts::{expand_fault_text, trusted_fault_text};
 pub use laws::{
-    a_body_is_one_request_by_a_list, a_hash_stands_for_its_document, a_key_is_shown_on_one_line,
+    a_body_is_one_request_by_a_list, a_hash_stands_for_its_document,
     limits_are_those_of_the_definitions, lists_are_shared, variables_are_the_clients,
     what_a_list_holds,
 };
