@@ -9,7 +9,7 @@ use Rattle.command_outcomes.specs.declared.limits.TheConstants.{CLIENTS_LIMIT}
 use Rattle.command_outcomes.specs.declared.outcome.Outcome.{Outcome}
 use Rattle.command_outcomes.specs.declared.outcome.Outcome.TheVariants.{Memory}
 use Rattle.command_outcomes.specs.Texts.{line}
-use Rattle.command_outcomes.specs.Outcomes.{FilesTold, IsDone, IsRefusedAs}
+use Rattle.command_outcomes.specs.Outcomes.{FilesTold, NoFileFailed, IsDone, IsRefusedAs}
 use Rattle.command_outcomes.specs.Reading.{IsTextOf, HasNoText}
 
 -- The text ends with a line end.
@@ -28,7 +28,7 @@ IsNoClientFile text outcome = (fault : ClientsFault) × IsFirstFault (lines_of t
 abbrev pub MigrateOf : List ℕ → Outcome → Type 0
 MigrateOf text outcome = (outcome ≡ Memory) ⊎ IsMigrated text outcome ⊎ IsNoClientFile text outcome
 
--- The file holds no text, or it does, and came to that.
+-- The file holds no text; or it does, and came to that, and none failed.
 abbrev pub MigrateCameTo : List ℕ → FilesTold → Outcome → Type 0
 MigrateCameTo name files outcome = HasNoText CLIENTS_LIMIT name files outcome
-    ⊎ ((text : List ℕ) × IsTextOf CLIENTS_LIMIT (files.content name) text × MigrateOf text outcome)
+    ⊎ ((text : List ℕ) × IsTextOf CLIENTS_LIMIT (files.content name) text × MigrateOf text outcome × NoFileFailed files)

@@ -31,7 +31,7 @@ use Rattle.account_commands.specs.declared.replay_end.ReplayEnd.{ReplayEnd}
 use Rattle.command_outcomes.specs.declared.outcome.Outcome.{Outcome}
 use Rattle.command_outcomes.specs.declared.outcome.Outcome.TheVariants.{Memory}
 use Rattle.command_outcomes.specs.Texts.{line}
-use Rattle.command_outcomes.specs.Outcomes.{FilesTold, IsDone, IsRefusedAs}
+use Rattle.command_outcomes.specs.Outcomes.{FilesTold, NoFileFailed, IsDone, IsRefusedAs}
 use Rattle.command_outcomes.specs.Reading.{IsTextOf, HasNoText, HoldsText}
 use Rattle.account_commands.specs.RuleFiles.{HoldRuleTexts, HaveNoRules, HoldRules, rules_in, HoldsSchema, HoldsClients, IsRulesRefusal, rules_refusal_text}
 
@@ -131,10 +131,11 @@ ReplayOf name texts undeclared outcome = (outcome ≡ Memory)
     ⊎ IsReplayed texts undeclared (λ end. IsWritten end outcome)
     ⊎ IsReplayRefused name texts undeclared outcome
 
--- The files hold no texts, or they do, and came to that.
+-- The files hold no texts; or they do, and came to that, and none failed.
 abbrev pub ReplayCameTo : AskedReplay → FilesTold → Outcome → Type 0
 ReplayCameTo asked files outcome = HaveNoReplay asked files outcome
-    ⊎ ((texts : ReplayTexts) × HoldReplayTexts asked files.content texts × ReplayOf asked.schema texts asked.undeclared outcome)
+    ⊎ ((texts : ReplayTexts) × HoldReplayTexts asked files.content texts × ReplayOf asked.schema texts asked.undeclared outcome
+    × NoFileFailed files)
 
 -- ---- what serves proofs
 

@@ -1,6 +1,7 @@
 //! The files of a replay: reading them.
 
-ghost use Rattle.std.specs.Prelude.{IfOk, IfErr};
+ghost use Rattle.std.specs.Prelude.{◌≡◌, IfOk, IfErr, OnOk};
+ghost use Rattle.outside.specs.Faults.{StayAll};
 ghost use Rattle.command_outcomes.specs.Outcomes.{files_told};
 ghost use Rattle.account_commands.specs.Replay.{HoldReplayTexts, HaveNoReplay};
 
@@ -25,6 +26,7 @@ pub fn read_replay<F: Files>(
     files: &mut F,
 ) -> Result<ReplayTexts, Outcome>
     ensures held { IfOk result (HoldReplayTexts asked.now (F.content files.old)) }
+    ensures still { OnOk result (StayAll (F.faults files.old) (F.faults files.new)) }
     ensures none { IfErr result (HaveNoReplay asked.now (files_told (F.content files.old) (F.faults files.old) (F.faults files.new))) }
 {
     let rules = match read_rules(alloc, &asked.schema, &asked.clients, files) {

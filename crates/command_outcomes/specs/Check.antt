@@ -13,7 +13,6 @@ use Rattle.cost_directives.specs.declared.fault.DirectiveFault.{DirectiveFault}
 use Rattle.cost_directives.specs.declared.fault.DirectiveFault.TheVariants.{Memory as NoWeights}
 use Rattle.cost_directives.specs.declared.weights.Weights.{Weights}
 use Rattle.cost_directives.specs.DirectiveFaults.{Weighs}
-use Rattle.outside.specs.Faults.{StayAll}
 use Rattle.command_outcomes.specs.declared.limits.TheConstants.{SCHEMA_LIMIT}
 use Rattle.command_words.specs.declared.command.TheConstants.{UNDECLARED}
 use Rattle.command_outcomes.specs.declared.checked.SchemaRefusal.{SchemaRefusal}
@@ -24,7 +23,7 @@ use Rattle.command_outcomes.specs.declared.outcome.Outcome.{Outcome}
 use Rattle.command_outcomes.specs.declared.outcome.Outcome.TheVariants.{Memory}
 use Rattle.command_outcomes.specs.SchemaTexts.{counts_text, schema_refusal_text}
 use Rattle.command_outcomes.specs.Reading.{IsRead, IsText}
-use Rattle.command_outcomes.specs.Outcomes.{FilesTold, IsStopped, IsDone, IsRefusedAs}
+use Rattle.command_outcomes.specs.Outcomes.{FilesTold, NoFileFailed, IsStopped, IsDone, IsRefusedAs}
 
 -- A schema file: a text within its limit that is a schema text with these definitions.
 pub record HoldsDefinitions (bytes : List ℕ) (definitions : List DefinitionTree) : Type 0 where
@@ -93,4 +92,4 @@ CheckOf name bytes outcome = (outcome ≡ Memory)
 -- The file was not read; or it was, and came to that, and none failed.
 abbrev pub CheckCameTo : List ℕ → FilesTold → Outcome → Type 0
 CheckCameTo name files outcome = IsStopped (λ other. other ≡ name) files outcome
-    ⊎ ((bytes : List ℕ) × IsRead SCHEMA_LIMIT (files.content name) bytes × CheckOf name bytes outcome × StayAll files.faults_before files.faults_after)
+    ⊎ ((bytes : List ℕ) × IsRead SCHEMA_LIMIT (files.content name) bytes × CheckOf name bytes outcome × NoFileFailed files)

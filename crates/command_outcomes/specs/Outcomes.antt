@@ -17,12 +17,16 @@ files_told content before after = record {
   faults_after = after;
 }
 
--- The file of one of these names was not read, and the count of its faults rose, and that of no other; or there was no memory,
--- and no count changed.
+-- No file failed: the count of each one's faults is as before.
+abbrev pub NoFileFailed : FilesTold → Type 0
+NoFileFailed files = StayAll files.faults_before files.faults_after
+
+-- The file of one of these names was not read, and the count of its faults rose, and that of no other name, but where one count
+-- stands for both; or there was no memory, and none failed.
 abbrev pub IsStopped : (List ℕ → Type 0) → FilesTold → Outcome → Type 0
 IsStopped IsName files (FileFailed name) =
     IsName name × Rose (files.faults_before name) (files.faults_after name) × ChangesAlone name files.faults_before files.faults_after
-IsStopped IsName files Memory = StayAll files.faults_before files.faults_after
+IsStopped IsName files Memory = NoFileFailed files
 IsStopped IsName files other = ⊥
 
 -- It was done with this output, or there was no memory.

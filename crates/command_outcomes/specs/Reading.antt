@@ -1,9 +1,8 @@
 -- What a read took of a file.
 use Rattle.std.specs.Prelude.{◌≡◌, ℕ, ◌+◌, ◌≤◌, ◌<◌, ◌⊎◌, List, Option, IfSome, IsUtf8, take, length}
-use Rattle.outside.specs.Faults.{StayAll}
 use Rattle.command_outcomes.specs.declared.outcome.Outcome.{Outcome}
 use Rattle.command_outcomes.specs.Texts.{too_large_text, not_text_text}
-use Rattle.command_outcomes.specs.Outcomes.{FilesTold, IsStopped, IsRefusedAs}
+use Rattle.command_outcomes.specs.Outcomes.{FilesTold, NoFileFailed, IsStopped, IsRefusedAs}
 
 -- these bytes were read: the file's content, or of a longer file its first `limit` + 1 bytes, where its content is told
 abbrev pub IsRead : ℕ → Option (List ℕ) → List ℕ → Type 0
@@ -30,4 +29,4 @@ IsNoText limit name bytes outcome = ((limit < length bytes) × IsRefusedAs (too_
 -- The file of this name was not read; or it holds no text within the limit, and no other file failed before that was told.
 abbrev pub HasNoText : ℕ → List ℕ → FilesTold → Outcome → Type 0
 HasNoText limit name files outcome = IsStopped (λ other. other ≡ name) files outcome
-    ⊎ ((bytes : List ℕ) × IsRead limit (files.content name) bytes × IsNoText limit name bytes outcome × StayAll files.faults_before files.faults_after)
+    ⊎ ((bytes : List ℕ) × IsRead limit (files.content name) bytes × IsNoText limit name bytes outcome × NoFileFailed files)

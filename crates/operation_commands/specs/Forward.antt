@@ -10,7 +10,7 @@ use Rattle.operation_commands.specs.declared.asked.AskedTexts.{AskedTexts}
 use Rattle.operation_commands.specs.declared.asking.Inputs.{Inputs}
 use Rattle.command_outcomes.specs.declared.outcome.Outcome.{Outcome}
 use Rattle.command_outcomes.specs.declared.outcome.Outcome.TheVariants.{Memory}
-use Rattle.command_outcomes.specs.Outcomes.{FilesTold, IsDone}
+use Rattle.command_outcomes.specs.Outcomes.{FilesTold, NoFileFailed, IsDone}
 use Rattle.operation_commands.specs.Asked.{HoldTexts, HaveNoTexts, HoldInputs, request_in, IsAskedRefused}
 
 -- The operation is accepted, and this is the text of the body that is sent for it.
@@ -25,6 +25,7 @@ ForwardOf asked texts outcome = (outcome ≡ Memory)
     ⊎ ((text : List ℕ) × IsSent asked texts text × IsDone text outcome)
     ⊎ IsAskedRefused asked texts outcome
 
--- The files hold no texts, or they do, and came to that.
+-- The files hold no texts; or they do, and came to that, and none failed.
 abbrev pub ForwardCameTo : Asked → FilesTold → Outcome → Type 0
-ForwardCameTo asked files outcome = HaveNoTexts asked files outcome ⊎ ((texts : AskedTexts) × HoldTexts asked files.content texts × ForwardOf asked texts outcome)
+ForwardCameTo asked files outcome = HaveNoTexts asked files outcome
+    ⊎ ((texts : AskedTexts) × HoldTexts asked files.content texts × ForwardOf asked texts outcome × NoFileFailed files)

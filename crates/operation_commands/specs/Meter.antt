@@ -13,7 +13,6 @@ use Rattle.response_meter.specs.declared.fault.MeterFault.{MeterFault}
 use Rattle.response_meter.specs.declared.fault.MeterFault.TheVariants.{NotResponse, SizeBroken, Memory as MeterMemory}
 use Rattle.response_meter.specs.Faults.{Tells}
 use Rattle.response_meter.specs.Metered.{IsMetered, first_fault_in}
-use Rattle.outside.specs.Faults.{StayAll}
 use Rattle.command_outcomes.specs.declared.limits.TheConstants.{REPLY_LIMIT}
 use Rattle.operation_commands.specs.declared.asked.AskedTexts.{AskedTexts}
 use Rattle.operation_commands.specs.declared.asking.Inputs.{Inputs}
@@ -23,7 +22,7 @@ use Rattle.command_outcomes.specs.declared.outcome.TheConstants.{SIZE_BROKEN, NO
 use Rattle.operation_commands.specs.ReplyTexts.{meter_text}
 use Rattle.command_outcomes.specs.Texts.{too_large_text}
 use Rattle.command_outcomes.specs.Reading.{IsRead}
-use Rattle.command_outcomes.specs.Outcomes.{FilesTold, IsStopped, IsDone, IsRefusedAs, IsFaultyAs}
+use Rattle.command_outcomes.specs.Outcomes.{FilesTold, NoFileFailed, IsStopped, IsDone, IsRefusedAs, IsFaultyAs}
 use Rattle.operation_commands.specs.Asked.{HoldTexts, HoldOperation, HaveNoOperation, HasNoVariables, HoldInputs, request_in, IsAskedRefused}
 
 -- ---- the files
@@ -39,7 +38,7 @@ HoldsReply content = (bytes : List ℕ) × IsReply content bytes
 abbrev pub HasNoReply : List ℕ → FilesTold → Outcome → Type 0
 HasNoReply name files outcome = IsStopped (λ other. other ≡ name) files outcome
     ⊎ ((bytes : List ℕ) × IsRead REPLY_LIMIT (files.content name) bytes × (REPLY_LIMIT < length bytes) × IsRefusedAs (too_large_text name) outcome
-    × StayAll files.faults_before files.faults_after)
+    × NoFileFailed files)
 
 -- The first of the files that was not read, or doesn't hold what it must: the schema, the document, the reply, the variables.
 abbrev pub HaveNoMetering : Asked → List ℕ → FilesTold → Outcome → Type 0
@@ -95,8 +94,9 @@ MeterOfAccepted asked texts reply outcome = OfAccepted asked texts (λ plan alia
 abbrev pub MeterOf : Asked → AskedTexts → List ℕ → Outcome → Type 0
 MeterOf asked texts reply outcome = (outcome ≡ Memory) ⊎ MeterOfAccepted asked texts reply outcome ⊎ IsAskedRefused asked texts outcome
 
--- The files don't hold what they must, or they do, and came to that. So a reply that is too large is told before anything of the
--- operation.
+-- The files don't hold what they must; or they do, and came to that, and none failed. So a reply that is too large is told before
+-- anything of the operation.
 abbrev pub MeterCameTo : Asked → List ℕ → FilesTold → Outcome → Type 0
 MeterCameTo asked reply files outcome = HaveNoMetering asked reply files outcome
-    ⊎ ((texts : AskedTexts) × (bytes : List ℕ) × HoldTexts asked files.content texts × IsReply (files.content reply) bytes × MeterOf asked texts bytes outcome)
+    ⊎ ((texts : AskedTexts) × (bytes : List ℕ) × HoldTexts asked files.content texts × IsReply (files.content reply) bytes × MeterOf asked texts bytes outcome
+    × NoFileFailed files)

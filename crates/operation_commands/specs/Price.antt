@@ -9,7 +9,7 @@ use Rattle.operation_commands.specs.declared.asked.AskedTexts.{AskedTexts}
 use Rattle.operation_commands.specs.declared.asking.Inputs.{Inputs}
 use Rattle.command_outcomes.specs.declared.outcome.Outcome.{Outcome}
 use Rattle.command_outcomes.specs.declared.outcome.Outcome.TheVariants.{Memory}
-use Rattle.command_outcomes.specs.Outcomes.{FilesTold, IsDone}
+use Rattle.command_outcomes.specs.Outcomes.{FilesTold, NoFileFailed, IsDone}
 use Rattle.operation_commands.specs.Asked.{HoldTexts, HaveNoTexts, HoldInputs, request_in, IsAskedRefused}
 
 -- The operation of the texts is accepted with this bound.
@@ -22,6 +22,7 @@ PriceOf asked texts outcome = (outcome ≡ Memory)
     ⊎ ((cost : Cost) × HasPrice asked texts cost × IsDone (cost_text cost) outcome)
     ⊎ IsAskedRefused asked texts outcome
 
--- The files hold no texts, or they do, and came to that.
+-- The files hold no texts; or they do, and came to that, and none failed.
 abbrev pub PriceCameTo : Asked → FilesTold → Outcome → Type 0
-PriceCameTo asked files outcome = HaveNoTexts asked files outcome ⊎ ((texts : AskedTexts) × HoldTexts asked files.content texts × PriceOf asked texts outcome)
+PriceCameTo asked files outcome = HaveNoTexts asked files outcome
+    ⊎ ((texts : AskedTexts) × HoldTexts asked files.content texts × PriceOf asked texts outcome × NoFileFailed files)

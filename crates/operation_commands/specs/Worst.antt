@@ -18,7 +18,7 @@ use Rattle.operation_commands.specs.declared.asked.AskedTexts.{AskedTexts}
 use Rattle.operation_commands.specs.declared.asking.Inputs.{Inputs}
 use Rattle.command_outcomes.specs.declared.outcome.Outcome.{Outcome}
 use Rattle.command_outcomes.specs.declared.outcome.Outcome.TheVariants.{Memory}
-use Rattle.command_outcomes.specs.Outcomes.{FilesTold, IsDone, IsRefusedAs}
+use Rattle.command_outcomes.specs.Outcomes.{FilesTold, NoFileFailed, IsDone, IsRefusedAs}
 use Rattle.operation_commands.specs.Asked.{HoldTexts, HaveNoTexts, HoldInputs, request_in, IsAskedRefused}
 
 -- The operation of the texts is accepted, and this holds of its plan.
@@ -51,6 +51,7 @@ WorstOfAccepted asked part texts outcome = (inputs : Inputs) × HoldInputs asked
 abbrev pub WorstOf : Asked → Part → AskedTexts → Outcome → Type 0
 WorstOf asked part texts outcome = (outcome ≡ Memory) ⊎ WorstOfAccepted asked part texts outcome ⊎ IsAskedRefused asked texts outcome
 
--- The files hold no texts, or they do, and came to that.
+-- The files hold no texts; or they do, and came to that, and none failed.
 abbrev pub WorstCameTo : Asked → Part → FilesTold → Outcome → Type 0
-WorstCameTo asked part files outcome = HaveNoTexts asked files outcome ⊎ ((texts : AskedTexts) × HoldTexts asked files.content texts × WorstOf asked part texts outcome)
+WorstCameTo asked part files outcome = HaveNoTexts asked files outcome
+    ⊎ ((texts : AskedTexts) × HoldTexts asked files.content texts × WorstOf asked part texts outcome × NoFileFailed files)

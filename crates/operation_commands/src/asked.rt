@@ -79,6 +79,7 @@ pub fn read_asked<F: Files>(
     files: &mut F,
 ) -> Result<AskedTexts, Outcome>
     ensures held { IfOk result (HoldTexts asked.now (F.content files.old)) }
+    ensures still { OnOk result (StayAll (F.faults files.old) (F.faults files.new)) }
     ensures none { IfErr result (HaveNoTexts asked.now (files_told (F.content files.old) (F.faults files.old) (F.faults files.new))) }
 {
     let OperationTexts { schema, document } = match read_operation(alloc, asked, files) {

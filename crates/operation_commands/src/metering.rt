@@ -59,6 +59,7 @@ fn read_metering<F: Files>(
 ) -> Result<Metering, Outcome>
     ensures texts { IfOk result (λ read. HoldTexts asked.now (F.content files.old) read.texts) }
     ensures reply { IfOk result (λ read. IsReply (F.content files.old reply.now) read.reply.items) }
+    ensures still { OnOk result (StayAll (F.faults files.old) (F.faults files.new)) }
     ensures none { IfErr result (HaveNoMetering asked.now reply.now (files_told (F.content files.old) (F.faults files.old) (F.faults files.new))) }
 {
     let OperationTexts { schema, document } = match read_operation(alloc, asked, files) {
