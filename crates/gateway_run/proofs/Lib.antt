@@ -1,3 +1,4 @@
 mod Statuses
 mod WordEnds
 mod Services
+mod ReadFiles

@@ -196,8 +196,8 @@ metering_answer asked reply files outcome (inr (inl none)) = no_reply_answer (Is
 metering_answer asked reply files outcome (inr (inr none)) = no_variables_answer (IsFileOf (Meter asked reply)) files asked.variables outcome (λ own same. inl (inr (inr same))) none.2
 
 answers : (command : Command) (files : FilesTold) (outcome : Outcome) → AnswerCameTo command files outcome → IsAnswer (IsFileOf command) files outcome
-answers Help files outcome done = done_answer (IsFileOf Help) files _ outcome done
-answers Version files outcome done = done_answer (IsFileOf Version) files _ outcome done
+answers Help files outcome done = done_answer (IsFileOf Help) files _ outcome done.0
+answers Version files outcome done = done_answer (IsFileOf Version) files _ outcome done.0
 answers (Check schema) files outcome (inl stopped) = stopped_answer (IsFileOf (Check schema)) files schema outcome refl stopped
 answers (Check schema) files outcome (inr read) = check_answer (IsFileOf (Check schema)) files schema read.0 outcome read.2
 answers (Price asked) files outcome (inl none) = asked_answer asked files outcome none
@@ -210,7 +210,7 @@ answers (Meter asked reply) files outcome (inl none) = metering_answer asked rep
 answers (Meter asked reply) files outcome (inr read) = meter_answer (IsFileOf (Meter asked reply)) files asked read.0 read.1 outcome read.4
 answers (Replay asked) files outcome (inl none) = no_replay_answer (IsReplayFile asked) files asked outcome (λ name is. is) none
 answers (Replay asked) files outcome (inr read) = replay_answer (IsReplayFile asked) files asked.schema read.0 asked.undeclared outcome read.2
-answers (Exercise requests) files outcome came_to = exercise_answer (IsFileOf (Exercise requests)) files requests outcome came_to
+answers (Exercise requests) files outcome came_to = exercise_answer (IsFileOf (Exercise requests)) files requests outcome came_to.0
 answers (Migrate clients) files outcome (inl none) = no_text_answer (IsFileOf (Migrate clients)) files CLIENTS_LIMIT clients outcome refl none
 answers (Migrate clients) files outcome (inr read) = migrate_answer (IsFileOf (Migrate clients)) files read.0 outcome read.2
 answers (Serve asked) files outcome none = absurd none

@@ -4,10 +4,10 @@ use Rattle.command_words.specs.declared.command.WordsFault.{WordsFault}
 use Rattle.command_words.specs.declared.command.WordsFault.TheVariants.{Usage, Memory}
 use Rattle.command_words.specs.Words.{IsNoCommand}
 use Rattle.command_outcomes.specs.declared.outcome.Outcome.{Outcome}
-use Rattle.command_outcomes.specs.Outcomes.{FilesTold}
+use Rattle.command_outcomes.specs.Outcomes.{FilesTold, NoFileFailed}
 use Rattle.gateway_run.specs.Serve.{DoorsCall, AreUntouched}
 use Rattle.gateway_run.specs.Program.{no_command, ComeTo}
 
-pub unread : (words : List (List ℕ)) (files : FilesTold) (doors : DoorsCall) (fault : WordsFault) (outcome : Outcome) → (fault ≡ Usage → IsNoCommand words) → outcome ≡ no_command fault → AreUntouched doors → ComeTo words files doors outcome
-unread words files doors Usage outcome none same still = inr (inl (none refl, same, still))
-unread words files doors Memory outcome none same still = inr (inr (same, still))
+pub unread : (words : List (List ℕ)) (files : FilesTold) (doors : DoorsCall) (fault : WordsFault) (outcome : Outcome) → (fault ≡ Usage → IsNoCommand words) → outcome ≡ no_command fault → NoFileFailed files → AreUntouched doors → ComeTo words files doors outcome
+unread words files doors Usage outcome none same read still = inr (inl (none refl, same, read, still))
+unread words files doors Memory outcome none same read still = inr (inr (same, read, still))

@@ -16,12 +16,12 @@ pub record StreamTold : Type 0 where
   pub faults_before : ℕ
   pub faults_after : ℕ
 
-abbrev pub stream_told : Option (List ℕ) → Option (List ℕ) → ℕ → ℕ → StreamTold
-stream_told before after faults_before faults_after = record {
-  before = before;
-  after = after;
-  faults_before = faults_before;
-  faults_after = faults_after;
+abbrev pub stream_told : {K : Type 0} → (K → Option (List ℕ)) → (K → ℕ) → K → K → StreamTold
+stream_told written faults before now = record {
+  before = written before;
+  after = written now;
+  faults_before = faults before;
+  faults_after = faults now;
 }
 
 -- Just this was written on the stream.

@@ -1,5 +1,5 @@
 -- What the program does.
-use Rattle.std.specs.Prelude.{◌≡◌, ◌⊎◌, ℕ, List, Some, Vec, true, false}
+use Rattle.std.specs.Prelude.{◌≡◌, ◌⊎◌, ℕ, List, Option, Some, Vec, true, false}
 use Rattle.std.specs.declared.alloc.Global.{Global}
 use Rattle.command_words.specs.declared.command.Command.{Command}
 use Rattle.command_words.specs.declared.command.Command.TheVariants.{Help, Version, Check, Price, Worst, Forward, Meter, Replay, Serve, Exercise, Migrate}
@@ -14,7 +14,7 @@ use Rattle.command_words.specs.Words.{Asks, IsNoCommand}
 use Rattle.gateway_run.specs.declared.finish.TheConstants.{USAGE_TEXT, VERSION_TEXT, DOOR_TEXT}
 use Rattle.outside.specs.Faults.{Rose}
 use Rattle.command_outcomes.specs.Texts.{line, file_text}
-use Rattle.command_outcomes.specs.Outcomes.{FilesTold, IsDone}
+use Rattle.command_outcomes.specs.Outcomes.{FilesTold, files_told, NoFileFailed, IsDone}
 use Rattle.gateway_run.specs.Endings.{StreamTold, Gains, IsKept, HasFailed, FailsAmid, Ends}
 use Rattle.command_outcomes.specs.Check.{CheckCameTo}
 use Rattle.operation_commands.specs.Price.{PriceCameTo}
@@ -26,17 +26,17 @@ use Rattle.gateway_run.specs.Serve.{DoorsCall, AreUntouched, ServeCameTo}
 use Rattle.account_commands.specs.Exercise.{ExerciseCameTo}
 use Rattle.account_commands.specs.Migrate.{MigrateCameTo}
 
--- what a command that serves nothing came to
+-- What a command that serves nothing came to. One that names no file reads none.
 abbrev pub AnswerCameTo : Command → FilesTold → Outcome → Type 0
-AnswerCameTo Help files outcome = IsDone USAGE_TEXT.now outcome
-AnswerCameTo Version files outcome = IsDone VERSION_TEXT.now outcome
+AnswerCameTo Help files outcome = IsDone USAGE_TEXT.now outcome × NoFileFailed files
+AnswerCameTo Version files outcome = IsDone VERSION_TEXT.now outcome × NoFileFailed files
 AnswerCameTo (Check schema) files outcome = CheckCameTo schema files outcome
 AnswerCameTo (Price asked) files outcome = PriceCameTo asked files outcome
 AnswerCameTo (Worst asked part) files outcome = WorstCameTo asked part files outcome
 AnswerCameTo (Forward asked) files outcome = ForwardCameTo asked files outcome
 AnswerCameTo (Meter asked reply) files outcome = MeterCameTo asked reply files outcome
 AnswerCameTo (Replay asked) files outcome = ReplayCameTo asked files outcome
-AnswerCameTo (Exercise requests) files outcome = ExerciseCameTo requests outcome
+AnswerCameTo (Exercise requests) files outcome = ExerciseCameTo requests outcome × NoFileFailed files
 AnswerCameTo (Migrate clients) files outcome = MigrateCameTo clients files outcome
 AnswerCameTo (Serve asked) files outcome = ⊥
 
@@ -57,12 +57,20 @@ IsCommandOf words files doors outcome = (command : Command) × Asks words comman
 -- What words came to: those of a command, what it came to; those of none, a wrong use; or there was no memory for them.
 abbrev pub ComeTo : List (List ℕ) → FilesTold → DoorsCall → Outcome → Type 0
 ComeTo words files doors outcome = IsCommandOf words files doors outcome
-    ⊎ (IsNoCommand words × (outcome ≡ Usage) × AreUntouched doors)
-    ⊎ ((outcome ≡ Memory) × AreUntouched doors)
+    ⊎ (IsNoCommand words × (outcome ≡ Usage) × NoFileFailed files × AreUntouched doors)
+    ⊎ ((outcome ≡ Memory) × NoFileFailed files × AreUntouched doors)
+
+-- What the files tell of a call.
+abbrev pub files_call : {F : Type 0} → (F → List ℕ → Option (List ℕ)) → (F → List ℕ → ℕ) → F → F → FilesTold
+files_call content faults before now = files_told (content before) (faults before) (faults now)
 
 -- What words came to was written, and the status is its own.
 abbrev pub Runs : List (List ℕ) → ℕ → FilesTold → DoorsCall → StreamTold → StreamTold → Type 0
 Runs words status files doors out err = (outcome : Outcome) × ComeTo words files doors outcome × Ends outcome status out err
+
+-- Of every run that ends with this status that holds.
+abbrev pub EveryRunWith : ℕ → (List (List ℕ) → FilesTold → DoorsCall → StreamTold → StreamTold → Type 0) → Type 0
+EveryRunWith status Holds = (words : List (List ℕ)) (files : FilesTold) (doors : DoorsCall) (out err : StreamTold) → Runs words status files doors out err → Holds words files doors out err
 
 -- The names of an operation's files.
 abbrev pub IsAskedFile : Asked → List ℕ → Type 0

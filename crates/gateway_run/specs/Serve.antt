@@ -14,7 +14,7 @@ use Rattle.account_commands.specs.declared.rule_texts.RuleTexts.{RuleTexts}
 use Rattle.account_commands.specs.declared.rule_inputs.RuleInputs.{RuleInputs}
 use Rattle.command_outcomes.specs.declared.outcome.Outcome.{Outcome}
 use Rattle.command_outcomes.specs.declared.outcome.Outcome.TheVariants.{Served, NotStarted, Memory}
-use Rattle.command_outcomes.specs.Outcomes.{FilesTold}
+use Rattle.command_outcomes.specs.Outcomes.{FilesTold, NoFileFailed}
 use Rattle.account_commands.specs.RuleFiles.{HaveNoRules, HoldRuleTexts, HoldRules, rules_in, AreRulesRefused}
 use Rattle.account_commands.specs.Replay.{client_lines}
 
@@ -75,7 +75,8 @@ ServeOf asked texts doors outcome = ((outcome ≡ Memory) × AreUntouched doors)
     ⊎ ((inputs : RuleInputs) × HoldRules texts asked.undeclared inputs
     × ((result : Result ServeEnd ServeFault) × ServesTo asked inputs doors result × IsTold result outcome))
 
--- The files hold no texts, or they do, and came to that.
+-- The files hold no texts; or they do, and came to that, and none failed.
 abbrev pub ServeCameTo : AskedServe → FilesTold → DoorsCall → Outcome → Type 0
 ServeCameTo asked files doors outcome = (HaveNoRules asked.schema asked.clients files outcome × AreUntouched doors)
-    ⊎ ((texts : RuleTexts) × HoldRuleTexts asked.schema asked.clients files.content texts × ServeOf asked texts doors outcome)
+    ⊎ ((texts : RuleTexts) × HoldRuleTexts asked.schema asked.clients files.content texts × ServeOf asked texts doors outcome
+    × NoFileFailed files)

@@ -5,7 +5,7 @@ ghost use Rattle.command_words.specs.Words.{ServesWithinLimits};
 ghost use Rattle.command_outcomes.specs.Outcomes.{files_told, IsDone};
 ghost use Rattle.gateway_run.specs.Endings.{stream_told, Ends};
 ghost use Rattle.gateway_run.specs.Serve.{doors_call};
-ghost use Rattle.gateway_run.specs.Program.{no_command, CommandCameTo, ComeTo, Runs};
+ghost use Rattle.gateway_run.specs.Program.{files_call, no_command, CommandCameTo, ComeTo, Runs};
 
 use crate::finish::{USAGE_TEXT, VERSION_TEXT, finish};
 use crate::serving::serve;
@@ -98,10 +98,10 @@ pub fn run<Rt: Threads + Wait + Sync, F: Files, D: Doors, K: Sink, E: Sink>(
     err: &mut E,
 ) -> u8
     requires idle { D.running doors.old ≡ 0 }
-    ensures { Runs words.now result (files_told (F.content files.old) (F.faults files.old) (F.faults files.new))
+    ensures { Runs words.now result (files_call F.content F.faults files.old files.new)
         (doors_call D.faults D.asked D.running D.stopped doors.old doors.new)
-        (stream_told (K.written out.old) (K.written out.new) (K.faults out.old) (K.faults out.new))
-        (stream_told (E.written err.old) (E.written err.new) (E.faults err.old) (E.faults err.new)) }
+        (stream_told K.written K.faults out.old out.new)
+        (stream_told E.written E.faults err.old err.new) }
 {
     let outcome = answer_words(alloc, rt, words, files, doors);
     finish(outcome, out, err)
@@ -109,8 +109,8 @@ pub fn run<Rt: Threads + Wait + Sync, F: Files, D: Doors, K: Sink, E: Sink>(
 
 /// Ends without a command, and gives the status: that of a wrong use, or that of want of memory.
 pub fn end_without_command<K: Sink, E: Sink>(fault: WordsFault, out: &mut K, err: &mut E) -> u8
-    ensures { Ends (no_command fault) result (stream_told (K.written out.old) (K.written out.new) (K.faults out.old) (K.faults out.new))
-        (stream_told (E.written err.old) (E.written err.new) (E.faults err.old) (E.faults err.new)) }
+    ensures { Ends (no_command fault) result (stream_told K.written K.faults out.old out.new)
+        (stream_told E.written E.faults err.old err.new) }
 {
     finish(no_outcome(fault), out, err)
 }

@@ -9,4 +9,4 @@ pub returns-in-Err : goal.returns-in-Err
 returns-in-Err g c =
     unread c.args.words.now (files_told (g.F.Files.content c.args.files.now) (g.F.Files.faults c.args.files.now) (g.F.Files.faults c.args.files.now))
     (doors_call g.D.Doors.faults g.D.Doors.asked g.D.Doors.running g.D.Doors.stopped c.args.doors.now c.args.doors.now) c.in-Err.fault c.no_outcome.result
-    (λ same. c.in-Err.ensures.usage (ap Err same)) c.no_outcome.ensures refl
+    (λ same. c.in-Err.ensures.usage (ap Err same)) c.no_outcome.ensures (λ name. refl) refl

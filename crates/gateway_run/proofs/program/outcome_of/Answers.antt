@@ -45,7 +45,7 @@ pub returns-in-Exercise : goal.returns-in-Exercise
 returns-in-Exercise g c =
     subst (λ command. CommandCameTo command (files_told (g.F.Files.content c.args.files.now) (g.F.Files.faults c.args.files.now) (g.F.Files.faults c.args.files.now))
     (doors_call g.D.Doors.faults g.D.Doors.asked g.D.Doors.running g.D.Doors.stopped c.args.doors.now c.args.doors.now) c.exercise.result)
-    (sym c.in-Exercise.is) (c.exercise.ensures, refl)
+    (sym c.in-Exercise.is) ((c.exercise.ensures, λ name. refl), refl)
 
 pub returns-in-Migrate : goal.returns-in-Migrate
 returns-in-Migrate g c =

@@ -1,0 +1,127 @@
+-- A file that failed is told as such, and in no other way.
+use Rattle.std.proofs.Common.{◌≡◌, ◌≢◌, inl, inr, subst, ℕ, List, Option, None, Some}
+use Rattle.command_outcomes.specs.declared.outcome.Outcome.{Outcome}
+use Rattle.command_outcomes.specs.declared.outcome.Outcome.TheVariants.{Done, Refused, FileFailed, Faulty, Served, NotStarted, Usage, Memory}
+use Rattle.command_outcomes.specs.declared.outcome.TheConstants.{FILE_FAILED}
+use Rattle.command_outcomes.specs.Outcomes.{FilesTold, NoFileFailed, IsStopped}
+use Rattle.command_outcomes.specs.Reading.{HasNoText}
+use Rattle.command_words.specs.declared.command.Command.{Command}
+use Rattle.command_words.specs.declared.command.Command.TheVariants.{Help, Version, Check, Price, Worst, Forward, Meter, Replay, Serve, Exercise, Migrate}
+use Rattle.command_words.specs.declared.command.Asked.{Asked}
+use Rattle.command_words.specs.declared.command.AskedReplay.{AskedReplay}
+use Rattle.operation_commands.specs.Asked.{HasNoVariables, HaveNoOperation, HaveNoTexts}
+use Rattle.operation_commands.specs.Meter.{HasNoReply, HaveNoMetering}
+use Rattle.account_commands.specs.RuleFiles.{HaveNoRules}
+use Rattle.account_commands.specs.Replay.{HaveNoReplay}
+use Rattle.gateway_run.specs.Endings.{StreamTold, Ends}
+use Rattle.gateway_run.specs.Serve.{DoorsCall}
+use Rattle.gateway_run.specs.Program.{AnswerCameTo, CommandCameTo, ComeTo}
+
+-- A file is named, or none failed.
+abbrev NamesOne : FilesTold → Outcome → Type 0
+NamesOne files (FileFailed name) = Unit {0}
+NamesOne files other = NoFileFailed files
+
+module _ (files : FilesTold) where
+  none_failed : (outcome : Outcome) → NoFileFailed files → NamesOne files outcome
+  none_failed (Done output) still = still
+  none_failed (Refused text) still = still
+  none_failed (FileFailed name) still = tt
+  none_failed (Faulty status text) still = still
+  none_failed (Served lines failed) still = still
+  none_failed NotStarted still = still
+  none_failed Usage still = still
+  none_failed Memory still = still
+
+  stopped : (IsName : List ℕ → Type 0) (outcome : Outcome) → IsStopped IsName files outcome → NamesOne files outcome
+  stopped IsName (Done output) by = absurd by
+  stopped IsName (Refused text) by = absurd by
+  stopped IsName (FileFailed name) by = tt
+  stopped IsName (Faulty status text) by = absurd by
+  stopped IsName (Served lines failed) by = absurd by
+  stopped IsName NotStarted by = absurd by
+  stopped IsName Usage by = absurd by
+  stopped IsName Memory by = by
+
+  no_text : (limit : ℕ) (name : List ℕ) (outcome : Outcome) → HasNoText limit name files outcome → NamesOne files outcome
+  no_text limit name outcome (inl by) = stopped (λ other. other ≡ name) outcome by
+  no_text limit name outcome (inr read) = none_failed outcome read.3
+
+  no_variables : (name : Option (List ℕ)) (outcome : Outcome) → HasNoVariables name files outcome → NamesOne files outcome
+  no_variables None outcome none = absurd none
+  no_variables (Some name) outcome none = no_text _ name outcome none
+
+  no_operation : (asked : Asked) (outcome : Outcome) → HaveNoOperation asked files outcome → NamesOne files outcome
+  no_operation asked outcome (inl none) = no_text _ asked.schema outcome none
+  no_operation asked outcome (inr none) = no_text _ asked.document outcome none.1
+
+  no_texts : (asked : Asked) (outcome : Outcome) → HaveNoTexts asked files outcome → NamesOne files outcome
+  no_texts asked outcome (inl none) = no_operation asked outcome none
+  no_texts asked outcome (inr none) = no_variables asked.variables outcome none.1
+
+  no_reply : (name : List ℕ) (outcome : Outcome) → HasNoReply name files outcome → NamesOne files outcome
+  no_reply name outcome (inl by) = stopped (λ other. other ≡ name) outcome by
+  no_reply name outcome (inr large) = none_failed outcome large.4
+
+  no_metering : (asked : Asked) (reply : List ℕ) (outcome : Outcome) → HaveNoMetering asked reply files outcome → NamesOne files outcome
+  no_metering asked reply outcome (inl none) = no_operation asked outcome none
+  no_metering asked reply outcome (inr (inl none)) = no_reply reply outcome none.1
+  no_metering asked reply outcome (inr (inr none)) = no_variables asked.variables outcome none.2
+
+  no_rules : (schema clients : List ℕ) (outcome : Outcome) → HaveNoRules schema clients files outcome → NamesOne files outcome
+  no_rules schema clients outcome (inl none) = no_text _ schema outcome none
+  no_rules schema clients outcome (inr none) = no_text _ clients outcome none.1
+
+  no_replay : (asked : AskedReplay) (outcome : Outcome) → HaveNoReplay asked files outcome → NamesOne files outcome
+  no_replay asked outcome (inl none) = no_rules asked.schema asked.clients outcome none
+  no_replay asked outcome (inr none) = no_text _ asked.script outcome none.1
+
+  answer : (command : Command) (outcome : Outcome) → AnswerCameTo command files outcome → NamesOne files outcome
+  answer Help outcome came = none_failed outcome came.1
+  answer Version outcome came = none_failed outcome came.1
+  answer (Check schema) outcome (inl by) = stopped (λ other. other ≡ schema) outcome by
+  answer (Check schema) outcome (inr read) = none_failed outcome read.3
+  answer (Price asked) outcome (inl none) = no_texts asked outcome none
+  answer (Price asked) outcome (inr read) = none_failed outcome read.3
+  answer (Worst asked part) outcome (inl none) = no_texts asked outcome none
+  answer (Worst asked part) outcome (inr read) = none_failed outcome read.3
+  answer (Forward asked) outcome (inl none) = no_texts asked outcome none
+  answer (Forward asked) outcome (inr read) = none_failed outcome read.3
+  answer (Meter asked reply) outcome (inl none) = no_metering asked reply outcome none
+  answer (Meter asked reply) outcome (inr read) = none_failed outcome read.5
+  answer (Replay asked) outcome (inl none) = no_replay asked outcome none
+  answer (Replay asked) outcome (inr read) = none_failed outcome read.3
+  answer (Exercise requests) outcome came = none_failed outcome came.1
+  answer (Migrate clients) outcome (inl none) = no_text _ clients outcome none
+  answer (Migrate clients) outcome (inr read) = none_failed outcome read.3
+  answer (Serve asked) outcome none = absurd none
+
+  came : (command : Command) (doors : DoorsCall) (outcome : Outcome) → CommandCameTo command files doors outcome → NamesOne files outcome
+  came Help doors outcome came_to = answer Help outcome came_to.0
+  came Version doors outcome came_to = answer Version outcome came_to.0
+  came (Check schema) doors outcome came_to = answer (Check schema) outcome came_to.0
+  came (Price asked) doors outcome came_to = answer (Price asked) outcome came_to.0
+  came (Worst asked part) doors outcome came_to = answer (Worst asked part) outcome came_to.0
+  came (Forward asked) doors outcome came_to = answer (Forward asked) outcome came_to.0
+  came (Meter asked reply) doors outcome came_to = answer (Meter asked reply) outcome came_to.0
+  came (Replay asked) doors outcome came_to = answer (Replay asked) outcome came_to.0
+  came (Exercise requests) doors outcome came_to = answer (Exercise requests) outcome came_to.0
+  came (Migrate clients) doors outcome came_to = answer (Migrate clients) outcome came_to.0
+  came (Serve asked) doors outcome (inl none) = no_rules asked.schema asked.clients outcome none.0
+  came (Serve asked) doors outcome (inr read) = none_failed outcome read.3
+
+  come : (words : List (List ℕ)) (doors : DoorsCall) (outcome : Outcome) → ComeTo words files doors outcome → NamesOne files outcome
+  come words doors outcome (inl of_command) = came of_command.0 doors outcome of_command.2
+  come words doors outcome (inr (inl none)) = none_failed outcome none.2
+  come words doors outcome (inr (inr memory)) = none_failed outcome memory.1
+
+-- With another status than that of a file none failed.
+pub all_read : (words : List (List ℕ)) (files : FilesTold) (doors : DoorsCall) (status : ℕ) (out err : StreamTold) (outcome : Outcome) → status ≢ FILE_FAILED → ComeTo words files doors outcome → Ends outcome status out err → NoFileFailed files
+all_read words files doors status out err (Done output) other came_to ends = come files words doors (Done output) came_to
+all_read words files doors status out err (Refused text) other came_to ends = come files words doors (Refused text) came_to
+all_read words files doors status out err (FileFailed name) other came_to ends = absurd (other ends.1.0)
+all_read words files doors status out err (Faulty number text) other came_to ends = come files words doors (Faulty number text) came_to
+all_read words files doors status out err (Served lines failed) other came_to ends = come files words doors (Served lines failed) came_to
+all_read words files doors status out err NotStarted other came_to ends = come files words doors NotStarted came_to
+all_read words files doors status out err Usage other came_to ends = come files words doors Usage came_to
+all_read words files doors status out err Memory other came_to ends = come files words doors Memory came_to
