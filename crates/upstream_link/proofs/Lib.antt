@@ -8,3 +8,4 @@ pub mod Later
 pub mod OneReply
 pub mod NoFault
 pub mod OneFault
+pub mod Either

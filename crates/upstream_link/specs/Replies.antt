@@ -1,5 +1,5 @@
 -- A reply of the upstream at the front of bytes, or its first fault.
-use Rattle.std.specs.Prelude.{◌≡◌, ℕ, ◌⊎◌, Bool, List, Result, Ok, Err, ⊤}
+use Rattle.std.specs.Prelude.{◌≡◌, ◌≢◌, ℕ, ◌⊎◌, Bool, false, List, Result, Ok, Err, ⊤}
 use Rattle.httparse.specs.Grammar.{ResponseHead, status_code}
 use Rattle.upstream_link.specs.declared.fault.LinkFault.{LinkFault}
 use Rattle.upstream_link.specs.declared.fault.LinkFault.TheVariants as fault
@@ -17,14 +17,34 @@ HasBody h r after ended = (f : Framing) × (framing_of h ≡ Ok f) × BodyIs f r
 abbrev pub BodyFails : ResponseHead → LinkFault → List ℕ → Bool → Type 0
 BodyFails h f after ended = (framing_of h ≡ Err f) ⊎ HasBody h (Err f) after ended
 
+-- a whole reply of this status and with this body stands at the front of the bytes
+abbrev pub BeginsWithReply : ℕ → List ℕ → List ℕ → Bool → Type 0
+BeginsWithReply status body bytes ended =
+    (here : List ℕ) × (h : ResponseHead) × ReplyHeadAt bytes here h × (status ≡ status_code h) × HasBody h (Ok body) (after_head h here) ended
+
 -- the reply at the front of the bytes, or its first fault
 abbrev pub ReplyOf : Result UpstreamReply LinkFault → List ℕ → Bool → Type 0
-ReplyOf (Ok reply) bytes ended =
-    (here : List ℕ) × (h : ResponseHead) × ReplyHeadAt bytes here h × (reply.status ≡ status_code h) × HasBody h (Ok reply.body.items) (after_head h here) ended
+ReplyOf (Ok reply) bytes ended = BeginsWithReply reply.status reply.body.items bytes ended
 ReplyOf (Err f) bytes ended =
     ReplyHeadFails f bytes ended ⊎ ((here : List ℕ) × (h : ResponseHead) × ReplyHeadAt bytes here h × BodyFails h f (after_head h here) ended)
 
--- ---- one fault
+-- ---- one answer
+
+-- a whole reply stands at the front
+abbrev pub HoldsReply : List ℕ → Bool → Type 0
+HoldsReply bytes ended = (status : ℕ) × (body : List ℕ) × BeginsWithReply status body bytes ended
+
+-- it is neither that a transfer failed nor want of memory
+abbrev pub IsOfBytes : LinkFault → Type 0
+IsOfBytes f = (f ≢ fault.Failed) × (f ≢ fault.Memory)
+
+-- the bytes have a fault that is one of theirs
+abbrev pub HoldsFault : List ℕ → Bool → Type 0
+HoldsFault bytes ended = (f : LinkFault) × ReplyOf (Err f) bytes ended × IsOfBytes f
+
+-- Whether there is a reply takes more bytes, or the end of them: just where a transfer that fails is the first fault.
+abbrev pub IsUndecided : List ℕ → Type 0
+IsUndecided bytes = ReplyOf (Err fault.Failed) bytes false
 
 -- it is told before a whole head stands there
 abbrev pub IsBeforeHead : LinkFault → Type 0

@@ -111,3 +111,14 @@ pub record ReplyHeadIs (new : List ℕ) (head : Head) (bytes : List ℕ) (ended 
 abbrev pub ReplyHeadSays : List ℕ → Result Head LinkFault → List ℕ → Bool → Type 0
 ReplyHeadSays new (Ok head) bytes ended = ReplyHeadIs new head bytes ended
 ReplyHeadSays new (Err f) bytes ended = ReplyHeadFails f bytes ended
+
+-- ---- both, at each place
+
+-- what stands at the front of these bytes was looked at, for a head and for a size line
+abbrev pub IsSeen : List ℕ → Type 0
+IsSeen here =
+    ((r : Result (Option Head) LinkFault) × HeadLookSays here r) × ((r : Result (Option (ℕ × ℕ)) LinkFault) × LookSays here r)
+
+-- and so behind each of them
+abbrev pub AreSeen : List ℕ → Type 0
+AreSeen bytes = (at : ℕ) → at ≤ length bytes → IsSeen (drop at bytes)

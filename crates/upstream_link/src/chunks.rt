@@ -27,7 +27,7 @@ pub(crate) fn room_of(bytes: &[u8]) -> &[u8]
 }
 
 /// The length of the size line at the front and the size, or nothing where more bytes are needed.
-fn look_at(bytes: &[u8]) -> Result<Option<(usize, u64)>, LinkFault>
+pub(crate) fn look_at(bytes: &[u8]) -> Result<Option<(usize, u64)>, LinkFault>
     ensures exact { LookSays bytes.now result }
     ensures within { IfOk result (λ found. IfSome found (λ line. line.0 ≤ length bytes.now)) }
     ensures short { IfOk result (λ found. IfSome found (λ line. line.0 ≤ 16384)) }
@@ -106,7 +106,7 @@ fn next_state(state: u8, byte: u8) -> u8
     }
 }
 
-fn after(bytes: &[u8], count: usize) -> &[u8]
+pub(crate) fn after(bytes: &[u8], count: usize) -> &[u8]
     requires { count ≤ length bytes.now }
     ensures { result.now ≡ drop count bytes.now }
 {

@@ -45,7 +45,7 @@ fn framing_at(
 }
 
 /// The head at the front, or nothing where more bytes are needed.
-fn look_at_head(bytes: &[u8]) -> Result<Option<Head>, LinkFault>
+pub(crate) fn look_at_head(bytes: &[u8]) -> Result<Option<Head>, LinkFault>
     ensures exact { HeadLookSays bytes.now result }
     ensures within { IfOk result (λ found. IfSome found (λ head. head.len ≤ length bytes.now)) }
 {
