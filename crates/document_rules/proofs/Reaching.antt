@@ -1,15 +1,15 @@
 -- What the walk meets is what is reached, each fragment once; and what it is inside of leads on to where it is.
-use Rattle.std.proofs.Common.{◌≡◌, ◌⊎◌, inl, inr, ⊎_elim, ℕ, zero, suc, ◌+◌, ◌<◌, ◌≤◌, ◌||◌, nat_eq, Bool, true, false, true≢false, if◌then◌else◌, List, [], ◌∷◌, ◌++◌, map, length, Option, None, Some, refl, sym, ap, ◌∙◌, subst, arith, append-nil}
+use Rattle.std.proofs.Common.{◌≡◌, ◌⊎◌, inl, inr, ⊎_elim, ℕ, zero, suc, ◌+◌, ◌<◌, ◌||◌, nat_eq, Bool, true, false, true≢false, if◌then◌else◌, List, [], ◌∷◌, ◌++◌, map, length, Option, None, Some, refl, sym, ap, ◌∙◌, subst, arith}
 use Rattle.std.specs.Prelude.{slice_get}
 use Rattle.std.proofs.Math.Bool.{or-true}
-use Rattle.std.proofs.lemmas.Bool.{cases_Bool, cases_lt, eq-eqb, eqb-true}
+use Rattle.std.proofs.lemmas.Bool.{cases_Bool, eq-eqb, eqb-true}
 use Rattle.std.proofs.lemmas.List.{length-append}
 use Rattle.std.proofs.lemmas.Option.{same_Some, none-some, slice_get_within}
 use Rattle.gql_base.specs.names.Names.{place_of_name}
 use Rattle.document_reader.specs.Documents.{SelectionTrees}
 use Rattle.document_rules.specs.Parts.{FragmentData, fragment_name}
-use Rattle.document_rules.specs.Met.{Met, Spread, spreads_in, spread_within, spreads_within, spreads_of_data, is_met, met_at, met_there, come_to, look_at, walk, reached, spread_count, outward, outward_from, inside_at}
-use Rattle.document_rules.specs.Reached.{IsOneOf, IsSpreadIn, SpreadsOne, Leads, LeadsTo, AreReaching}
+use Rattle.document_rules.specs.Met.{Met, Spread, spreads_in, spread_within, spreads_within, spreads_of_data, is_met, met_at, look_at, walk, reached, spread_count, outward, outward_from, inside_at}
+use Rattle.document_rules.specs.Reached.{IsOneOf, SpreadsOne, IsSpreadFrom, AreSpreadBefore, Leads, LeadsTo, AreReaching}
 use Rattle.document_rules.proofs.SpreadSteps.{met_more, spreads_at}
 use Rattle.document_rules.proofs.RankSteps.{among, which, slice_more, slice_last, unmet, unmet_once, none_met}
 
@@ -77,11 +77,10 @@ module _ (fs : List FragmentData) (below : SelectionTrees) where
   -- ---- where each fragment that was met is spread
 
   abbrev Source : List Met → Option ℕ → ℕ → ℕ → Type 0
-  Source met None i number = IsSpreadIn fs below number
-  Source met (Some p) i number = (p < i) × ((q : Met) × (slice_get met p ≡ Some q) × SpreadsOne fs q.fragment number)
+  Source met w i number = IsSpreadFrom fs below met w i number
 
   abbrev AllSourced : List Met → Type 0
-  AllSourced met = (i : ℕ) (m : Met) → slice_get met i ≡ Some m → Source met m.within i m.fragment
+  AllSourced met = AreSpreadBefore fs below met
 
   -- a spread to come stands in the selections, or in a fragment that was met
   abbrev Stands : List Met → Option ℕ → List ℕ → Type 0
@@ -311,6 +310,9 @@ module _ (fs : List FragmentData) (below : SelectionTrees) where
   all_reached number r =
       let first = ⊎_elim (λ (e : is_met (reached fs below) r.0 ≡ true). e) (λ (e : ⊥). absurd e) (((start.closed).selections) (r.1).0 (r.1).1 r.0 (r.1).2) in
       met_through r.0 (r.2).0 number first (r.2).1
+
+  pub reached_before : AreSpreadBefore fs below (reached fs below)
+  reached_before = start.sourced
 
   pub reached_once : Once (reached fs below)
   reached_once = start.once

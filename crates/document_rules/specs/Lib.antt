@@ -10,4 +10,5 @@ pub mod Checking
 pub mod Ranks
 -- What the program's forms stand for, and what serves proofs.
 pub mod Views
+pub mod LookedUp
 pub mod Steps

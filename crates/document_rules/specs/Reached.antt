@@ -1,6 +1,6 @@
 -- Which fragments selections reach (GraphQL October 2021, 2.8): those that are spread in them, and those that are spread in a
 -- fragment that they reach.
-use Rattle.std.specs.Prelude.{◌≡◌, ◌<◌, ◌⊎◌, ℕ, true, List, [], ◌∷◌, slice_get, Some}
+use Rattle.std.specs.Prelude.{◌≡◌, ◌<◌, ◌⊎◌, ℕ, true, List, [], ◌∷◌, slice_get, Option, None, Some}
 use Rattle.gql_base.specs.names.Names.{place_of_name}
 use Rattle.document_reader.specs.Documents.{SelectionTrees}
 use Rattle.document_rules.specs.Parts.{FragmentData, fragment_name}
@@ -32,6 +32,15 @@ module _ (fragments : List FragmentData) where
   -- The selections reach the fragment.
   abbrev pub AreReaching : SelectionTrees → ℕ → Type 0
   AreReaching below number = (first : ℕ) × IsSpreadIn below first × LeadsTo first number
+
+  -- Where a fragment was met within one at a place, it is spread in that one, which was met before it. Else it is spread in the selections.
+  abbrev pub IsSpreadFrom : SelectionTrees → List Met → Option ℕ → ℕ → ℕ → Type 0
+  IsSpreadFrom below met None at number = IsSpreadIn below number
+  IsSpreadFrom below met (Some place) at number = (place < at) × ((m : Met) × (slice_get met place ≡ Some m) × SpreadsOne m.fragment number)
+
+  -- So it is of all that were met.
+  abbrev pub AreSpreadBefore : SelectionTrees → List Met → Type 0
+  AreSpreadBefore below met = (at : ℕ) (m : Met) → slice_get met at ≡ Some m → IsSpreadFrom below met m.within at m.fragment
 
 -- No fragment is met twice.
 abbrev pub AreMetOnce : List Met → Type 0

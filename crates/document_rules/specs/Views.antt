@@ -7,7 +7,6 @@ use Rattle.gql_base.specs.parts.Trees.{identifier_of, named_value, directive_tre
 use Rattle.document_reader.specs.declared.trees.Fragment.{Fragment as FragmentOf}
 use Rattle.document_reader.specs.Documents.{VariableTree}
 use Rattle.document_reader.specs.Trees.{maybe_identifier, variable_tree}
-use Rattle.document_rules.specs.declared.checking.Names.{Names}
 use Rattle.document_rules.specs.declared.indexes.Declared.{Declared}
 use Rattle.document_rules.specs.declared.indexes.Defined.{Defined}
 use Rattle.document_rules.specs.declared.met.Met.{Met as MetFragment}
@@ -22,7 +21,6 @@ use Rattle.input_values.specs.declared.inputs.shape.Shape.{Shape}
 use Rattle.input_values.specs.inputs.Shapes.{shape_tree}
 use Rattle.input_values.specs.inputs.Definitions.{InputData}
 use Rattle.schema_model.specs.SchemaData.{SchemaData, argument_named, input_field_named}
-use Rattle.schema_model.specs.SchemaViews.{schema_data}
 use Rattle.document_rules.specs.VariablePlaces.{Use}
 use Rattle.document_rules.specs.Parts.{FragmentData, fragment_data}
 use Rattle.document_rules.specs.Met.{Met, Spread as SpreadData}
@@ -68,17 +66,3 @@ use_at name place has_default = record { variable = identifier_of name; place = 
 abbrev pub input_in : SchemaData → Inputs → List ℕ → Option InputData
 input_in s (Arguments field) = argument_named s field.number
 input_in s (Fields of) = input_field_named s of.number
-
--- what the rules on parts of an operation look things up in
-
-abbrev pub schema_named : Names → SchemaData
-schema_named names = schema_data names.schema.now
-
-abbrev pub fragments_named : Names → List FragmentData
-fragments_named names = map defined_data names.fragments.now.items.items
-
-abbrev pub met_named : Names → List Met
-met_named names = map met_data names.met.now
-
-abbrev pub variables_named : Names → List VariableTree
-variables_named names = map declared_tree names.variables.now.items.items

@@ -8,7 +8,8 @@ ghost use Rattle.document_rules.specs.Parts.{operation_at};
 ghost use Rattle.document_rules.specs.Rules.{repeated_name, lone_anonymous, subscription, no_root};
 ghost use Rattle.document_rules.specs.Sites.{type_of_kind};
 ghost use Rattle.document_rules.specs.Checking.{breach, first_breach, rules_of_fragments, rules_of_directives, rules_of_fields, rules_of_variables, rules_of_arguments, breach_of_sites, breach_of_parts, breach_before_parts, first_broken, IsCheckOf, IsChecked, AnswersBreach, AnswersCheck, PartsAnswer, TellsParts};
-ghost use Rattle.document_rules.specs.Views.{declared_tree, defined_data, met_data, site_data, schema_named, fragments_named, met_named, variables_named};
+ghost use Rattle.document_rules.specs.Views.{declared_tree, defined_data, met_data, site_data};
+ghost use Rattle.document_rules.specs.LookedUp.{schema_named, fragments_named, met_named, variables_named};
 
 use crate::indexes::{Declared, Defined, declared_of, defined_in};
 use crate::lookups::type_of_kind;

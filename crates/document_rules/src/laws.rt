@@ -9,7 +9,7 @@ ghost use Rattle.schema_model.specs.SchemaData.{SchemaData};
 ghost use Rattle.document_rules.specs.Checking.{first_broken, fragments_in, reached_by};
 ghost use Rattle.document_rules.specs.Parts.{FragmentData};
 ghost use Rattle.document_rules.specs.Met.{is_met, reached};
-ghost use Rattle.document_rules.specs.Reached.{AreReaching, AreMetOnce, AreCycles};
+ghost use Rattle.document_rules.specs.Reached.{AreReaching, AreSpreadBefore, AreMetOnce, AreCycles};
 ghost use Rattle.document_rules.specs.Ranks.{HasRanks};
 
 /// The fragments that are met are those that the selections reach, each once: each is spread in the selections or in one that
@@ -18,6 +18,7 @@ ghost use Rattle.document_rules.specs.Ranks.{HasRanks};
 pub fn what_is_met_is_reached()
     ensures only { (fragments : List FragmentData) (below : SelectionTrees) (number : ℕ) → is_met (reached fragments below) number ≡ true → AreReaching fragments below number }
     ensures all { (fragments : List FragmentData) (below : SelectionTrees) (number : ℕ) → AreReaching fragments below number → is_met (reached fragments below) number ≡ true }
+    ensures before { (fragments : List FragmentData) (below : SelectionTrees) → AreSpreadBefore fragments below (reached fragments below) }
     ensures once { (fragments : List FragmentData) (below : SelectionTrees) → AreMetOnce (reached fragments below) }
     ensures cycles { (fragments : List FragmentData) (below : SelectionTrees) → AreCycles fragments (reached fragments below) }
 {}

@@ -14,7 +14,8 @@ ghost use Rattle.schema_rules.specs.First.{first_of};
 ghost use Rattle.schema_model.specs.SchemaViews.{schema_data};
 ghost use Rattle.document_rules.specs.VariablePlaces.{at_items, uses_in, uses_in_items, uses_in_fields, uses_in_field, fits, fits_name, fits_list, fits_condition, is_null, has_value, is_usable};
 ghost use Rattle.document_rules.specs.Rules.{variable_name, fits_boolean, no_condition, misplaced, misplaced_among, misplaced_condition, misplaced_in_condition, misplaced_in_directive, misplaced_in_arguments};
-ghost use Rattle.document_rules.specs.Views.{declared_tree, site_data, use_at, input_in};
+ghost use Rattle.document_rules.specs.Views.{site_data, use_at, input_in};
+ghost use Rattle.document_rules.specs.LookedUp.{schema_of, variables_of};
 
 use crate::indexes::{Declared, variable_named};
 use crate::lookups::{Inputs, Meaning, input_named};
@@ -119,7 +120,7 @@ fn misplaced(
     has_default: bool,
     name: &Name,
 ) -> Option<usize>
-    ensures { result ≡ misplaced (schema_data rule.now.schema.now) (map declared_tree rule.now.variables.now.items.items) (use_at name.now place.now has_default) }
+    ensures { result ≡ misplaced (schema_of rule.now) (variables_of rule.now) (use_at name.now place.now has_default) }
 {
     match variable_named(rule.variables, name.text.as_str()) {
         Some(variable) => {
@@ -138,7 +139,7 @@ fn in_value(
     place: &Shape,
     has_default: bool,
 ) -> Option<usize>
-    ensures { result ≡ misplaced_among (schema_data rule.now.schema.now) (map declared_tree rule.now.variables.now.items.items) (λ s. uses_in s (shape_tree place.now) has_default (value_tree value.now)) }
+    ensures { result ≡ misplaced_among (schema_of rule.now) (variables_of rule.now) (λ s. uses_in s (shape_tree place.now) has_default (value_tree value.now)) }
 {
     match value {
         Value::Var(name) => misplaced(rule, place, has_default, name),
@@ -157,7 +158,7 @@ fn in_value(
 
 #[cycle(places)]
 fn in_list(items: &[Value], rule: &VariablePlace<'_, '_>, place: &Shape) -> Option<usize>
-    ensures { result ≡ misplaced_among (schema_data rule.now.schema.now) (map declared_tree rule.now.variables.now.items.items) (λ s. at_items (λ item. uses_in_items s item (values_from (map value_tree items.now))) (shape_tree place.now)) }
+    ensures { result ≡ misplaced_among (schema_of rule.now) (variables_of rule.now) (λ s. at_items (λ item. uses_in_items s item (values_from (map value_tree items.now))) (shape_tree place.now)) }
 {
     match shape_level(place) {
         ShapeLevel::Named { .. } => None,
@@ -167,7 +168,7 @@ fn in_list(items: &[Value], rule: &VariablePlace<'_, '_>, place: &Shape) -> Opti
 
 #[cycle(places)]
 fn in_items(items: &[Value], rule: &VariablePlace<'_, '_>, item: &Shape) -> Option<usize>
-    ensures { result ≡ misplaced_among (schema_data rule.now.schema.now) (map declared_tree rule.now.variables.now.items.items) (λ s. uses_in_items s (shape_tree item.now) (values_from (map value_tree items.now))) }
+    ensures { result ≡ misplaced_among (schema_of rule.now) (variables_of rule.now) (λ s. uses_in_items s (shape_tree item.now) (values_from (map value_tree items.now))) }
 {
     for value in items {
         match in_value(value, rule, item, false) {
@@ -181,7 +182,7 @@ fn in_items(items: &[Value], rule: &VariablePlace<'_, '_>, item: &Shape) -> Opti
 /// The variables of arguments, or of the fields of an object, where these may stand.
 #[cycle(places)]
 fn in_fields(fields: &[Argument], rule: &VariablePlace<'_, '_>, inputs: Inputs) -> Option<usize>
-    ensures { result ≡ misplaced_among (schema_data rule.now.schema.now) (map declared_tree rule.now.variables.now.items.items) (λ s. uses_in_fields s (input_in s inputs) (fields_from (map named_value fields.now))) }
+    ensures { result ≡ misplaced_among (schema_of rule.now) (variables_of rule.now) (λ s. uses_in_fields s (input_in s inputs) (fields_from (map named_value fields.now))) }
 {
     for field in fields {
         match in_field(field, rule, inputs) {
@@ -194,7 +195,7 @@ fn in_fields(fields: &[Argument], rule: &VariablePlace<'_, '_>, inputs: Inputs) 
 
 #[cycle(places)]
 fn in_field(field: &Argument, rule: &VariablePlace<'_, '_>, inputs: Inputs) -> Option<usize>
-    ensures { result ≡ misplaced_among (schema_data rule.now.schema.now) (map declared_tree rule.now.variables.now.items.items) (λ s. uses_in_field s (input_in s inputs) (named_value field.now)) }
+    ensures { result ≡ misplaced_among (schema_of rule.now) (variables_of rule.now) (λ s. uses_in_field s (input_in s inputs) (named_value field.now)) }
 {
     match input_named(rule.schema, inputs, field.name.text.as_str()) {
         Some(input) => in_value(&field.value, rule, &input.shape, input.default.is_some()),
@@ -204,7 +205,7 @@ fn in_field(field: &Argument, rule: &VariablePlace<'_, '_>, inputs: Inputs) -> O
 
 /// The variables of a field's arguments.
 fn in_arguments(rule: &VariablePlace<'_, '_>, site: Site<'_>) -> Option<usize>
-    ensures { result ≡ misplaced_in_arguments (schema_data rule.now.schema.now) (map declared_tree rule.now.variables.now.items.items) (site_data site.entry) }
+    ensures { result ≡ misplaced_in_arguments (schema_of rule.now) (variables_of rule.now) (site_data site.entry) }
 {
     match site {
         Site::Field { meaning, field } => match meaning {
@@ -237,7 +238,7 @@ fn fits_boolean(variable: &VariableDef) -> bool
 
 /// A variable at `Boolean!`.
 fn no_condition(rule: &VariablePlace<'_, '_>, at: usize, name: &str) -> Option<usize>
-    ensures { result ≡ no_condition at (first_of_name variable_name (map declared_tree rule.now.variables.now.items.items) name.now) }
+    ensures { result ≡ no_condition at (first_of_name variable_name (variables_of rule.now) name.now) }
 {
     match variable_named(rule.variables, name) {
         Some(variable) => fault_where(!fits_boolean(variable), at),
@@ -246,7 +247,7 @@ fn no_condition(rule: &VariablePlace<'_, '_>, at: usize, name: &str) -> Option<u
 }
 
 fn misplaced_condition(rule: &VariablePlace<'_, '_>, literal: Literal<'_>) -> Option<usize>
-    ensures { result ≡ misplaced_condition (map declared_tree rule.now.variables.now.items.items) (literal_tree literal.entry) }
+    ensures { result ≡ misplaced_condition (variables_of rule.now) (literal_tree literal.entry) }
 {
     match literal {
         Literal::Var { name, at } => no_condition(rule, at, name),
@@ -257,13 +258,13 @@ fn misplaced_condition(rule: &VariablePlace<'_, '_>, literal: Literal<'_>) -> Op
 /// The variable of an argument of a directive.
 #[tactic(auto, using(crate::proofs::Opened::opened_arguments))]
 fn in_condition(rule: &VariablePlace<'_, '_>, argument: &Argument) -> Option<usize>
-    ensures { result ≡ misplaced_in_condition (map declared_tree rule.now.variables.now.items.items) (named_value argument.now) }
+    ensures { result ≡ misplaced_in_condition (variables_of rule.now) (named_value argument.now) }
 {
     misplaced_condition(rule, opened(&argument.value))
 }
 
 fn in_conditions(rule: &VariablePlace<'_, '_>, arguments: &[Argument]) -> Option<usize>
-    ensures { result ≡ first_of (misplaced_in_condition (map declared_tree rule.now.variables.now.items.items)) (map named_value arguments.now) }
+    ensures { result ≡ first_of (misplaced_in_condition (variables_of rule.now)) (map named_value arguments.now) }
 {
     for argument in arguments {
         if let Some(at) = in_condition(rule, argument) {
@@ -274,7 +275,7 @@ fn in_conditions(rule: &VariablePlace<'_, '_>, arguments: &[Argument]) -> Option
 }
 
 fn in_directives(rule: &VariablePlace<'_, '_>, directives: &[Directive]) -> Option<usize>
-    ensures { result ≡ first_of (misplaced_in_directive (map declared_tree rule.now.variables.now.items.items)) (map directive_tree directives.now) }
+    ensures { result ≡ first_of (misplaced_in_directive (variables_of rule.now)) (map directive_tree directives.now) }
 {
     for directive in directives {
         if let Some(at) = in_conditions(rule, directive.arguments.as_slice()) {

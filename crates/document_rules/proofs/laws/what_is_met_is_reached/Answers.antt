@@ -1,4 +1,4 @@
-use Rattle.document_rules.proofs.Reaching.{only_reached, all_reached, reached_once, inside_is_cycle}
+use Rattle.document_rules.proofs.Reaching.{only_reached, all_reached, reached_before, reached_once, inside_is_cycle}
 use Rattle.document_rules.proofs.laws.what_is_met_is_reached.Goals as goal
 
 pub returns-clause-only : goal.returns-clause-only
@@ -6,6 +6,9 @@ returns-clause-only c = only_reached
 
 pub returns-clause-all : goal.returns-clause-all
 returns-clause-all c = all_reached
+
+pub returns-clause-before : goal.returns-clause-before
+returns-clause-before c = reached_before
 
 pub returns-clause-once : goal.returns-clause-once
 returns-clause-once c = reached_once
