@@ -9,6 +9,10 @@ pub record DoorMembers (D : Type 0) : Type 0 where
   pub faults : D → ℕ
   pub visits : D → Option (List Visit)
 
+-- the same by its members
+abbrev pub members : {D : Type 0} → (D → Bool) → (D → ℕ) → (D → ℕ) → (D → Option (List Visit)) → DoorMembers D
+members out to_come faults visits = record { out = out; to_come = to_come; faults = faults; visits = visits }
+
 -- a door as it is started: none is out, so many connections are to come, and it has neither faults nor visits
 pub record IsNew {D : Type 0} (members : DoorMembers D) (connections : ℕ) (door : D) : Type 0 where
   pub free : members.out door ≡ false

@@ -1,7 +1,7 @@
 //! Doors in memory, started and stopped together.
 
 ghost use Rattle.std.specs.Prelude.{◌≡◌, ◌+◌, ◌-◌, ◌≤◌, ◌++◌, ◌∷◌, [], Some, None, All, OnOk, OnErr, false, is_some, length, map, vec_len, vec_capacity, option_map};
-ghost use Rattle.doors.specs.Starts.{connections_of, stopped_by};
+ghost use Rattle.doors.specs.Starts.{members, connections_of, stopped_by};
 ghost use Rattle.doors.specs.Kept.{asked_by, told_stopped};
 
 use crate::door::Door;
@@ -96,12 +96,8 @@ impl<
 
     ghost running = { λ doors. doors.running };
 
-    ghost stopped = { λ doors. map (told_stopped (record {
-      out = ⟦<MemDoor<S, K, W, C> as Door>⟧.out;
-      to_come = ⟦<MemDoor<S, K, W, C> as Door>⟧.to_come;
-      faults = ⟦<MemDoor<S, K, W, C> as Door>⟧.faults;
-      visits = ⟦<MemDoor<S, K, W, C> as Door>⟧.visits;
-    })) doors.stopped.items };
+    ghost stopped = { λ doors. map (told_stopped (members ⟦<MemDoor<S, K, W, C> as Door>⟧.out ⟦<MemDoor<S, K, W, C> as Door>⟧.to_come
+        ⟦<MemDoor<S, K, W, C> as Door>⟧.faults ⟦<MemDoor<S, K, W, C> as Door>⟧.visits)) doors.stopped.items };
 
     fn start(
         &mut self,
@@ -132,12 +128,8 @@ impl<
         requires running { self.old.running ≡ length doors.items }
         ensures idle { self.new.running ≡ 0 }
         ensures stopped { ⟦<MemDoors<S, K, W, C> as Doors>⟧.stopped self.new ≡ ⟦<MemDoors<S, K, W, C> as Doors>⟧.stopped self.old
-            ++ map (stopped_by (record {
-              out = ⟦<MemDoor<S, K, W, C> as Door>⟧.out;
-              to_come = ⟦<MemDoor<S, K, W, C> as Door>⟧.to_come;
-              faults = ⟦<MemDoor<S, K, W, C> as Door>⟧.faults;
-              visits = ⟦<MemDoor<S, K, W, C> as Door>⟧.visits;
-            }) (connections_of (option_map asked_by self.old.asked))) doors.items }
+            ++ map (stopped_by (members ⟦<MemDoor<S, K, W, C> as Door>⟧.out ⟦<MemDoor<S, K, W, C> as Door>⟧.to_come ⟦<MemDoor<S, K, W, C> as Door>⟧.faults ⟦<MemDoor<S, K, W, C> as Door>⟧.visits)
+            (connections_of (option_map asked_by self.old.asked))) doors.items }
         ensures asked { self.new.asked ≡ self.old.asked }
         ensures count { self.new.faults ≡ self.old.faults }
     {

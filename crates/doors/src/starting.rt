@@ -2,7 +2,7 @@
 
 ghost use Rattle.std.specs.Prelude.{◌≡◌, ◌≢◌, ◌≤◌, ◌+◌, ◌++◌, [], ℕ, IsTrue, vec_len, vec_capacity, List, Option, Some, Err, All, IfOk, OnOk, OnErr, length, map, option_map};
 ghost use Rattle.outside.specs.Faults.{Rose};
-ghost use Rattle.doors.specs.Starts.{Asked, IsNew, Stopped, connections_of, stopped_by};
+ghost use Rattle.doors.specs.Starts.{Asked, IsNew, Stopped, members, connections_of, stopped_by};
 ghost use Rattle.doors.specs.Kept.{asked_by, stopped_door};
 
 use crate::door::Door;
@@ -47,12 +47,7 @@ pub trait Doors {
     ) -> Result<Vec<Self::D>, StartFault>
         requires idle { running self.old ≡ 0 }
         ensures started { IfOk result (λ doors. (length doors.items ≡ workers) × (running self.new ≡ workers)) }
-        ensures new { IfOk result (λ doors. All (IsNew (record {
-          out = Self.D.out;
-          to_come = Self.D.to_come;
-          faults = Self.D.faults;
-          visits = Self.D.visits;
-        }) connections) doors.items) }
+        ensures new { IfOk result (λ doors. All (IsNew (members Self.D.out Self.D.to_come Self.D.faults Self.D.visits) connections) doors.items) }
         ensures asked { OnOk result (asked self.new ≡ Some (record {
           listen = listen.now;
           upstream = upstream.now;
@@ -69,13 +64,8 @@ pub trait Doors {
     fn stop(&mut self, doors: Vec<Self::D>)
         requires running { running self.old ≡ length doors.items }
         ensures idle { running self.new ≡ 0 }
-        ensures stopped { stopped self.new ≡ stopped self.old ++ map (stopped_by (record {
-          out = Self.D.out;
-          to_come = Self.D.to_come;
-          faults = Self.D.faults;
-          visits = Self.D.visits;
-        })
-            (connections_of (asked self.old))) doors.items }
+        ensures stopped { stopped self.new ≡ stopped self.old
+            ++ map (stopped_by (members Self.D.out Self.D.to_come Self.D.faults Self.D.visits) (connections_of (asked self.old))) doors.items }
         ensures asked { asked self.new ≡ asked self.old }
         ensures count { faults self.new ≡ faults self.old };
 }

@@ -1,7 +1,7 @@
 //! Doors over TCP, started and stopped together.
 
 ghost use Rattle.std.specs.Prelude.{◌≡◌, ◌+◌, ◌≤◌, ◌++◌, [], All, IfOk, None, false, is_some, length, map, option_map, vec_len, vec_capacity};
-ghost use Rattle.doors.specs.Starts.{connections_of, stopped_by};
+ghost use Rattle.doors.specs.Starts.{members, connections_of, stopped_by};
 ghost use Rattle.doors.specs.Kept.{asked_by, told_stopped};
 
 use crate::door::Door;
@@ -106,12 +106,8 @@ impl<R: Net<Listener = TcpListener, Stream = TcpStream> + rt::Clock + Clone + Dr
 
     ghost running = { λ doors. doors.running };
 
-    ghost stopped = { λ doors. map (told_stopped (record {
-      out = ⟦<TcpDoor<R> as Door>⟧.out;
-      to_come = ⟦<TcpDoor<R> as Door>⟧.to_come;
-      faults = ⟦<TcpDoor<R> as Door>⟧.faults;
-      visits = ⟦<TcpDoor<R> as Door>⟧.visits;
-    })) doors.stopped.items };
+    ghost stopped = { λ doors. map (told_stopped (members ⟦<TcpDoor<R> as Door>⟧.out ⟦<TcpDoor<R> as Door>⟧.to_come
+        ⟦<TcpDoor<R> as Door>⟧.faults ⟦<TcpDoor<R> as Door>⟧.visits)) doors.stopped.items };
 
     fn start(
         &mut self,
@@ -145,12 +141,7 @@ impl<R: Net<Listener = TcpListener, Stream = TcpStream> + rt::Clock + Clone + Dr
         requires running { self.old.running ≡ length doors.items }
         ensures idle { self.new.running ≡ 0 }
         ensures stopped { ⟦<TcpDoors<R> as Doors>⟧.stopped self.new ≡ ⟦<TcpDoors<R> as Doors>⟧.stopped self.old
-            ++ map (stopped_by (record {
-              out = ⟦<TcpDoor<R> as Door>⟧.out;
-              to_come = ⟦<TcpDoor<R> as Door>⟧.to_come;
-              faults = ⟦<TcpDoor<R> as Door>⟧.faults;
-              visits = ⟦<TcpDoor<R> as Door>⟧.visits;
-            })
+            ++ map (stopped_by (members ⟦<TcpDoor<R> as Door>⟧.out ⟦<TcpDoor<R> as Door>⟧.to_come ⟦<TcpDoor<R> as Door>⟧.faults ⟦<TcpDoor<R> as Door>⟧.visits)
             (connections_of (option_map asked_by self.old.asked))) doors.items }
         ensures asked { self.new.asked ≡ self.old.asked }
         ensures count { self.new.faults ≡ self.old.faults }
