@@ -10,6 +10,8 @@ mod forms;
 #[cfg(test)]
 mod links;
 #[cfg(test)]
+mod schemas;
+#[cfg(test)]
 mod texts;
 #[cfg(test)]
 mod vectors;
