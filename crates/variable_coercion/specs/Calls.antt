@@ -4,6 +4,8 @@ use Rattle.input_values.specs.values.Coerced.{CoercedTree, coerced_tree}
 use Rattle.input_values.specs.declared.values.coerced.Coerced.{Coerced}
 use Rattle.input_values.specs.declared.coercion.variables.VariableValue.{VariableValue}
 use Rattle.input_values.specs.coercion.Literals.{Environment, values_of}
+use Rattle.schema_model.specs.Arguments.{ArgData, arg_data}
+use Rattle.schema_model.specs.declared.args.Arg.{Arg}
 use Rattle.variable_coercion.specs.declared.values.ValueFault.{ValueFault}
 use Rattle.variable_coercion.specs.declared.values.ValueFault.TheVariants.{BadValue as UnfitValue, TooLarge as UnfitSize, Memory as NoMemory}
 use Rattle.variable_coercion.specs.declared.faults.CoerceFault.{CoerceFault}
@@ -40,6 +42,14 @@ argument_told (MissingArgument name) = Some (missing name)
 argument_told (BadArgument name) = Some (bad_value name)
 argument_told (LargeArgument name) = Some (too_large name)
 argument_told NoMemoryLeft = None
+
+-- what a value comes to
+abbrev pub AnswersValue : Result Coerced ValueFault → Result CoercedTree Unfit → Type 0
+AnswersValue result answer = AnswersRefusal coerced_tree unfit_told result answer
+
+-- what an argument comes to
+abbrev pub AnswersArgument : Result Arg ArgFault → Result ArgData Refusal → Type 0
+AnswersArgument result answer = AnswersRefusal arg_data argument_told result answer
 
 abbrev pub value_data : Option Coerced → Option CoercedTree
 value_data value = option_map coerced_tree value

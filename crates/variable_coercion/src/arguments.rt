@@ -10,7 +10,7 @@ ghost use Rattle.schema_model.specs.InputForms.{schema_forms};
 ghost use Rattle.schema_model.specs.Arguments.{arg_data, args_data};
 ghost use Rattle.variable_coercion.specs.Refusals.{Unfit, given_value, no_value};
 ghost use Rattle.variable_coercion.specs.Arguments.{argument_given, argument_refusal, default_or_none, supplied_answer, unsupplied_answer, argument_answer, defined_answer, arguments_answer};
-ghost use Rattle.variable_coercion.specs.Calls.{AnswersRefusal, unfit_told, argument_told, value_data, environment};
+ghost use Rattle.variable_coercion.specs.Calls.{AnswersRefusal, AnswersArgument, unfit_told, argument_told, value_data, environment};
 
 use crate::faults::ArgFault;
 use crate::values::{VALUE_LIMIT, ValueFault, coerced_literal};
@@ -67,7 +67,7 @@ fn coerce_argument(
     written: &NameIndex<'_, Argument>,
     variables: &Variables,
 ) -> Result<Arg, ArgFault>
-    ensures { AnswersRefusal arg_data argument_told result (argument_answer (schema_forms schema.now) (input_data input.now) (argument_given (environment variables.now) written.now.items.now input.now.name)) }
+    ensures { AnswersArgument result (argument_answer (schema_forms schema.now) (input_data input.now) (argument_given (environment variables.now) written.now.items.now input.now.name)) }
 {
     match written.first_named(input.name.as_str()) {
         Some(argument) => written_argument(alloc, schema, input, &argument.value, variables),
@@ -83,7 +83,7 @@ fn written_argument(
     value: &Value,
     variables: &Variables,
 ) -> Result<Arg, ArgFault>
-    ensures { AnswersRefusal arg_data argument_told result (argument_answer (schema_forms schema.now) (input_data input.now) (Some (literal_given (environment variables.now) (value_tree value.now)))) }
+    ensures { AnswersArgument result (argument_answer (schema_forms schema.now) (input_data input.now) (Some (literal_given (environment variables.now) (value_tree value.now)))) }
 {
     let scope = Scope {
         types: schema,
@@ -104,7 +104,7 @@ fn supplied_argument(
     value: &Value,
     variables: &Variables,
 ) -> Result<Arg, ArgFault>
-    ensures { AnswersRefusal arg_data argument_told result (supplied_answer (schema_forms schema.now) (input_data input.now) (literal_given (environment variables.now) (value_tree value.now))) }
+    ensures { AnswersArgument result (supplied_answer (schema_forms schema.now) (input_data input.now) (literal_given (environment variables.now) (value_tree value.now))) }
 {
     let value = coerced_literal(alloc, schema, &variables.values, &input.shape, value);
     match told(alloc, input.name.as_str(), value) {
@@ -118,7 +118,7 @@ fn supplied_argument(
 
 /// An argument that isn't supplied.
 fn unsupplied_argument(alloc: Global, input: &InputDef) -> Result<Arg, ArgFault>
-    ensures { AnswersRefusal arg_data argument_told result (unsupplied_answer (input_data input.now)) }
+    ensures { AnswersArgument result (unsupplied_answer (input_data input.now)) }
 {
     match default_or_none(alloc, input) {
         Ok(value) => Ok(Arg {

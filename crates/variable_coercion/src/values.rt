@@ -12,7 +12,7 @@ ghost use Rattle.input_values.specs.coercion.Literals.{no_variables, values_of, 
 ghost use Rattle.schema_model.specs.InputForms.{schema_forms};
 ghost use Rattle.variable_coercion.specs.Json.{json_given};
 ghost use Rattle.variable_coercion.specs.Refusals.{fitting, value_limit};
-ghost use Rattle.variable_coercion.specs.Calls.{IsTold, AnswersRefusal, unfit_told};
+ghost use Rattle.variable_coercion.specs.Calls.{IsTold, AnswersValue, unfit_told};
 
 use crate::json::walk::coerce_json;
 use gql_base::{Indexed, Text, Value as Literal, index_owned};
@@ -52,7 +52,7 @@ pub(crate) fn coerced_json(
     shape: &Shape,
     json: &Value,
 ) -> Result<Coerced, ValueFault>
-    ensures { AnswersRefusal coerced_tree unfit_told result (fitting (coerced (schema_forms schema.now) (json_given (view json.now)) (shape_tree shape.now))) }
+    ensures { AnswersValue result (fitting (coerced (schema_forms schema.now) (json_given (view json.now)) (shape_tree shape.now))) }
 {
     let variables = index_owned(alloc, Vec::new(alloc))?;
     let scope = Scope {
@@ -73,7 +73,7 @@ pub(crate) fn coerced_literal(
     shape: &Shape,
     literal: &Literal,
 ) -> Result<Coerced, ValueFault>
-    ensures { AnswersRefusal coerced_tree unfit_told result (fitting (coerced (schema_forms schema.now) (literal_given (values_of variables.now.items.items) (value_tree literal.now)) (shape_tree shape.now))) }
+    ensures { AnswersValue result (fitting (coerced (schema_forms schema.now) (literal_given (values_of variables.now.items.items) (value_tree literal.now)) (shape_tree shape.now))) }
 {
     let scope = Scope {
         types: schema,
@@ -92,7 +92,7 @@ pub(crate) fn coerced_default(
     shape: &Shape,
     literal: &Literal,
 ) -> Result<Coerced, ValueFault>
-    ensures { AnswersRefusal coerced_tree unfit_told result (fitting (coerced (schema_forms schema.now) (literal_given no_variables (value_tree literal.now)) (shape_tree shape.now))) }
+    ensures { AnswersValue result (fitting (coerced (schema_forms schema.now) (literal_given no_variables (value_tree literal.now)) (shape_tree shape.now))) }
 {
     let none = index_owned(alloc, Vec::new(alloc))?;
     coerced_literal(alloc, schema, &none, shape, literal)
@@ -103,7 +103,7 @@ fn fitting(
     walked: Result<Option<Coerced>, CoercionFault>,
     count: u64,
 ) -> Result<Coerced, ValueFault>
-    ensures { (answer : Answer CoercedTree) → Coerces value_limit 0 count walked answer → AnswersRefusal coerced_tree unfit_told result (fitting answer) }
+    ensures { (answer : Answer CoercedTree) → Coerces value_limit 0 count walked answer → AnswersValue result (fitting answer) }
 {
     match walked {
         Ok(value) => small_value(value, count),
@@ -113,7 +113,7 @@ fn fitting(
 
 /// A value that was built, where it is small enough.
 fn small_value(value: Option<Coerced>, count: u64) -> Result<Coerced, ValueFault>
-    ensures { (answer : Answer CoercedTree) → Coerces value_limit 0 count (Ok value) answer → AnswersRefusal coerced_tree unfit_told result (fitting answer) }
+    ensures { (answer : Answer CoercedTree) → Coerces value_limit 0 count (Ok value) answer → AnswersValue result (fitting answer) }
 {
     if count > u64::from(VALUE_LIMIT) {
         return Err(ValueFault::TooLarge);
