@@ -8,10 +8,11 @@ pub mod Responses
 pub mod SameArguments
 pub mod Visits
 pub mod Operations
-pub mod PlanLaws
 -- What plans rest on: sound settings, and the walk that enters each fragment once.
 pub mod Sound
 pub mod Repeats
 pub mod MergingWalk
+-- What the laws say of a place, its selections and their plan.
+pub mod PlanLaws
 -- Small selections, computed.
 pub mod Examples

@@ -1,6 +1,6 @@
 //! What holds of all selections, their plans and their responses.
 
-ghost use Rattle.std.specs.Prelude.{◌≡◌, ◌↔◌, ◌≤◌, ℕ, true, false, List, Option, None, Ok, map, length};
+ghost use Rattle.std.specs.Prelude.{◌≡◌, ◌↔◌, ◌≤◌, ℕ, true, List, Option, None, Ok, map, length};
 ghost use Rattle.gql_base.specs.declared.parts.trees.Argument.{Argument};
 ghost use Rattle.gql_base.specs.parts.Trees.{named_value};
 ghost use Rattle.document_reader.specs.declared.trees.Definition.{Definition};
@@ -17,19 +17,18 @@ ghost use Rattle.schema_model.specs.SchemaViews.{schema_data};
 ghost use Rattle.schema_model.specs.declared.schema.Schema.{Schema};
 ghost use Rattle.schema_model.specs.Faults.{SchemaBuilds};
 ghost use Rattle.schema_model.specs.Arguments.{ArgData};
-ghost use Rattle.cost_directives.specs.Weights.{WeightsData};
 ghost use Rattle.document_rules.specs.Checking.{first_broken};
 ghost use Rattle.variable_coercion.specs.Arguments.{arguments_answer};
-ghost use Rattle.plan_model.specs.SelectedFields.{Setting, Place, types_of, lacks_types, holds, coerced_arguments};
+ghost use Rattle.plan_model.specs.SelectedFields.{Setting, Place, types_of, holds, coerced_arguments};
 ghost use Rattle.plan_model.specs.SameArguments.{value_of, same_arguments};
 ghost use Rattle.plan_model.specs.Collecting.{CollectedField};
-ghost use Rattle.plan_model.specs.Merging.{Position, fields_at, keys_at, fields_of_key, call_under, selected_under, below_key, position_below};
+ghost use Rattle.plan_model.specs.Merging.{Position, fields_at, keys_at, call_under, selected_under, below_key};
 ghost use Rattle.plan_model.specs.Plans.{IsPlan, node_count};
 ghost use Rattle.plan_model.specs.Responses.{FitsSelections};
 ghost use Rattle.plan_model.specs.Visits.{Visit, visits, fault_at, planned, planned_well, answer_of};
-ghost use Rattle.plan_model.specs.Operations.{setting_of, root_position, IsPlannedWell, planned_operation, IsOperationPlan, HasGreatestBounds};
-ghost use Rattle.plan_model.specs.PlanLaws.{KeepsAsPlanned, CostsAsPlanned, IsBoundByPlan, IsFaultless};
-ghost use Rattle.plan_model.specs.Sound.{IsSoundSetting, IsSoundPlace, CanBeFilled, IsOfSchema};
+ghost use Rattle.plan_model.specs.Operations.{IsPlannedWell, planned_operation, IsOperationPlan, HasGreatestBounds};
+ghost use Rattle.plan_model.specs.PlanLaws.{KeepsAsPlanned, CostsAsPlanned, IsBoundByPlan, IsFaultless, PlansSoundly, AreAcyclicBelow, IsAcyclicOperation};
+ghost use Rattle.plan_model.specs.Sound.{IsSoundSetting, CanBeFilled, IsOfSchema};
 ghost use Rattle.plan_model.specs.Repeats.{LeavesOutRepeats};
 ghost use Rattle.plan_model.specs.MergingWalk.{IsShortened, walked, IsAcyclic};
 
@@ -64,7 +63,7 @@ pub fn bound_of_a_plan()
 /// Where no node has a fault, what is planned is the plan; it is sound where the setting is.
 pub fn faultless_plan()
     ensures is_plan { (e : Setting) (levels : ℕ) (place : Place) (p : Position) → IsFaultless e levels place p → IsPlan e place p (planned e levels place p) }
-    ensures sound { (e : Setting) (levels : ℕ) (place : Place) (p : Position) → IsSoundSetting e → IsSoundPlace e place → lacks_types place ≡ false → IsFaultless e levels place p → IsSound (holds e.schema) (planned e levels place p) }
+    ensures sound { (e : Setting) (levels : ℕ) (place : Place) (p : Position) → IsSoundSetting e → PlansSoundly e levels place p }
 {}
 
 /// Where no node has a fault, what is planned has as many nodes as are visited.
@@ -112,10 +111,10 @@ pub fn repeats_change_nothing()
 /// the fields of a key is again acyclic, whichever repeats are left out.
 pub fn walk_leaves_out_repeats()
     ensures fields { (e : Setting) (p : Position) → IsAcyclic e p → (T : ℕ) → LeavesOutRepeats (fields_at e T p) (walked e T p.selections) }
-    ensures below { (e : Setting) (p : Position) → IsAcyclic e p → (T : ℕ) (fields : List CollectedField) → LeavesOutRepeats (fields_at e T p) fields → (key : List ℕ) → IsAcyclic e (position_below e T (fields_of_key key fields)) }
+    ensures below { (e : Setting) (p : Position) → IsAcyclic e p → (T : ℕ) (fields : List CollectedField) → LeavesOutRepeats (fields_at e T p) fields → AreAcyclicBelow e T fields }
 {}
 
 /// An operation that breaks no rule is acyclic.
 pub fn checked_operations_are_acyclic()
-    ensures { (s : SchemaData) (w : WeightsData) (values : Environment) (ds : List Definition) (o : Operation) (root : ℕ) → first_broken s ds o ≡ None → IsAcyclic (setting_of s w values ds o) (root_position root o) }
+    ensures { (s : SchemaData) (ds : List Definition) (o : Operation) → first_broken s ds o ≡ None → IsAcyclicOperation s ds o }
 {}
