@@ -4,3 +4,6 @@ mod RuleRefusals
 mod ReplayRefusals
 mod OneRules
 mod OneReplay
+mod ExerciseScripts
+mod ExerciseClients
+mod Exercises

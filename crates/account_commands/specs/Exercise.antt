@@ -7,6 +7,11 @@ use Rattle.cost_vectors.specs.Script.{script_text}
 use Rattle.command_words.specs.declared.command.TheConstants.{UNDECLARED}
 use Rattle.gateway_replay.specs.declared.replayed.Replayed.{Replayed}
 use Rattle.account_commands.specs.declared.replay_texts.ReplayTexts.{ReplayTexts}
+use Rattle.account_commands.specs.declared.rule_inputs.RulesRefusal.TheVariants.{NoSchema}
+use Rattle.account_commands.specs.declared.replay_inputs.ReplayRefusal.{ReplayRefusal}
+use Rattle.account_commands.specs.declared.replay_inputs.ReplayRefusal.TheVariants.{NoRules}
+use Rattle.command_outcomes.specs.declared.checked.SchemaRefusal.{SchemaRefusal}
+use Rattle.command_outcomes.specs.Check.{IsUnchecked}
 use Rattle.command_outcomes.specs.declared.outcome.Outcome.{Outcome}
 use Rattle.command_outcomes.specs.declared.outcome.Outcome.TheVariants.{Memory}
 use Rattle.command_outcomes.specs.Outcomes.{IsDone}
@@ -27,6 +32,10 @@ numbers_text report = codes "steps " ++ (decimal report.steps ++ (codes " grante
 -- what a report adds up to
 abbrev pub summary_text : Replayed → List ℕ
 summary_text report = numbers_text report ++ cost_text report.charged
+
+-- It is refused for its schema, which is the same for each number of requests: that is why its text holds none.
+abbrev pub IsOfItsSchema : ReplayRefusal → Type 0
+IsOfItsSchema refusal = (why : SchemaRefusal) × (refusal ≡ NoRules (NoSchema why)) × IsUnchecked schema_text why
 
 -- The replay of the texts of so many requests is summed up, or those texts are refused as a replay's are, or there was no memory.
 abbrev pub ExerciseCameTo : ℕ → Outcome → Type 0

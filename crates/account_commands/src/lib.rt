@@ -3,6 +3,7 @@
 #![tactic(auto)]
 
 mod client_lines;
+mod exercise_laws;
 mod exercising;
 mod migrate_laws;
 mod migrating;
@@ -16,6 +17,7 @@ mod rule_laws;
 mod rule_texts;
 
 pub use client_lines::write_clients;
+pub use exercise_laws::an_exercise_is_refused_for_its_schema_alone;
 pub use exercising::exercise;
 pub use migrate_laws::{a_client_file_has_one_migration, migrating_twice_is_migrating_once};
 pub use migrating::migrate;
