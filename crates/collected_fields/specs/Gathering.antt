@@ -7,13 +7,14 @@ use Rattle.plan_model.specs.SelectedFields.{Setting}
 use Rattle.plan_model.specs.Collecting.{CollectedField, WrittenSelections}
 use Rattle.plan_model.specs.Merging.{Position, fields_at, keys_of, fields_of_key, selections_below}
 use Rattle.plan_model.specs.Repeats.{LeavesOutRepeats}
+use Rattle.plan_model.specs.MergingWalk.{IsAcyclic}
 use Rattle.collected_fields.specs.declared.planning.Planning.{Planning}
 use Rattle.collected_fields.specs.declared.collected.Group.{Group}
 use Rattle.collected_fields.specs.declared.collector.Collector.{Collector}
 use Rattle.collected_fields.specs.declared.tables.SelectionList.{SelectionList}
 use Rattle.collected_fields.specs.Prepared.{list_data, entry_data, AreSound}
 use Rattle.collected_fields.specs.Fieldless.{KnowsFieldless}
-use Rattle.collected_fields.specs.Views.{setting_of_planning, collected_field}
+use Rattle.collected_fields.specs.Views.{setting_of_planning, collected_field, groups_view}
 
 -- the fields of each key, in the order in which the keys first stand
 abbrev pub fields_by_key : List CollectedField → List (List CollectedField)
@@ -47,6 +48,10 @@ position_at c numbers = record { selections = map (written_at c) numbers; handed
 -- What a collector's selection sets keep, from the time it is made; and those that it knows to have no fields have none.
 unfoldable pub IsReady : Collector → Type 0
 IsReady c = AreSound (setting_at c) (map list_data c.tables.lists.items) (map entry_data c.tables.entries.items) × KnowsFieldless c.tables c.known.none
+
+-- A collector that is ready gathers the fields of these selection sets for objects of the type T, where they are acyclic.
+abbrev pub GathersAt : Collector → ℕ → List ℕ → List Group → Type 0
+GathersAt c T numbers groups = IsReady c → IsAcyclic (setting_at c) (position_at c numbers) → Gathers (setting_at c) T (position_at c numbers) (groups_view groups)
 
 -- Each field has the number of its own selections.
 abbrev pub AreNumbered : Collector → List Group → Type 0

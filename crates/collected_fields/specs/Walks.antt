@@ -95,6 +95,10 @@ module _ (t : Tables) (m : Marks) (T : ℕ) (depth : ℕ) where
   abbrev pub steps_from : ℕ → List StepData → WalkData → WalkData
   steps_from = walk_steps (schema_data t.planning.schema.now) T enter_in
 
+  -- One step was taken: behind as many as are passed over the walk comes to what it comes to from before the step.
+  abbrev pub TakesStep : StepData → WalkData → WalkData → ℕ → Type 0
+  TakesStep x old new skip = (others : List StepData) → steps_from skip others new ≡ steps_from 0 (x ∷ others) old
+
   abbrev pub entry_in : ℕ → WalkData → WalkData
   entry_in number = walk_entry (schema_data t.planning.schema.now) T list_steps (map entry_data t.entries.items) enter_in (slice_get (map entry_data t.entries.items) number)
 

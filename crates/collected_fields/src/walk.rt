@@ -1,13 +1,13 @@
 //! The walk over selection sets, where each fragment is entered once.
 
-ghost use Rattle.std.specs.Prelude.{◌≡◌, ◌<◌, ◌≤◌, ◌+◌, ◌-◌, ◌∷◌, ℕ, List, false, true, map, replicate, slice_get, slice_set, nat_eq, IfOk, OnOk, get_or, option_map};
+ghost use Rattle.std.specs.Prelude.{◌≡◌, ◌<◌, ◌≤◌, ◌+◌, ◌-◌, ℕ, false, true, map, length, replicate, slice_get, slice_set, nat_eq, IfOk, OnOk, get_or, option_map};
 ghost use Rattle.std.specs.List.{list_any};
 ghost use Rattle.schema_model.specs.Numbers.{type_number};
 ghost use Rattle.schema_model.specs.SchemaViews.{schema_data};
 ghost use Rattle.plan_model.specs.Collecting.{applies_where};
-ghost use Rattle.collected_fields.specs.Steps.{StepData, step_data};
+ghost use Rattle.collected_fields.specs.Steps.{step_data};
 ghost use Rattle.collected_fields.specs.Prepared.{list_data, entry_data};
-ghost use Rattle.collected_fields.specs.Walks.{walk_data, numbered, is_marked, marked, kept, IsBlank, steps_from, list_steps, enter_in, entry_in, lists_in};
+ghost use Rattle.collected_fields.specs.Walks.{walk_data, numbered, is_marked, marked, kept, IsBlank, TakesStep, steps_from, list_steps, enter_in, entry_in, lists_in};
 
 use crate::collected::Collected;
 use crate::marks::Marks;
@@ -50,7 +50,10 @@ fn unmark(marks: &mut Vec<bool>, entered: &mut Vec<usize>)
 
 impl<'a> Walk<'a> {
     /// A walk that hasn't begun, beside so many fragments.
-    pub fn new(alloc: Global, count: usize) -> Result<Walk<'a>, AllocError> {
+    pub fn new(alloc: Global, count: usize) -> Result<Walk<'a>, AllocError>
+        ensures places { IfOk result (λ walk. length walk.marks.items ≡ count) }
+        ensures blank { IfOk result (λ walk. IsBlank (walk_data walk)) }
+    {
         Ok(Walk {
             marks: blanks(alloc, count)?,
             entered: Vec::new(alloc),
@@ -129,7 +132,7 @@ fn walk_step<'a>(
     step: &Step<'a>,
     walk: &mut Walk<'a>,
 ) -> Result<usize, AllocError>
-    ensures { IfOk result (λ skip. (others : List StepData) → steps_from tables.now none.now of.number depth skip others (walk_data walk.new) ≡ steps_from tables.now none.now of.number depth 0 (step_data step.now ∷ others) (walk_data walk.old)) }
+    ensures { IfOk result (TakesStep tables.now none.now of.number depth (step_data step.now) (walk_data walk.old) (walk_data walk.new)) }
 {
     match step {
         Step::Field(field) => {
