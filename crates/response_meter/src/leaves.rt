@@ -56,7 +56,7 @@ fn scalar_holds(kind: InputKind, value: &Value) -> bool
     ensures { result ≡ scalar_holds kind (view value.now) }
 {
     match (kind, value) {
-        (InputKind::Int, Value::Number(number)) => number.as_i128().is_some_and(is_int),
+        (InputKind::Int, Value::Number(number)) => number.as_i128().is_some_and(|n| is_int(n)),
         (InputKind::String | InputKind::Id, Value::String(_)) => true,
         (InputKind::Boolean, Value::Bool(_)) => true,
         (InputKind::Id, Value::Number(number)) => number.as_i128().is_some(),
