@@ -1,4 +1,5 @@
 -- What is planned of an operation that was checked.
+use Rattle.std.specs.Prelude.{ℕ}
 use Rattle.schema_model.specs.declared.schema.Schema.{Schema}
 use Rattle.schema_model.specs.SchemaViews.{schema_data}
 use Rattle.cost_directives.specs.declared.weights.Weights.{Weights}
@@ -7,7 +8,9 @@ use Rattle.variable_coercion.specs.declared.variables.Variables.{Variables}
 use Rattle.variable_coercion.specs.Calls.{environment}
 use Rattle.document_rules.specs.declared.checking.Checked.{Checked}
 use Rattle.response_model.specs.Plan.{Plan as PlanTree}
-use Rattle.plan_model.specs.SelectedFields.{Setting}
+use Rattle.response_model.specs.Bound.{IsSound}
+use Rattle.plan_model.specs.SelectedFields.{Setting, holds}
+use Rattle.plan_model.specs.Sound.{IsOfSchema}
 use Rattle.plan_model.specs.Visits.{PlanAnswer}
 use Rattle.plan_model.specs.Operations.{setting_of, operation_answer, planned_operation}
 use Rattle.plan_table.specs.declared.table.Plan.{Plan}
@@ -28,3 +31,7 @@ module _ (schema : Schema) (weights : Weights) (checked : Checked) (variables : 
   -- The table holds what is planned.
   abbrev pub IsPlanned : Plan → Type 0
   IsPlanned plan = HasRows plan planned_for
+
+  -- What is planned is sound, where the weights are those of the schema and its leaves can be filled.
+  abbrev pub IsPlannedSoundly : Type 0
+  IsPlannedSoundly = (undeclared : ℕ) → IsOfSchema undeclared setting_for → IsSound (holds setting_for.schema) planned_for

@@ -10,7 +10,7 @@ use Rattle.document_reader.specs.Trees.{definition_tree}
 use Rattle.request_bodies.specs.Bodies.{RequestData as BodyData, IsRequest}
 use Rattle.acceptance.specs.Requests.{RequestData, Prepared}
 use Rattle.acceptance.specs.Forwarding.{sent_text}
-use Rattle.received_requests.specs.Received.{variables_sent, name_sent}
+use Rattle.received_requests.specs.Received.{IsReceived, variables_sent, name_sent}
 
 -- ---- the members of a body
 
@@ -76,3 +76,7 @@ pub record ComesFromBody (body : List ℕ) (r q : RequestData) : Type 0 where
   pub document : HasDocument asked.query (map definition_tree q.document)
   pub name : q.name ≡ asked.name
   pub given : q.given ≡ asked.variables
+
+-- Whatever the body asks of the request's schema is a request that is received.
+abbrev pub AsksForReceived : (r : RequestData) → Prepared r → List ℕ → List ℕ → Type 0
+AsksForReceived r p alias body = (q : RequestData) → ComesFromBody body r q → IsReceived r p alias q

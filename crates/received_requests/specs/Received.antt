@@ -65,3 +65,7 @@ received_setting q values o = setting_of q.schema q.weights values q.document o
 -- A setting has these fragments in their order, but for the offsets of names.
 abbrev pub HasFragments : Setting → List FragmentData → Type 0
 HasFragments e fragments = map fragment_placeless e.fragments ≡ map fragment_placeless fragments
+
+-- Whatever the values of its variables, the fragments that an operation of a received request reaches are the rewritten ones.
+abbrev pub ReachesSent : (r : RequestData) → Prepared r → List ℕ → RequestData → Operation → Type 0
+ReachesSent r p alias q o = (values : Environment) → HasFragments (received_setting q values o) (fragments_sent r p alias)

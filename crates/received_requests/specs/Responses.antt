@@ -1,5 +1,5 @@
 -- What whoever receives a request executes of it, and the responses to that.
-use Rattle.std.specs.Prelude.{◌≡◌, ℕ, List, Some}
+use Rattle.std.specs.Prelude.{◌≡◌, ◌↔◌, ℕ, List, Some}
 use Rattle.serde_json.specs.Data.{Data}
 use Rattle.response_model.specs.Cost.{Part}
 use Rattle.response_model.specs.Response.{Tree}
@@ -11,7 +11,7 @@ use Rattle.plan_model.specs.Operations.{root_place, root_position}
 use Rattle.stripped_responses.specs.Stripping.{stripped, cost_sent, rewritten_root}
 use Rattle.sent_replies.specs.Saying.{SaysTree}
 use Rattle.acceptance.specs.Requests.{RequestData, Prepared, AsksFor, AreValues, setting}
-use Rattle.sent_documents.specs.SentResponses.{ReadsByPlan}
+use Rattle.sent_documents.specs.SentResponses.{AnswersSent, ReadsByPlan}
 use Rattle.received_requests.specs.Received.{received_setting}
 
 -- What is executed of a request (GraphQL October 2021, 6.1): the operation that it asks for, on the type of its kind, with the
@@ -46,3 +46,29 @@ module _ (r : RequestData) (p : Prepared r) where
   -- Each JSON that says the tree reads, by the plan of the request's own operation, as the tree without the names under the alias.
   abbrev pub ReadsAsStripped : List ℕ → Tree → Type 0
   ReadsAsStripped alias t = (json : Data) → SaysTree json t → ReadsByPlan r p alias json (stripped alias t)
+
+  -- ---- all that is executed of a request that is received
+
+  -- A tree is a response to it exactly where it is one to what is sent.
+  abbrev pub HasResponsesSent : List ℕ → RequestData → Type 0
+  HasResponsesSent alias q = (x : Executed q) (t : Tree) → AnswersExecuted q x t ↔ AnswersSent r p alias t
+
+  -- It costs the same at both.
+  abbrev pub CostsAsSent : List ℕ → RequestData → Type 0
+  CostsAsSent alias q = (x : Executed q) (part : Part) (t : Tree) → executed_cost q x part t ≡ sent_cost alias part t
+
+  -- A response to it is one to the request's own operation, without the names under the alias.
+  abbrev pub AnswersOwnStripped : List ℕ → RequestData → Type 0
+  AnswersOwnStripped alias q = (x : Executed q) (t : Tree) → AnswersExecuted q x t → AnswersOwn (stripped alias t)
+
+  -- That costs the same.
+  abbrev pub CostsAsStripped : List ℕ → RequestData → Type 0
+  CostsAsStripped alias q = (x : Executed q) (part : Part) (t : Tree) → AnswersExecuted q x t → executed_cost q x part t ≡ own_cost part (stripped alias t)
+
+  -- Each response to the request's own operation comes from one to it.
+  abbrev pub HasEachStripped : List ℕ → RequestData → Type 0
+  HasEachStripped alias q = (x : Executed q) (s : Tree) → AnswersOwn s → (t : Tree) × AnswersExecuted q x t × (stripped alias t ≡ s)
+
+  -- Each JSON of a response to it reads as the response without the names under the alias.
+  abbrev pub ReadsAllStripped : List ℕ → RequestData → Type 0
+  ReadsAllStripped alias q = (x : Executed q) (t : Tree) → AnswersExecuted q x t → ReadsAsStripped alias t

@@ -11,8 +11,8 @@ ghost use Rattle.acceptance.specs.Requests.{RequestData, Prepared};
 ghost use Rattle.acceptance.specs.Keys.{HasEachKeyOnce};
 ghost use Rattle.acceptance.specs.Forwarding.{IsFreeIn, sent_text, sent_body, IsSentText};
 ghost use Rattle.sent_documents.specs.SentTexts.{IsClientText};
-ghost use Rattle.received_requests.specs.Received.{IsReceived, variables_sent, name_sent};
-ghost use Rattle.received_requests.specs.Bodies.{keys_of, body_keys, request_sent, IsAsRead, IsGivenAsRead, ComesFromBody};
+ghost use Rattle.received_requests.specs.Received.{variables_sent, name_sent};
+ghost use Rattle.received_requests.specs.Bodies.{keys_of, body_keys, request_sent, IsAsRead, IsGivenAsRead, AsksForReceived};
 
 use crate::laws::what_is_read_is_received;
 use acceptance::sent_bodies_hold_no_float;
@@ -51,7 +51,7 @@ pub fn what_a_reader_of_the_body_gets()
 /// Where what is given for the variables was read, and no string of the client's text holds a control character but those that have an
 /// escape by a letter: what the body that is sent asks of the same schema is the request that is received.
 pub fn what_comes_from_the_body_is_received()
-    ensures { (r : RequestData) (p : Prepared r) (alias text body : List ℕ) (q : RequestData) → IsGivenAsRead r → IsFreeIn r alias → IsClientText r text → IsSentText r p alias body → ComesFromBody body r q → IsReceived r p alias q }
+    ensures { (r : RequestData) (p : Prepared r) (alias text body : List ℕ) → IsGivenAsRead r → IsFreeIn r alias → IsClientText r text → IsSentText r p alias body → AsksForReceived r p alias body }
 {
     what_a_reader_of_the_body_gets();
     what_is_read_is_received();

@@ -4,11 +4,10 @@ ghost use Rattle.std.specs.Prelude.{◌≡◌, ℕ, List, Some};
 ghost use Rattle.document_reader.specs.declared.trees.Operation.{Operation};
 ghost use Rattle.document_rules.specs.Parts.{operation_at};
 ghost use Rattle.document_rules.specs.Sites.{type_of_kind};
-ghost use Rattle.input_values.specs.coercion.Literals.{Environment};
 ghost use Rattle.acceptance.specs.Requests.{RequestData, Prepared, AsksFor, AreValues};
 ghost use Rattle.acceptance.specs.Forwarding.{IsFreeIn};
 ghost use Rattle.sent_documents.specs.SentTexts.{IsClientText};
-ghost use Rattle.received_requests.specs.Received.{IsReceived, IsReadOf, HasSelections, HasFragments, received_setting, selections_sent, fragments_sent};
+ghost use Rattle.received_requests.specs.Received.{IsReceived, IsReadOf, HasSelections, ReachesSent, selections_sent};
 
 use sent_documents::laws::what_is_sent_reads_back;
 
@@ -38,6 +37,5 @@ pub fn the_values_of_variables_are_kept()
 /// The fragments that it reaches are the rewritten ones that the client's operation reaches, in the order in which that one
 /// reaches them.
 pub fn the_fragments_that_are_sent_are_reached()
-    ensures { (r : RequestData) (p : Prepared r) (alias : List ℕ) (q : RequestData) (o : Operation) (values : Environment) → IsReceived r p alias q → AsksFor q o
-        → HasFragments (received_setting q values o) (fragments_sent r p alias) }
+    ensures { (r : RequestData) (p : Prepared r) (alias : List ℕ) (q : RequestData) (o : Operation) → IsReceived r p alias q → AsksFor q o → ReachesSent r p alias q o }
 {}

@@ -5,7 +5,8 @@ use Rattle.response_model.specs.Response.{Tree}
 use Rattle.response_model.specs.Reading.{ReadsReply}
 use Rattle.plan_model.specs.Responses.{IsResponseTo}
 use Rattle.plan_model.specs.Operations.{root_place}
-use Rattle.stripped_responses.specs.Stripping.{rewritten_setting, rewritten_root}
+use Rattle.stripped_responses.specs.Stripping.{stripped, rewritten_setting, rewritten_root}
+use Rattle.sent_replies.specs.Saying.{SaysTree}
 use Rattle.sent_replies.specs.Asking.{type_names}
 use Rattle.acceptance.specs.Requests.{RequestData, Prepared, setting, plan_tree}
 
@@ -17,3 +18,7 @@ module _ (r : RequestData) (p : Prepared r) (alias : List ℕ) where
   -- By the plan of the request's own operation the JSON reads as this tree.
   abbrev pub ReadsByPlan : Data → Tree → Type 0
   ReadsByPlan json t = ReadsReply (type_names r.schema) alias (plan_tree r p) json t
+
+  -- Each JSON of a response to what is sent reads so as the response without the names of types that were added.
+  abbrev pub ReadsAllByPlan : Type 0
+  ReadsAllByPlan = (t : Tree) (json : Data) → AnswersSent t → SaysTree json t → ReadsByPlan json (stripped alias t)

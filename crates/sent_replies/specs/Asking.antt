@@ -17,7 +17,8 @@ use Rattle.plan_model.specs.Plans.{IsPlan}
 use Rattle.plan_model.specs.Operations.{operation_answer, planned_operation}
 use Rattle.plan_model.specs.Visits.{planned_well}
 use Rattle.typename_rewrite.specs.Rewriting.{call_of, ended, rewritten_selections}
-use Rattle.stripped_responses.specs.Stripping.{HasNoAlias, SentOperation, own_setting}
+use Rattle.stripped_responses.specs.Stripping.{stripped, HasNoAlias, FitsSent, SentOperation, own_setting}
+use Rattle.sent_replies.specs.Saying.{SaysTree}
 use Rattle.sent_replies.specs.Interfaces.{KeepsInterfaces}
 
 -- ---- selections that can be ended
@@ -121,6 +122,10 @@ module _ (alias : List ℕ) where
   -- how a JSON value is read by a plan of this schema
   abbrev pub ReadsIn : SchemaData → Form → Bool → Plan → Data → Tree → Type 0
   ReadsIn s form asked plan json t = Reads (type_names s) alias form asked plan json t
+
+  -- Each response to what is sent: its JSON reads by the plan as the response without the names of types that were added.
+  abbrev pub ReadsAllSent : Setting → Form → Bool → Place → Position → Plan → Type 0
+  ReadsAllSent e form asked place q plan = (t : Tree) (json : Data) → FitsSent alias e form place q t → SaysTree json t → ReadsIn e.schema form asked plan json (stripped alias t)
 
   -- An operation that is sent, of a schema whose types keep their interfaces: it breaks no rule and is planned well.
   pub record IsPlannedWell (x : SentOperation alias) : Type 0 where

@@ -10,16 +10,15 @@ ghost use Rattle.schema_model.specs.Faults.{SchemaBuilds};
 ghost use Rattle.schema_model.specs.SchemaViews.{schema_data};
 ghost use Rattle.plan_model.specs.SelectedFields.{Setting, Place};
 ghost use Rattle.plan_model.specs.Merging.{Position};
-ghost use Rattle.stripped_responses.specs.Stripping.{stripped, FitsSent, SentOperation, IsSentResponse};
+ghost use Rattle.stripped_responses.specs.Stripping.{stripped, SentOperation, IsSentResponse};
 ghost use Rattle.sent_replies.specs.Saying.{SaysTree};
 ghost use Rattle.sent_replies.specs.Interfaces.{KeepsInterfaces};
-ghost use Rattle.sent_replies.specs.Asking.{TellsTypes, IsSentBy, ReadsIn, IsPlannedWell, own_plan, ReadsReplyTo};
+ghost use Rattle.sent_replies.specs.Asking.{TellsTypes, IsSentBy, ReadsAllSent, IsPlannedWell, own_plan, ReadsReplyTo};
 
 /// The JSON of a response to rewritten selections reads, by the client's own plan, as that response without the names of types
 /// that were added: the name stands where the plan asks for it, and nowhere else.
 pub fn what_is_sent_reads_by_the_own_plan()
-    ensures { (alias : List ℕ) (e : Setting) (form : Form) (asked : Bool) (place : Place) (p q : Position) (plan : Plan) (t : Tree) (json : Data) → IsSentBy alias e asked place p q plan → FitsSent alias e form place q t → SaysTree json t
-        → ReadsIn alias e.schema form asked plan json (stripped alias t) }
+    ensures { (alias : List ℕ) (e : Setting) (form : Form) (asked : Bool) (place : Place) (p q : Position) (plan : Plan) → IsSentBy alias e asked place p q plan → ReadsAllSent alias e form asked place q plan }
 {}
 
 /// In a schema that a text says the types keep their interfaces.

@@ -51,3 +51,7 @@ Attains e root o part bound t =
 -- the response that is filled for a part of the cost
 abbrev pub worst_response : Setting → ℕ → Operation → Part → Tree
 worst_response e root o part = filled part (planned_operation e root o)
+
+-- Where the cost is the bound of the operation, within the cap, the response that is filled for a part attains it.
+abbrev pub WorstAttains : Setting → ℕ → Operation → Part → Cost → Type 0
+WorstAttains e root o part bound = AreOperationBounds e root o bound → IsWithin bound → Attains e root o part bound (worst_response e root o part)

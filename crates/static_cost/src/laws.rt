@@ -11,7 +11,7 @@ ghost use Rattle.plan_table.specs.declared.table.Plan.{Plan};
 ghost use Rattle.static_cost.specs.declared.too_costly.TooCostly.{TooCostly};
 ghost use Rattle.static_cost.specs.TableBound.{IsTableBound, NamesExceedingOf};
 ghost use Rattle.plan_table.specs.TableBounds.{IsWithinCap};
-ghost use Rattle.static_cost.specs.CostBound.{HasSoundPlan, IsWithin, IsPlannedBound, AreOperationBounds, Attains, worst_response};
+ghost use Rattle.static_cost.specs.CostBound.{HasSoundPlan, IsWithin, IsPlannedBound, AreOperationBounds, WorstAttains};
 
 /// Of an operation that is planned well, the bound of its plan is the bound of the operation, where it is within the cap.
 pub fn bounds_of_operations()
@@ -25,7 +25,7 @@ pub fn bounds_of_operations()
 /// the cost answers the operation, keeps its declared sizes, and costs just what the bound says in this part.
 pub fn worst_attains_the_bound()
     ensures { (e : Setting) (root : ℕ) (o : Operation) (bound : Cost) (part : Part) → IsPlannedWell e root o → HasSoundPlan e root o
-        → AreOperationBounds e root o bound → IsWithin bound → Attains e root o part bound (worst_response e root o part) }
+        → WorstAttains e root o part bound }
 {}
 
 /// Where a bound within the cap was found, or a part isn't named as exceeding it, no response exceeds the cap in that part.

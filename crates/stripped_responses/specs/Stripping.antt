@@ -103,6 +103,22 @@ module _ (alias : List ℕ) where
   abbrev pub ComesFromSent : Setting → Form → Option ℕ → Place → Position → Tree → Type 0
   ComesFromSent e form size place q s = (t : Tree) × FitsSent e form place q t × KeepsSent e size place q t × (stripped t ≡ s)
 
+  -- Where a response fits what is sent, it fits the own selections without the names of types that were added.
+  abbrev pub FitsStripped : Setting → Form → Place → Position → Position → Tree → Type 0
+  FitsStripped e form place p q t = FitsSent e form place q t → FitsSelections e form place p (stripped t)
+
+  -- Where it keeps their sizes too, it keeps those of the own selections.
+  abbrev pub KeepsStripped : Setting → Form → Option ℕ → Place → Position → Position → Tree → Type 0
+  KeepsStripped e form size place p q t = FitsSent e form place q t → KeepsSent e size place q t → KeepsSizes e size place p (stripped t)
+
+  -- It costs the same by both.
+  abbrev pub CostsStripped : Setting → Form → Part → Place → Position → Position → Tree → Type 0
+  CostsStripped e form part place p q t = FitsSent e form place q t → cost_sent e part place q t ≡ response_cost e part place p (stripped t)
+
+  -- Where a response fits the own selections and keeps their sizes, it comes from one to what is sent.
+  abbrev pub IsStrippedOne : Setting → Form → Option ℕ → Place → Position → Position → Tree → Type 0
+  IsStrippedOne e form size place p q s = FitsSelections e form place p s → KeepsSizes e size place p s → ComesFromSent e form size place q s
+
   -- ---- whole operations
 
   -- The alias is no name of the document, and the operation stands in it.

@@ -6,21 +6,19 @@ ghost use Rattle.response_model.specs.Response.{Tree};
 ghost use Rattle.response_model.specs.Cost.{Part};
 ghost use Rattle.plan_model.specs.SelectedFields.{Setting, Place};
 ghost use Rattle.plan_model.specs.Merging.{Position};
-ghost use Rattle.plan_model.specs.Responses.{FitsSelections, KeepsSizes, response_cost};
-ghost use Rattle.stripped_responses.specs.Stripping.{stripped, IsSentFor, FitsSent, KeepsSent, cost_sent, ComesFromSent, SentOperation, IsOwnResponse, own_cost, IsSentResponse, sent_cost};
+ghost use Rattle.stripped_responses.specs.Stripping.{stripped, IsSentFor, FitsStripped, KeepsStripped, CostsStripped, IsStrippedOne, SentOperation, IsOwnResponse, own_cost, IsSentResponse, sent_cost};
 
 /// A response to rewritten selections fits the client's own selections without the names of types that were added, keeps the same
 /// sizes, and costs the same.
 pub fn a_stripped_response_is_the_clients()
-    ensures fits { (alias : List ℕ) (e : Setting) (form : Form) (place : Place) (p q : Position) (t : Tree) → IsSentFor alias e p q → FitsSent alias e form place q t → FitsSelections e form place p (stripped alias t) }
-    ensures keeps { (alias : List ℕ) (e : Setting) (form : Form) (size : Option ℕ) (place : Place) (p q : Position) (t : Tree) → IsSentFor alias e p q → FitsSent alias e form place q t → KeepsSent alias e size place q t → KeepsSizes e size place p (stripped alias t) }
-    ensures costs { (alias : List ℕ) (e : Setting) (form : Form) (part : Part) (place : Place) (p q : Position) (t : Tree) → IsSentFor alias e p q → FitsSent alias e form place q t → cost_sent alias e part place q t ≡ response_cost e part place p (stripped alias t) }
+    ensures fits { (alias : List ℕ) (e : Setting) (form : Form) (place : Place) (p q : Position) (t : Tree) → IsSentFor alias e p q → FitsStripped alias e form place p q t }
+    ensures keeps { (alias : List ℕ) (e : Setting) (form : Form) (size : Option ℕ) (place : Place) (p q : Position) (t : Tree) → IsSentFor alias e p q → KeepsStripped alias e form size place p q t }
+    ensures costs { (alias : List ℕ) (e : Setting) (form : Form) (part : Part) (place : Place) (p q : Position) (t : Tree) → IsSentFor alias e p q → CostsStripped alias e form part place p q t }
 {}
 
 /// Each response to the client's own selections is one to the rewritten selections without the names of types that were added.
 pub fn each_response_is_a_stripped_one()
-    ensures { (alias : List ℕ) (e : Setting) (form : Form) (size : Option ℕ) (place : Place) (p q : Position) (s : Tree) → IsSentFor alias e p q → FitsSelections e form place p s → KeepsSizes e size place p s
-        → ComesFromSent alias e form size place q s }
+    ensures { (alias : List ℕ) (e : Setting) (form : Form) (size : Option ℕ) (place : Place) (p q : Position) (s : Tree) → IsSentFor alias e p q → IsStrippedOne alias e form size place p q s }
 {}
 
 /// The same of a whole operation: a response to what is sent in its place, without the names of types that were added, is one to the

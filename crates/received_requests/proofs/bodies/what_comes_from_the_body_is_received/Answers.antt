@@ -6,7 +6,7 @@ use Rattle.received_requests.specs.Bodies.{request_sent}
 use Rattle.received_requests.proofs.bodies.what_comes_from_the_body_is_received.Goals as goal
 
 pub returns : goal.returns
-returns c r p alias text body q given free client sent from =
+returns c r p alias text body given free client sent q from =
     let same = c.what_a_reader_of_the_body_gets.ensures.only r p alias body from.asked given sent from.is_request in
     c.what_is_read_is_received.ensures r p alias text q free client record {
       schema = from.schema;

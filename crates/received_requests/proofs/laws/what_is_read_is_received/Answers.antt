@@ -6,7 +6,7 @@ pub returns : goal.returns
 returns c r p alias text q free is read = record {
   schema = read.schema;
   weights = read.weights;
-  document = c.what_is_sent_reads_back.ensures.only r p alias text (map definition_tree q.document) free is read.document;
+  document = c.what_is_sent_reads_back.ensures.only r p alias text free is (map definition_tree q.document) read.document;
   name = read.operation_name;
   given = read.variables;
 }

@@ -4,7 +4,7 @@ use Rattle.sent_documents.proofs.laws.replies_read_by_the_plan_of_the_request.Go
 
 pub returns : goal.returns
 unfolding operation_of
-returns c r p alias t json keeps free well answers says =
+returns c r p alias keeps free well t json answers says =
     c.replies_to_what_is_sent.ensures alias (operation_of r p alias free) t json record {
       keeps = keeps;
       kept = p.keeps.1;

@@ -8,4 +8,4 @@ pub returns-clause-utf8 : goal.returns-clause-utf8
 returns-clause-utf8 c = sent_in_utf8
 
 pub returns-clause-only : goal.returns-clause-only
-returns-clause-only c = sent_alone
+returns-clause-only c r p alias text free is trees has = sent_alone r p alias text trees free is has
