@@ -7,3 +7,4 @@ mod OneReplay
 mod ExerciseScripts
 mod ExerciseClients
 mod Exercises
+mod ReplayLines

@@ -21,7 +21,7 @@ pub use exercise_laws::an_exercise_is_refused_for_its_schema_alone;
 pub use exercising::exercise;
 pub use migrate_laws::{a_client_file_has_one_migration, migrating_twice_is_migrating_once};
 pub use migrating::migrate;
-pub use replay_laws::refused_texts_have_no_replay;
+pub use replay_laws::{refusals_of_replays_are_one_line, refused_texts_have_no_replay};
 pub use replaying::replay;
 pub use rule_inputs::{RuleInputs, RulesFault, RulesRefusal, refused_rules, rule_inputs_in};
 pub use rule_laws::refused_texts_hold_no_rules;

@@ -2,3 +2,4 @@ pub mod ReadFiles
 pub mod WeighedSchemas
 mod MisusedDirectives
 mod Checks
+pub mod RefusalLines

@@ -9,6 +9,7 @@ mod inputs;
 mod limits;
 mod outcome;
 mod schema_texts;
+mod text_laws;
 mod texts;
 
 pub use check_laws::a_schema_file_has_one_check;
@@ -23,4 +24,5 @@ pub use outcome::{
     STREAM_FAILED, USAGE,
 };
 pub use schema_texts::refused_schema;
+pub use text_laws::refusals_of_files_are_one_line;
 pub use texts::{refused_as, refused_naming};

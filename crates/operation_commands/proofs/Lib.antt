@@ -3,3 +3,4 @@ mod AskedRefusals
 mod Measured
 mod OnePrice
 mod OneMeasure
+mod OperationLines

@@ -16,5 +16,7 @@ pub use filling::worst;
 pub use forwarding::forward;
 pub use meter_laws::{a_refused_operation_has_no_reply, a_reply_has_one_measure, one_text_is_sent};
 pub use metering::meter;
-pub use price_laws::{a_refused_operation_has_no_price, two_files_have_one_price};
+pub use price_laws::{
+    a_refused_operation_has_no_price, refusals_of_operations_are_one_line, two_files_have_one_price,
+};
 pub use pricing::price;
