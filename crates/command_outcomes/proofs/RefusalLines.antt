@@ -12,8 +12,6 @@ use Rattle.schema_reader.specs.declared.schema_text.SchemaTextFault.{SchemaTextF
 use Rattle.schema_reader.specs.declared.schema_text.SchemaTextFault.TheVariants as text
 use Rattle.schema_model.specs.declared.fault.SchemaFault.{SchemaFault}
 use Rattle.schema_model.specs.declared.fault.SchemaFault.TheVariants as schema
-use Rattle.cost_num.specs.declared.weights.WeightFault.{WeightFault}
-use Rattle.cost_num.specs.declared.weights.WeightFault.TheVariants as weight
 use Rattle.cost_directives.specs.declared.fault.DirectiveFault.{DirectiveFault}
 use Rattle.cost_directives.specs.declared.fault.DirectiveFault.TheVariants as directive
 use Rattle.document_reader.specs.declared.document.DocFault.TheVariants as document
