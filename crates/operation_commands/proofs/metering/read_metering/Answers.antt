@@ -23,6 +23,3 @@ returns-in-Err-read_variables-clause-none g c =
           (c.in-Ok-read_reply.ensures.same ∙ c.in-Ok.ensures.same) (stayed_then (g.F.Files.faults c.args.files.now) (g.F.Files.faults c.read_operation.new.files) (g.F.Files.faults c.read_reply.new.files) c.in-Ok.ensures.still c.in-Ok-read_reply.ensures.still)
           c.args.asked.now.variables c.in-Err-read_variables.outcome c.in-Err-read_variables.ensures.none,
     ))
-
-pub returns-in-Ok-read_variables-clause-still : goal.returns-in-Ok-read_variables-clause-still
-returns-in-Ok-read_variables-clause-still g c name = c.in-Ok-read_variables.ensures.still name ∙ (c.in-Ok-read_reply.ensures.still name ∙ c.in-Ok.ensures.still name)
