@@ -5,5 +5,6 @@ pub mod BegunRequests
 pub mod CappedAccounts
 pub mod OneOutcome
 pub mod OneAnswer
+pub mod OneMeasure
 pub mod SharedGates
 pub mod FreshAccounts

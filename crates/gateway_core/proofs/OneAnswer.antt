@@ -1,5 +1,5 @@
 -- A reply to what is granted has one answer: it is measured in one way, or has one first fault.
-use Rattle.std.proofs.Common.{◌≡◌, ◌≢◌, inl, inr, ◌∙◌, ℕ, List, Bool, Option, Some, refl, sym, ap, subst}
+use Rattle.std.proofs.Common.{◌≡◌, ◌≢◌, inl, inr, ◌∙◌, ℕ, List, Bool, Option, Some, None, refl, sym, ap, subst}
 use Rattle.std.specs.Prelude.{option_map}
 use Rattle.std.proofs.lemmas.Option.{none-some, same_Some}
 use Rattle.cost_num.specs.declared.Cost.{Cost}
@@ -22,7 +22,7 @@ use Rattle.response_meter.specs.declared.fault.MeterFault.TheVariants.{NotRespon
 use Rattle.response_meter.specs.Faults.{Fault, not_response, size_broken, Tells}
 use Rattle.response_meter.specs.FirstFault.{AreNamed}
 use Rattle.response_meter.specs.Reply.{ReadsOnce, PassesWhereReadable, reply_cost}
-use Rattle.response_meter.specs.Metered.{TypesDiffer, name_in, first_fault_in}
+use Rattle.response_meter.specs.Metered.{TypesDiffer, name_in, first_fault_in, IsMetered}
 use Rattle.gateway_core.specs.declared.grant.Grant.{Grant}
 use Rattle.gateway_core.specs.declared.finishing.Finished.{Finished}
 use Rattle.gateway_core.specs.declared.finishing.Outcome.{Outcome}
@@ -42,11 +42,11 @@ pub record OneReading : Type 0 where
 
 -- ---- a first fault is told in one way
 
-told : Fault → MeterFault
+pub told : Fault → MeterFault
 told (not_response path why) = NotResponse path why
 told (size_broken path size length) = SizeBroken path size length
 
-first_told : (fault : MeterFault) (first : Option Fault) → fault ≢ MeterMemory → Tells fault first → option_map told first ≡ Some fault
+pub first_told : (fault : MeterFault) (first : Option Fault) → fault ≢ MeterMemory → Tells fault first → option_map told first ≡ Some fault
 unfolding told
 first_told (NotResponse path why) first other tells = ap (option_map told) tells
 first_told (SizeBroken path size length) first other tells = ap (option_map told) tells
@@ -66,17 +66,25 @@ metered_eq a b costs texts = λ i. record {
   text = texts i;
 }
 
+-- a reply is measured in one way by one tree
+pub metered_once : OneReading → (plan : Plan) (alias : List ℕ) (tree : PlanTree) (reply : List ℕ) (a b : Metered) → AreNamed (name_in plan) tree
+    → IsMetered plan alias tree reply a → IsMetered plan alias tree reply b → a ≡ b
+metered_once laws plan alias tree reply a b named m n =
+    let same = laws.once (name_in plan) alias tree reply named m.content n.content m.errors n.errors m.reads n.reads in
+    metered_eq a b
+    (cost_eq a.cost b.cost
+    (m.types_cost ∙ (ap (reply_cost types tree) same.0 ∙ sym n.types_cost))
+    (m.fields_cost ∙ (ap (reply_cost fields tree) same.0 ∙ sym n.fields_cost)))
+    (m.text ∙ (ap (λ content. response_text content m.errors) same.0 ∙ (ap (response_text n.content) same.1 ∙ sym n.text)))
+
+-- a reply that is measured passes each test
+pub metered_passes : OneReading → (plan : Plan) (alias : List ℕ) (tree : PlanTree) (reply : List ℕ) (metered : Metered) → AreNamed (name_in plan) tree
+    → IsMetered plan alias tree reply metered → first_fault_in plan alias tree reply ≡ None
+metered_passes laws plan alias tree reply metered named m = (laws.passes (holds_in plan) (name_in plan) alias tree reply named).1 (m.content, m.errors, m.reads, m.is_response)
+
 module _ (laws : OneReading) (g : Grant) (reply : List ℕ) (h : HoldsNamed g.plan) where
   one_measure : (a b : Metered) → IsMeasuredBy g.plan g.alias reply a → IsMeasuredBy g.plan g.alias reply b → a ≡ b
-  one_measure a b of_a of_b =
-      let m = of_a h.tree h.sound in
-      let n = of_b h.tree h.sound in
-      let same = laws.once (name_in g.plan) g.alias h.tree reply h.named m.content n.content m.errors n.errors m.reads n.reads in
-      metered_eq a b
-      (cost_eq a.cost b.cost
-      (m.types_cost ∙ (ap (reply_cost types h.tree) same.0 ∙ sym n.types_cost))
-      (m.fields_cost ∙ (ap (reply_cost fields h.tree) same.0 ∙ sym n.fields_cost)))
-      (m.text ∙ (ap (λ content. response_text content m.errors) same.0 ∙ (ap (response_text n.content) same.1 ∙ sym n.text)))
+  one_measure a b of_a of_b = metered_once laws g.plan g.alias h.tree reply a b h.named (of_a h.tree h.sound) (of_b h.tree h.sound)
 
   first_is : (fault : MeterFault) → HasReplyFault g reply fault → option_map told (first_fault_in g.plan g.alias h.tree reply) ≡ Some fault
   first_is fault has = first_told fault (first_fault_in g.plan g.alias h.tree reply) has.0 (has.1 h.tree h.sound)
@@ -86,9 +94,7 @@ module _ (laws : OneReading) (g : Grant) (reply : List ℕ) (h : HoldsNamed g.pl
 
   not_both : (a : Metered) (b : MeterFault) → IsMeasuredBy g.plan g.alias reply a → HasReplyFault g reply b → ⊥
   not_both a b of_a of_b =
-      let m = of_a h.tree h.sound in
-      let passes = (laws.passes (holds_in g.plan) (name_in g.plan) g.alias h.tree reply h.named).1 (m.content, m.errors, m.reads, m.is_response) in
-      none-some b (sym (ap (option_map told) passes) ∙ first_is b of_b)
+      none-some b (sym (ap (option_map told) (metered_passes laws g.plan g.alias h.tree reply a h.named (of_a h.tree h.sound))) ∙ first_is b of_b)
 
   one_reply : (a b : Finished) → IsReplied g reply a → IsReplied g reply b → a ≡ b
   one_reply a b (inl (m, measured, is)) (inl (n, measured_too, is_too)) =

@@ -1,18 +1,14 @@
 -- How a granted request finishes: what it is answered, and what it is charged.
-use Rattle.std.specs.Prelude.{◌≡◌, ◌≢◌, ◌⊎◌, ℕ, List, [], Result, Ok, Err}
+use Rattle.std.specs.Prelude.{◌≡◌, ◌⊎◌, ℕ, List, [], Result, Ok, Err}
 use Rattle.cost_num.specs.declared.Cost.{Cost}
 use Rattle.account_core.specs.Costs.{nothing}
 use Rattle.account_core.specs.declared.Ticket.{Ticket}
 use Rattle.account_core.specs.Machine.{done}
 use Rattle.account_core.specs.Numbers.{settlement_of}
 use Rattle.account_shared.specs.Gains.{ClientCall, client_call}
-use Rattle.response_model.specs.Plan.{Plan as PlanTree}
-use Rattle.plan_table.specs.TableBounds.{HoldsSound}
 use Rattle.response_meter.specs.declared.metered.Metered.{Metered}
 use Rattle.response_meter.specs.declared.fault.MeterFault.{MeterFault}
-use Rattle.response_meter.specs.declared.fault.MeterFault.TheVariants.{Memory as MeterMemory}
-use Rattle.response_meter.specs.Faults.{Tells}
-use Rattle.response_meter.specs.Metered.{TypesDiffer, first_fault_in}
+use Rattle.response_meter.specs.Metered.{TypesDiffer}
 use Rattle.upstream_link.specs.declared.fault.LinkFault.{LinkFault}
 use Rattle.upstream_link.specs.declared.fault.LinkFault.TheVariants.{Down, Memory}
 use Rattle.gateway_core.specs.declared.finishing.Outcome.{Outcome}
@@ -22,15 +18,15 @@ use Rattle.gateway_core.specs.declared.grant.Grant.{Grant}
 use Rattle.gateway_core.specs.Rules.{Rules}
 use Rattle.gateway_core.specs.Requests.{IsPromisedFor}
 use Rattle.gateway_core.specs.Grants.{promise_of}
-use Rattle.gateway_core.specs.PlanBounds.{IsMeasuredBy}
+use Rattle.gateway_core.specs.PlanBounds.{IsMeasuredBy, IsFaultyBy}
 use Rattle.gateway_core.specs.Messages.{message_body, link_status, link_text, reply_text}
 
 abbrev pub finished_as : ℕ → List ℕ → Cost → Cost → Finished
 finished_as status body bound charged = record { status = status; body = body; bound = bound; charged = charged }
 
--- This is the first test that the reply doesn't pass; want of memory is none.
+-- This is the first test that the reply doesn't pass.
 abbrev pub HasReplyFault : Grant → List ℕ → MeterFault → Type 0
-HasReplyFault g reply fault = (fault ≢ MeterMemory) × ((tree : PlanTree) → HoldsSound g.plan tree → Tells fault (first_fault_in g.plan g.alias tree reply))
+HasReplyFault g reply fault = IsFaultyBy g.plan g.alias reply fault
 
 -- A response is answered as it was measured, and charged its cost. Another reply is told by its fault, and charged the bound.
 abbrev pub IsReplied : Grant → List ℕ → Finished → Type 0

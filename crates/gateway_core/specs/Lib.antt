@@ -9,5 +9,6 @@ pub mod Grants
 pub mod Begins
 pub mod Messages
 pub mod Finishes
+pub mod Measures
 -- What serves proofs: that facts are propositions.
 pub mod Propositions

@@ -14,6 +14,7 @@ ghost use Rattle.gateway_core.specs.Rules.{Rules, HasWeights};
 ghost use Rattle.gateway_core.specs.Requests.{IsPricedAt, IsPromisedFor};
 ghost use Rattle.gateway_core.specs.Begins.{IsUnfit};
 ghost use Rattle.gateway_core.specs.PlanBounds.{IsMeasuredBy};
+ghost use Rattle.gateway_core.specs.Measures.{HasNamedTypes, IsMeasuredFor, IsFaultyFor, MeasuredIsAnswered};
 ghost use Rattle.gateway_core.specs.Finishes.{HasReplyFault, IsConcluded, IsGrantedBy};
 
 use acceptance::{
@@ -51,6 +52,23 @@ pub fn a_reply_has_one_answer()
     ensures not_both { (rules : Rules) (g : GrantType) (reply : List ℕ) (a : Metered) (b : MeterFault) → IsGrantedBy rules g → IsMeasuredBy g.plan g.alias reply a → HasReplyFault g reply b → ⊥ }
     ensures one_answer { (rules : Rules) (g : GrantType) (outcome : OutcomeType) (a b : FinishedType) → IsGrantedBy rules g → IsConcluded g outcome a → IsConcluded g outcome b → a ≡ b }
 {
+    fault_or_reading();
+    one_reply();
+    named_tables();
+}
+
+/// A reply to the operation of a body is measured in one way, or has one first fault, and not both, however often the body is
+/// read. So what is granted for the body is answered with 200 and as it was measured, where the reply is, and settled at its cost;
+/// or memory was wanting. The types of the schema have different names, as those of a schema that is built have.
+pub fn a_reply_to_a_body_has_one_measure()
+    ensures measure { (rules : Rules) (body reply : List ℕ) (a b : Metered) → HasNamedTypes rules → IsMeasuredFor rules body reply a → IsMeasuredFor rules body reply b → a ≡ b }
+    ensures fault { (rules : Rules) (body reply : List ℕ) (a b : MeterFault) → HasNamedTypes rules → IsFaultyFor rules body reply a → IsFaultyFor rules body reply b → a ≡ b }
+    ensures not_both { (rules : Rules) (body reply : List ℕ) (a : Metered) (b : MeterFault) → HasNamedTypes rules → IsMeasuredFor rules body reply a → IsFaultyFor rules body reply b → ⊥ }
+    ensures finished { (rules : Rules) → HasNamedTypes rules → MeasuredIsAnswered rules }
+{
+    a_body_is_one_request_or_has_one_fault();
+    a_text_is_one_document();
+    alike_requests_are_answered_alike();
     fault_or_reading();
     one_reply();
     named_tables();

@@ -17,8 +17,11 @@ pub use beginning::{Begun, Denial, begin};
 pub use finishing::{Finished, Outcome, finish};
 pub use gate::{Gate, Settings};
 pub use grant::Grant;
-pub use laws::{a_body_comes_to_one_thing, a_reply_has_one_answer};
+pub use laws::{
+    a_body_comes_to_one_thing, a_reply_has_one_answer, a_reply_to_a_body_has_one_measure,
+};
 pub use making::close;
 pub use messages::{denial_message, denial_status, message_body, printed_cost};
+pub use response_meter::laws::types_of_built_schemas_differ;
 pub use sharing::{answers_are_shared, gates_are_shared};
 pub use totals::Totals;
