@@ -4,7 +4,8 @@ use schema_model::{Schema, SchemaFault, build_meta};
 use schema_reader::read_schema_text;
 use std::test::Fail;
 
-const META: &str = "type Query { __schema: __Schema! } type __Schema { types: [__Type!]! } type __Type { name: String }";
+const META: &str =
+    "type Query { __schema: __Schema! } type __Schema { types: [__Type!]! } type __Type { name: String }";
 
 #[test]
 fn a_schema_of_schemas_is_built(rt: HostRuntime) -> Result<(), Fail> {
