@@ -179,8 +179,8 @@ impl Front {
     }
 
     /// Takes the next request, or tells the first fault. Bytes behind the request are kept for the next
-    /// one. After a fault it answers `End`, without a read. `ReadFault` is told only where no read met the end,
-    /// and only with it the source's count changes.
+    /// one. After a fault it answers `End`, without a read. `ReadFault` is told only where no read of this call met
+    /// the end, and only with it the source's count changes.
     pub fn next<S: Source>(&mut self, alloc: Global, from: &mut S) -> Result<Ask, FrontFault>
         ensures exact { IfSome self.old (λ kept. Taken kept (S.left from.old) (S.left from.new) (AskOf self.new result)) }
         ensures over { self.old ≡ None → (result ≡ Err FrontFault.End) × (self.new ≡ None) × (from.new ≡ from.old) }
