@@ -1,5 +1,5 @@
 -- What serving a connection did: at the accounts, and to what stands outside.
-use Rattle.std.specs.Prelude.{◌≡◌, ℕ, ◌<◌, Bool, false, List, [], ◌∷◌, ◌++◌, Option, Some, None, IsTrue, length}
+use Rattle.std.specs.Prelude.{◌≡◌, ℕ, ◌<◌, Bool, false, List, [], ◌∷◌, ◌++◌, Option, Some, None, IsTrue, IfSome, length}
 use Rattle.std.specs.Io.KnownBytes.{Appends, IsAtEnd}
 use Rattle.account_shared.specs.Views.{PassesView}
 use Rattle.account_shared.specs.Gains.{ClientCall, Gains}
@@ -62,6 +62,10 @@ pub record Turns (s : Service) (before now : PassesView) (number : ℕ) (kept : 
   pub exchanges : List Exchange
   pub makes : Makes before now given back exchanges
   pub turned : TurnsTo s number before.made (kept ++ bytes) ended front exchanges given.written back.written result
+
+-- So it is where the front kept some bytes before, and did not answer a fault yet.
+abbrev pub TurnsFrom : Service → PassesView → PassesView → ℕ → Option (List ℕ) → Option (List ℕ) → Told → Told → Option Served → Type 0
+TurnsFrom s before now number kept front given back result = IfSome kept (λ bytes. Turns s before now number bytes front given back result)
 
 -- After these exchanges, none of whose replies carries `close`, the connection goes on: these bytes were taken, and those are kept.
 pub record GoesOnAfter (s : Service) (before now : PassesView) (number : ℕ) (kept : List ℕ) (given back : Told) : Type 0 where

@@ -7,7 +7,7 @@ ghost use Rattle.gateway_core.specs.Messages.{message_body, no_memory_text};
 ghost use Rattle.gateway_connections.specs.Replies.{IsWritable};
 ghost use Rattle.gateway_connections.specs.Exchanges.{service_of};
 ghost use Rattle.gateway_connections.specs.Connections.{Refuses, Answers, IfEndsBy, UnlessEndsBy};
-ghost use Rattle.gateway_connections.specs.Serving.{Turns};
+ghost use Rattle.gateway_connections.specs.Serving.{TurnsFrom};
 ghost use Rattle.gateway_connections.specs.declared.ending.ConnectionEnd.TheVariants as ending;
 
 use crate::ending::{ConnectionEnd, Served, carries_close, end_after, end_of_silence};
@@ -112,7 +112,8 @@ pub(crate) fn turn<R: Wait, S: Source + Drop, K: Sink + Drop, W: Wire + Drop, C:
     ensures few { passes.new.made ≤ passes.old.made + 2 }
     ensures idle { IsIdle passes.new }
     ensures spare { spare.new.items ≡ message_body no_memory_text }
-    ensures turns { IfSome front.old (λ kept. Turns (service_of gate.now) passes.old passes.new number kept front.new (⟦<Conn<S, K, W, C> as Tells>⟧.told conn.old) (⟦<Conn<S, K, W, C> as Tells>⟧.told conn.new) result) }
+    ensures turns { TurnsFrom (service_of gate.now) passes.old passes.new number front.old front.new
+        (⟦<Conn<S, K, W, C> as Tells>⟧.told conn.old) (⟦<Conn<S, K, W, C> as Tells>⟧.told conn.new) result }
     ensures most { IfSome result (λ served. served.replies ≤ number + 1) }
     ensures reads { S.faults conn.old.source ≤ S.faults conn.new.source }
     ensures writes { K.faults conn.old.sink ≤ K.faults conn.new.sink }

@@ -1,5 +1,6 @@
 -- What serving comes to.
-use Rattle.std.specs.Prelude.{◌≡◌, ◌⊎◌, ℕ, List, length, Result, Ok, Err, All}
+use Rattle.std.specs.Prelude.{◌≡◌, ◌⊎◌, ℕ, ◌*◌, List, length, nat_lt, Result, Ok, Err, All}
+use Rattle.std.specs.List.{list_any}
 use Rattle.outside.specs.Faults.{Rose}
 use Rattle.doors.specs.Starts.{Stopped}
 use Rattle.gateway_workers.specs.Decisions.{Service}
@@ -23,6 +24,14 @@ pub record EndsServing (s : Service) (workers connections : ℕ) (stopped : List
   pub faults : end.done.faults ≡ faults_of tours
   pub clients : end.totals.clients.items.items ≡ s.rules.clients
   pub accounts : AreAccountsAfter s.rules.clients tours end.totals.accounts
+
+-- Faults are told exactly where the count of a door rose.
+abbrev pub TellsFaults : List Stopped → ServeEnd → Type 0
+TellsFaults stopped end = nat_lt 0 end.done.faults ≡ list_any (λ door. door.rose) stopped
+
+-- Where no faults are told each worker served all of its connections.
+abbrev pub IsWholeIfCalm : ℕ → ℕ → ServeEnd → Type 0
+IsWholeIfCalm workers connections end = end.done.faults ≡ 0 → end.done.connections ≡ workers * connections
 
 -- So it was served.
 abbrev pub WasServed : Service → Serving → DoorsTold → DoorsTold → ServeEnd → Type 0

@@ -2,9 +2,8 @@
 
 ghost use Rattle.std.specs.Prelude.{◌≡◌, ◌≤◌, All, Some, IfOk, OnErr, length};
 ghost use Rattle.account_shared.specs.Views.{Belongs};
-ghost use Rattle.doors.specs.Starts.{IsNew};
+ghost use Rattle.doors.specs.Starts.{IsNew, members};
 ghost use Rattle.gateway_workers.specs.Decisions.{rules_of, AreFresh, service_of};
-ghost use Rattle.gateway_workers.specs.Workers.{members};
 ghost use Rattle.gateway_workers.specs.declared.serving.TheConstants.{WORKER_LIMIT};
 ghost use Rattle.gateway_workers.specs.declared.working.TheConstants.{CONNECTION_LIMIT};
 ghost use Rattle.gateway_serving.specs.Telling.{doors_told, asked_of};

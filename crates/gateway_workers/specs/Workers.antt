@@ -1,9 +1,9 @@
 -- What one worker does, turn by turn.
-use Rattle.std.specs.Prelude.{◌≡◌, ◌⊎◌, ℕ, ◌+◌, ◌*◌, ◌≤◌, min, List, [], ◌∷◌, map, length, ◌<◌, slice_index_or, Bool, true, false, Option}
+use Rattle.std.specs.Prelude.{◌≡◌, ◌⊎◌, ℕ, ◌+◌, ◌*◌, ◌≤◌, min, List, [], ◌∷◌, map, length, ◌<◌, slice_index_or, true, false}
 use Rattle.account_shared.specs.Views.{PassesView, AccountsView, Belongs, IsIdle}
 use Rattle.account_shared.specs.Gains.{Gains}
 use Rattle.outside.specs.Faults.{Rose}
-use Rattle.doors.specs.Visits.{Visit, Gained}
+use Rattle.doors.specs.Visits.{Gained}
 use Rattle.doors.specs.Starts.{DoorMembers}
 use Rattle.gateway_connections.specs.Exchanges.{Service}
 use Rattle.gateway_workers.specs.declared.worker.Worker.{Worker}
@@ -12,10 +12,6 @@ use Rattle.gateway_workers.specs.declared.worker.Next.TheVariants.{One, Over, Fa
 use Rattle.gateway_workers.specs.Tours.{Run, AreRuns, visits_of, calls_in, replies_in, one_if, Tour, AreTours, connections_of, replies_of, faults_of}
 use Rattle.gateway_workers.specs.declared.work_done.WorkDone.{WorkDone}
 use Rattle.gateway_workers.specs.Joins.{JoinTours}
-
--- what a door tells, as one
-abbrev pub members : {D : Type 0} → (D → Bool) → (D → ℕ) → (D → ℕ) → (D → Option (List Visit)) → DoorMembers D
-members out to_come faults visits = record { out = out; to_come = to_come; faults = faults; visits = visits }
 
 -- Between two moments the worker served these connections, and nothing else was done to its door and its passes.
 pub record Did {D : Type 0} (t : DoorMembers D) (s : Service) (accounts : AccountsView) (v w : Worker D) (runs : List Run) : Type 0 where

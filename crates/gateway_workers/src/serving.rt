@@ -2,9 +2,10 @@
 
 ghost use Rattle.std.specs.Prelude.{◌≡◌, ◌≤◌, ◌<◌, All, false, length, IfOk, IfErr};
 ghost use Rattle.account_shared.specs.Views.{Belongs};
+ghost use Rattle.doors.specs.Starts.{members};
 ghost use Rattle.gateway_connections.specs.Exchanges.{service_of};
 ghost use Rattle.gateway_workers.specs.Joins.{GivesBack};
-ghost use Rattle.gateway_workers.specs.Workers.{members, Waits, Worked, AllWorked, Serves};
+ghost use Rattle.gateway_workers.specs.Workers.{Waits, Worked, AllWorked, Serves};
 
 use crate::joining::{join_all, split_all};
 use crate::pairing::{added_up, pair, part};

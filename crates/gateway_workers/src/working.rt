@@ -2,8 +2,9 @@
 
 ghost use Rattle.std.specs.Prelude.{◌≡◌, ◌*◌, ◌≤◌, ◌<◌, false};
 ghost use Rattle.account_shared.specs.Views.{Belongs, IsIdle};
+ghost use Rattle.doors.specs.Starts.{members};
 ghost use Rattle.gateway_connections.specs.Exchanges.{service_of};
-ghost use Rattle.gateway_workers.specs.Workers.{members, TurnIs, Waits, Worked};
+ghost use Rattle.gateway_workers.specs.Workers.{TurnIs, Waits, Worked};
 
 use crate::worker::{Next, Worker};
 use doors::{Door, DoorFault};

@@ -1,7 +1,7 @@
 use Rattle.std.proofs.Common.{◌∙◌, map, sym}
 use Rattle.doors.specs.Starts.{stopped_by}
 use Rattle.gateway_workers.specs.Decisions.{rules_of, service_of}
-use Rattle.gateway_workers.specs.Workers.{members}
+use Rattle.doors.specs.Starts.{members}
 use Rattle.gateway_serving.proofs.DoorsBack.{as_many}
 use Rattle.gateway_serving.proofs.ClientAccounts.{is_idle}
 use Rattle.gateway_serving.proofs.AllServed.{ends_serving, start_and_stop, was_unserved}

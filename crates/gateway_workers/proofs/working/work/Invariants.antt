@@ -1,7 +1,8 @@
 use Rattle.std.proofs.Common.{◌-◌, ◌≡◌, List, false, ◌≤◌}
 use Rattle.gateway_connections.specs.Exchanges.{service_of}
 use Rattle.gateway_workers.specs.Tours.{Run}
-use Rattle.gateway_workers.specs.Workers.{members, Did}
+use Rattle.doors.specs.Starts.{members}
+use Rattle.gateway_workers.specs.Workers.{Did}
 use Rattle.gateway_workers.proofs.working.work.Given as goal
 
 abbrev pub invariant-turns : goal.invariant-turns
