@@ -3,3 +3,4 @@ pub mod Going
 pub mod WrittenReplies
 pub mod OneExchange
 pub mod GateLemmas
+pub mod Responses

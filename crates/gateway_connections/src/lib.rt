@@ -4,6 +4,7 @@
 
 mod ending;
 mod exchanging;
+mod laws;
 mod reply;
 mod serving;
 mod sharing;
@@ -12,6 +13,7 @@ mod turn;
 pub use ending::{ConnectionEnd, EXCHANGE_LIMIT, Served};
 pub use exchanging::exchange;
 pub use gateway_core::{Gate, Settings, Totals, close};
+pub use laws::a_response_is_given_where_it_is_due;
 pub use reply::Reply;
 pub use serving::serve_connection;
 pub use sharing::replies_are_shared;

@@ -5,6 +5,7 @@
 
 mod finish;
 mod program;
+mod serve_laws;
 mod serving;
 mod status_laws;
 
@@ -14,4 +15,5 @@ pub use command_outcomes::{
 };
 pub use command_words::WordsFault;
 pub use program::{end_without_command, run};
+pub use serve_laws::served_responses_are_those_due;
 pub use status_laws::a_status_says_what_was_done;

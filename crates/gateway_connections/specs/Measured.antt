@@ -1,0 +1,61 @@
+-- When a response is due to a request, and that it was given.
+use Rattle.std.specs.Prelude.{◌≡◌, ◌⊎◌, ℕ, true, false, [], ◌∷◌, Some, Ok, ⊤}
+use Rattle.std.specs.List.{AllByRecursion}
+use Rattle.cost_num.specs.declared.Cost.{Cost}
+use Rattle.account_core.specs.declared.Ticket.{Ticket}
+use Rattle.account_core.specs.Machine.{reservation, granted, short}
+use Rattle.account_shared.specs.Gains.{client_call}
+use Rattle.outside.specs.Dials.{Dial}
+pub use Rattle.upstream_link.specs.declared.reply.UpstreamReply.{UpstreamReply}
+use Rattle.upstream_link.specs.Replies.{ReplyOf}
+use Rattle.gateway_core.specs.Rules.{client_of, window_of}
+pub use Rattle.gateway_core.specs.Measures.{Metered}
+use Rattle.gateway_core.specs.Measures.{IsMeasuredFor}
+use Rattle.gateway_core.specs.Finishes.{settling}
+use Rattle.gateway_connections.specs.Replies.{reply_as}
+use Rattle.gateway_connections.specs.Exchanges.{Service, Exchange, IsExchange}
+
+-- it went so, behind some calls
+abbrev pub WasExchanged : Service → Exchange → Type 0
+WasExchanged s x = (made : ℕ) × IsExchange s made ⊤ x
+
+-- The account of a client was short at its turn.
+abbrev pub WasShort : Service → Exchange → Type 0
+WasShort s x = (client : ℕ) × (bound : Cost) × (left : Cost) × (x.calls ≡ client_call client (reservation (window_of s.rules x.moment) bound) (short left) ∷ [])
+
+-- The dial was answered, no transfer failed, and what was taken begins with this reply.
+abbrev pub Brought : UpstreamReply → Dial → Type 0
+Brought reply d = (d.answered ≡ true) × (d.failed ≡ false) × ReplyOf (Ok reply) d.taken d.ended
+
+-- So it is of the dial of an exchange, if it made one.
+abbrev pub WasBrought : UpstreamReply → Exchange → Type 0
+WasBrought reply x = AllByRecursion (Brought reply) x.dials
+
+-- The exchange made one dial, which brought this reply.
+abbrev pub HasBrought : UpstreamReply → Exchange → Type 0
+HasBrought reply x = (d : Dial) × (x.dials ≡ d ∷ []) × Brought reply d
+
+-- A response is due: the key is a client's, whose account wasn't short; the body asks for an operation that is accepted; and what
+-- the upstream replied, without a fault of the wire, is a response to it that keeps the declared sizes, of which this is measured.
+pub record IsDue (s : Service) (x : Exchange) (metered : Metered) : Type 0 where
+  pub client : ℕ
+  pub known : client_of s.rules x.ask.key ≡ Some client
+  pub covered : WasShort s x → ⊥
+  pub reply : UpstreamReply
+  pub brought : WasBrought reply x
+  pub measured : IsMeasuredFor s.rules x.ask.body.items reply.body.items metered
+
+-- It was given: replied with 200, as the upstream's reply was measured, and settled at the measured cost.
+pub record WasGiven (s : Service) (x : Exchange) (metered : Metered) : Type 0 where
+  pub ticket : Ticket
+  pub calls : x.calls ≡ client_call ticket.client (reservation (window_of s.rules x.moment) ticket.bound) (granted ticket.window)
+      ∷ settling ticket metered.cost ∷ []
+  pub replied : x.reply ≡ reply_as 200 (Some (ticket.bound, metered.cost)) metered.text
+
+-- It was given, or memory was wanting.
+abbrev pub WasGivenOr500 : Service → Exchange → Metered → Type 0
+WasGivenOr500 s x metered = WasGiven s x metered ⊎ (x.reply.status ≡ 500)
+
+-- A response was due, its reply was brought by one dial, and it was given.
+abbrev pub WasDueAndGiven : Service → Exchange → Type 0
+WasDueAndGiven s x = (metered : Metered) × (due : IsDue s x metered) × HasBrought due.reply x × WasGiven s x metered
