@@ -1,0 +1,11 @@
+//! Where an operation is answered: by the upstream server, or by the gateway from its own schema. The fields at the root of
+//! the operation tell.
+#![tactic(auto)]
+
+mod classes;
+mod operations;
+mod root_fields;
+mod root_parts;
+
+pub use classes::Class;
+pub use operations::class;
