@@ -1,0 +1,5 @@
+pub mod Appends
+pub mod Lists
+pub mod MakingSteps
+pub mod Listed
+pub mod Arguments

@@ -1,0 +1,9 @@
+-- the meaning
+pub mod MetaText
+pub mod Facts
+pub mod FactsViews
+pub mod Deprecations
+pub mod Things
+pub mod Table
+-- what serves proofs
+pub mod Making

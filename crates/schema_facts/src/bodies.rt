@@ -1,0 +1,299 @@
+//! The fields of types that tell what stands in the bodies of their definitions.
+
+ghost use Rattle.std.specs.Prelude.{◌≡◌, ◌++◌, [], IfOk, map, option_map, Some, None};
+ghost use Rattle.schema_reader.specs.Trees.{definition_tree, field_tree, input_tree, enum_value_tree, body_tree};
+ghost use Rattle.schema_facts.specs.Facts.{number_named, possible_types};
+ghost use Rattle.schema_facts.specs.FactsViews.{facts_data};
+ghost use Rattle.schema_facts.specs.Things.{thing_data, held_data, a_type, an_input};
+ghost use Rattle.schema_facts.specs.Table.{kind, kind_word, of_body, in_body, fields_in, shown_fields, interfaces_in, values_in, shown_values, inputs_in, specified_by, url_in, definition_at, possible, possible_at, kind_of_type};
+ghost use Rattle.schema_facts.specs.Making.{listed};
+
+use crate::deprecations::{is_deprecated, url_of};
+use crate::facts::SchemaFacts;
+use crate::held::{Held, maybe_word, word};
+use crate::things::{Thing, number_named};
+use crate::types::definition_at;
+use gql_base::Text;
+use schema_reader::{DefBody, EnumValueDef, FieldDef, InputValue, SchemaDef};
+use std::alloc::{AllocError, Global};
+
+fn kind_word(body: &DefBody) -> &'static str
+    ensures { result.now ≡ kind_word (body_tree body.now) }
+{
+    match body {
+        DefBody::Scalar => "SCALAR",
+        DefBody::Object { .. } => "OBJECT",
+        DefBody::Interface { .. } => "INTERFACE",
+        DefBody::Union(_) => "UNION",
+        DefBody::Enum(_) => "ENUM",
+        DefBody::Input(_) => "INPUT_OBJECT",
+        DefBody::Schema(_) | DefBody::Directive { .. } => "SCALAR",
+    }
+}
+
+fn kind_of_type<'f>(definition: Option<&'f SchemaDef>) -> Held<'f>
+    ensures { held_data result ≡ kind_of_type (option_map (λ d. definition_tree d.now) definition.entry) }
+{
+    match definition {
+        Some(definition) => Held::One(Thing::Word(kind_word(&definition.body))),
+        None => Held::One(Thing::Word("SCALAR")),
+    }
+}
+
+pub fn kind_of<'f>(facts: &'f SchemaFacts, of: Thing<'f>) -> Held<'f>
+    ensures { held_data result ≡ kind (facts_data facts.now) (thing_data of.entry) }
+{
+    match of {
+        Thing::TypeAt(number) => kind_of_type(definition_at(facts, number)),
+        Thing::ListOf(_) => word("LIST"),
+        Thing::NonNull(_) => word("NON_NULL"),
+        _ => Held::Nothing,
+    }
+}
+
+fn shown_fields<'f>(
+    alloc: Global,
+    all: bool,
+    fields: &'f [FieldDef],
+) -> Result<Vec<Thing<'f>>, AllocError>
+    ensures { IfOk result (λ things. map thing_data things.items ≡ shown_fields all (map field_tree fields.now)) }
+{
+    let mut things = Vec::new(alloc);
+    'fields: for field in fields {
+        if all || !is_deprecated(&field.directives) {
+            things.push(Thing::Field(field))?;
+        }
+    }
+    Ok(things)
+}
+
+fn fields_in<'f>(
+    alloc: Global,
+    all: bool,
+    definition: Option<&'f SchemaDef>,
+) -> Result<Held<'f>, AllocError>
+    ensures { IfOk result (λ found. held_data found ≡ in_body (fields_in all) (option_map (λ d. definition_tree d.now) definition.entry)) }
+{
+    match definition {
+        Some(definition) => match &definition.body {
+            DefBody::Object { fields, .. } => Ok(Held::Many(shown_fields(alloc, all, fields)?)),
+            DefBody::Interface { fields, .. } => Ok(Held::Many(shown_fields(alloc, all, fields)?)),
+            _ => Ok(Held::Nothing),
+        },
+        None => Ok(Held::Nothing),
+    }
+}
+
+pub fn fields<'f>(
+    alloc: Global,
+    facts: &'f SchemaFacts,
+    all: bool,
+    of: Thing<'f>,
+) -> Result<Held<'f>, AllocError>
+    ensures { IfOk result (λ found. held_data found ≡ of_body (facts_data facts.now) (fields_in all) (thing_data of.entry)) }
+{
+    match of {
+        Thing::TypeAt(number) => fields_in(alloc, all, definition_at(facts, number)),
+        _ => Ok(Held::Nothing),
+    }
+}
+
+fn named_types<'f>(
+    alloc: Global,
+    facts: &'f SchemaFacts,
+    names: &[Text],
+) -> Result<Vec<Thing<'f>>, AllocError>
+    ensures { IfOk result (λ things. map thing_data things.items ≡ map (λ of. a_type (number_named (facts_data facts.now).types of)) names.now) }
+{
+    let mut things = Vec::new(alloc);
+    'names: for name in names {
+        things.push(Thing::TypeAt(number_named(facts, name.as_str())))?;
+    }
+    Ok(things)
+}
+
+fn interfaces_in<'f>(
+    alloc: Global,
+    facts: &'f SchemaFacts,
+    definition: Option<&'f SchemaDef>,
+) -> Result<Held<'f>, AllocError>
+    ensures { IfOk result (λ found. held_data found ≡ in_body (interfaces_in (facts_data facts.now)) (option_map (λ d. definition_tree d.now) definition.entry)) }
+{
+    match definition {
+        Some(definition) => match &definition.body {
+            DefBody::Object { interfaces, .. } => {
+                Ok(Held::Many(named_types(alloc, facts, interfaces)?))
+            }
+            DefBody::Interface { interfaces, .. } => {
+                Ok(Held::Many(named_types(alloc, facts, interfaces)?))
+            }
+            _ => Ok(Held::Nothing),
+        },
+        None => Ok(Held::Nothing),
+    }
+}
+
+pub fn interfaces<'f>(
+    alloc: Global,
+    facts: &'f SchemaFacts,
+    of: Thing<'f>,
+) -> Result<Held<'f>, AllocError>
+    ensures { IfOk result (λ found. held_data found ≡ of_body (facts_data facts.now) (interfaces_in (facts_data facts.now)) (thing_data of.entry)) }
+{
+    match of {
+        Thing::TypeAt(number) => interfaces_in(alloc, facts, definition_at(facts, number)),
+        _ => Ok(Held::Nothing),
+    }
+}
+
+fn numbered<'f>(alloc: Global, numbers: &[usize]) -> Result<Vec<Thing<'f>>, AllocError>
+    ensures { IfOk result (λ things. map thing_data things.items ≡ map a_type numbers.now) }
+{
+    let mut things = Vec::new(alloc);
+    'numbers: for number in numbers {
+        things.push(Thing::TypeAt(*number))?;
+    }
+    Ok(things)
+}
+
+// What stands in the list of possible types at a number.
+fn listed(facts: &SchemaFacts, number: usize) -> &[usize]
+    ensures { result.now ≡ listed (facts_data facts.now) number }
+{
+    match facts.possible.get(number) {
+        Some(numbers) => numbers,
+        None => &[],
+    }
+}
+
+// The possible types of the type of a number, if it is one that has them.
+fn possible_at(facts: &SchemaFacts, number: usize) -> Option<&[usize]>
+    ensures { option_map (λ numbers. numbers.now) result ≡ possible_at (facts_data facts.now) number }
+{
+    match definition_at(facts, number) {
+        Some(definition) => match &definition.body {
+            DefBody::Interface { .. } | DefBody::Union(_) => Some(listed(facts, number)),
+            _ => None,
+        },
+        None => None,
+    }
+}
+
+pub fn possible<'f>(
+    alloc: Global,
+    facts: &'f SchemaFacts,
+    of: Thing<'f>,
+) -> Result<Held<'f>, AllocError>
+    ensures { IfOk result (λ found. held_data found ≡ possible (facts_data facts.now) (thing_data of.entry)) }
+{
+    match of {
+        Thing::TypeAt(number) => match possible_at(facts, number) {
+            Some(numbers) => Ok(Held::Many(numbered(alloc, numbers)?)),
+            None => Ok(Held::Nothing),
+        },
+        _ => Ok(Held::Nothing),
+    }
+}
+
+fn shown_values<'f>(
+    alloc: Global,
+    all: bool,
+    values: &'f [EnumValueDef],
+) -> Result<Vec<Thing<'f>>, AllocError>
+    ensures { IfOk result (λ things. map thing_data things.items ≡ shown_values all (map enum_value_tree values.now)) }
+{
+    let mut things = Vec::new(alloc);
+    'values: for value in values {
+        if all || !is_deprecated(&value.directives) {
+            things.push(Thing::EnumValue(value))?;
+        }
+    }
+    Ok(things)
+}
+
+fn values_in<'f>(
+    alloc: Global,
+    all: bool,
+    definition: Option<&'f SchemaDef>,
+) -> Result<Held<'f>, AllocError>
+    ensures { IfOk result (λ found. held_data found ≡ in_body (values_in all) (option_map (λ d. definition_tree d.now) definition.entry)) }
+{
+    match definition {
+        Some(definition) => match &definition.body {
+            DefBody::Enum(values) => Ok(Held::Many(shown_values(alloc, all, values)?)),
+            _ => Ok(Held::Nothing),
+        },
+        None => Ok(Held::Nothing),
+    }
+}
+
+pub fn enum_values<'f>(
+    alloc: Global,
+    facts: &'f SchemaFacts,
+    all: bool,
+    of: Thing<'f>,
+) -> Result<Held<'f>, AllocError>
+    ensures { IfOk result (λ found. held_data found ≡ of_body (facts_data facts.now) (values_in all) (thing_data of.entry)) }
+{
+    match of {
+        Thing::TypeAt(number) => values_in(alloc, all, definition_at(facts, number)),
+        _ => Ok(Held::Nothing),
+    }
+}
+
+/// Arguments or input fields, in their order.
+pub fn inputs<'f>(alloc: Global, values: &'f [InputValue]) -> Result<Vec<Thing<'f>>, AllocError>
+    ensures { IfOk result (λ things. map thing_data things.items ≡ map an_input (map input_tree values.now)) }
+{
+    let mut things = Vec::new(alloc);
+    'values: for value in values {
+        things.push(Thing::Input(value))?;
+    }
+    Ok(things)
+}
+
+fn inputs_in<'f>(alloc: Global, definition: Option<&'f SchemaDef>) -> Result<Held<'f>, AllocError>
+    ensures { IfOk result (λ found. held_data found ≡ in_body inputs_in (option_map (λ d. definition_tree d.now) definition.entry)) }
+{
+    match definition {
+        Some(definition) => match &definition.body {
+            DefBody::Input(values) => Ok(Held::Many(inputs(alloc, values)?)),
+            _ => Ok(Held::Nothing),
+        },
+        None => Ok(Held::Nothing),
+    }
+}
+
+pub fn input_fields<'f>(
+    alloc: Global,
+    facts: &'f SchemaFacts,
+    of: Thing<'f>,
+) -> Result<Held<'f>, AllocError>
+    ensures { IfOk result (λ found. held_data found ≡ of_body (facts_data facts.now) inputs_in (thing_data of.entry)) }
+{
+    match of {
+        Thing::TypeAt(number) => inputs_in(alloc, definition_at(facts, number)),
+        _ => Ok(Held::Nothing),
+    }
+}
+
+fn url_in<'f>(definition: Option<&'f SchemaDef>) -> Held<'f>
+    ensures { held_data result ≡ url_in (option_map (λ d. definition_tree d.now) definition.entry) }
+{
+    match definition {
+        Some(definition) => match &definition.body {
+            DefBody::Scalar => maybe_word(url_of(&definition.directives)),
+            _ => Held::Nothing,
+        },
+        None => Held::Nothing,
+    }
+}
+
+pub fn specified_by<'f>(facts: &'f SchemaFacts, of: Thing<'f>) -> Held<'f>
+    ensures { held_data result ≡ specified_by (facts_data facts.now) (thing_data of.entry) }
+{
+    match of {
+        Thing::TypeAt(number) => url_in(definition_at(facts, number)),
+        _ => Held::Nothing,
+    }
+}

@@ -1,0 +1,23 @@
+//! What is known of a schema.
+
+ghost use Rattle.schema_facts.specs.Facts.{KnowsPossible};
+
+use crate::known::KnownType;
+use gql_base::{Indexed, Text};
+use schema_reader::SchemaDef;
+
+/// What is known of a schema, the types and directives that every schema has among it.
+#[derive(Drop)]
+pub struct SchemaFacts {
+    pub(crate) description: Option<Text>,
+    pub(crate) types: Indexed<KnownType>,
+    /// The numbers of the possible types of each type.
+    pub(crate) possible: Vec<Vec<usize>>,
+    /// The name of the type of queries.
+    pub(crate) query_name: Text,
+    pub(crate) query: usize,
+    pub(crate) mutation: Option<usize>,
+    pub(crate) subscription: Option<usize>,
+    pub(crate) directives: Vec<SchemaDef>,
+    ghost knows: { KnowsPossible possible.items types.items.items },
+}

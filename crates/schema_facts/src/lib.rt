@@ -1,0 +1,26 @@
+//! What is known of a schema, and what each field of the schema of schemas gives of it (GraphQL October 2021, 4).
+#![tactic(auto)]
+
+mod bodies;
+mod deprecations;
+mod directives;
+mod facts;
+mod held;
+mod known;
+mod making;
+mod members;
+mod meta_schema;
+mod possible;
+mod scalars;
+mod sorting;
+mod table;
+mod things;
+mod types;
+
+pub use facts::SchemaFacts;
+pub use held::Held;
+pub use known::KnownType;
+pub use making::facts_of;
+pub use meta_schema::meta_text;
+pub use table::{What, look_up};
+pub use things::Thing;
