@@ -8,6 +8,7 @@ status. So what `main` hands out is that of `run`. The status is 1 where a row d
 
 import os
 import shutil
+import subprocess
 import sys
 import tempfile
 
@@ -42,6 +43,12 @@ def differing():
     return count, found
 
 
+def end_without_output():
+    """How the program ends where its output takes nothing."""
+    with open("/dev/full", "w") as full:
+        return subprocess.run([release.BUILT, "--version"], stdin=subprocess.DEVNULL, stdout=full, stderr=subprocess.DEVNULL, timeout=60).returncode
+
+
 def main():
     if not os.path.isfile(release.BUILT):
         print("program rows: no gate has left a program here")
@@ -51,7 +58,10 @@ def main():
     if found:
         print(f"program rows: the program differs in {len(found)} of {count} rows, first in: {found[0]}")
         return 1
-    print(f"program rows: the program ends and writes as {count} rows do, with the statuses {', '.join(map(str, statuses))}")
+    if end_without_output() != 4:
+        print("program rows: the program doesn't end with status 4 where its output takes nothing")
+        return 1
+    print(f"program rows: the program ends and writes as {count} rows do, with the statuses {', '.join(map(str, statuses))}, and with 4 where its output takes nothing")
     return 0
 
 
