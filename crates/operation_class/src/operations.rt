@@ -1,7 +1,6 @@
 //! The class of an operation of a document.
 
-ghost use Rattle.std.specs.Prelude.{◌≡◌, IfOk, is_some, true};
-ghost use Rattle.document_rules.specs.Parts.{operation_at};
+ghost use Rattle.std.specs.Prelude.{◌≡◌, IfOk};
 ghost use Rattle.operation_class.specs.Classes.{class_of, class_at};
 
 use crate::classes::{Class, class_by_fields};
@@ -26,10 +25,9 @@ fn class_of(
     Ok(class_by_fields(fields.as_slice()))
 }
 
-/// The class of the operation at a place among a document's definitions. It asks that an operation stands there, and for no
-/// more: the document may break any rule.
+/// The class of the operation at a place among a document's definitions. The document may break any rule; where no operation
+/// stands there it is `Upstream`.
 pub fn class(alloc: Global, document: &Document, picked: usize) -> Result<Class, AllocError>
-    requires { is_some (operation_at document.now.definitions.items picked) ≡ true }
     ensures { IfOk result (λ class. class ≡ class_at document.now.definitions.items picked) }
 {
     match document.definitions.get(picked) {

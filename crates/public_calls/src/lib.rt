@@ -8,6 +8,8 @@ mod documents;
 #[cfg(test)]
 mod forms;
 #[cfg(test)]
+mod introspections;
+#[cfg(test)]
 mod links;
 #[cfg(test)]
 mod schemas;
