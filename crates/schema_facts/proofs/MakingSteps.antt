@@ -12,7 +12,7 @@ module _ (text meta built : List DefinitionTree) (told : Told) (t0 t1 t2 t3 : Li
   types_made : IsTold text told → t0 ≡ [] → t1 ≡ t0 ++ types_in text → t2 ≡ scalars_if told.int told.id t1 → t3 ≡ t2 ++ reserved_in meta → t3 ≡ known_types text meta
   types_made is none own scalars all =
       all ∙ ap (λ t. t ++ reserved_in meta)
-        (scalars ∙ ap (scalars_if told.int told.id) (own ∙ ap (λ l. l ++ types_in text) none) ∙ ap₂ (λ int id. scalars_if int id (types_in text)) is.int is.id)
+      (scalars ∙ ap (scalars_if told.int told.id) (own ∙ ap (λ l. l ++ types_in text) none) ∙ ap₂ (λ int id. scalars_if int id (types_in text)) is.int is.id)
 
   directives_made : d0 ≡ [] → d1 ≡ d0 ++ not_defined text built → d2 ≡ d1 ++ directives_in text → d2 ≡ not_defined text built ++ directives_in text
   directives_made none further own = own ∙ ap (λ l. l ++ directives_in text) (further ∙ ap (λ l. l ++ not_defined text built) none)

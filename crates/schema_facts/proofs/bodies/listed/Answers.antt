@@ -6,9 +6,9 @@ pub returns-in-Some : goal.returns-in-Some
 returns-in-Some c = let h = c.in-Some.ensures.lookup in
     c.deref-in-Some.ensures.value
     ∙ listed_there c.args.facts.now.possible.items c.args.facts.now.types.items.items c.args.number c.in-Some.numbers.now c.args.facts.now.knows
-      (subst (λ l. c.args.number < length l) c.deref.ensures.value h.3.0) (h.1 ∙ ap (λ l. get_or l c.args.number c.in-Some.numbers.now) c.deref.ensures.value)
+    (subst (λ l. c.args.number < length l) c.deref.ensures.value h.3.0) (h.1 ∙ ap (λ l. get_or l c.args.number c.in-Some.numbers.now) c.deref.ensures.value)
 
 pub returns-in-None : goal.returns-in-None
 returns-in-None c =
     listed_past c.args.facts.now.possible.items c.args.facts.now.types.items.items c.args.number c.args.facts.now.knows
-      (subst (λ l. length l ≤ c.args.number) c.deref.ensures.value c.in-None.ensures.lookup.3)
+    (subst (λ l. length l ≤ c.args.number) c.deref.ensures.value c.in-None.ensures.lookup.3)
