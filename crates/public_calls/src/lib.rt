@@ -8,8 +8,6 @@ mod documents;
 #[cfg(test)]
 mod forms;
 #[cfg(test)]
-mod introspections;
-#[cfg(test)]
 mod links;
 #[cfg(test)]
 mod schemas;
