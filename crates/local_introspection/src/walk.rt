@@ -1,0 +1,267 @@
+//! The walk over what is asked. In one pass each value is written and counted, and what it costs is added up.
+
+ghost use Rattle.std.specs.Prelude.{◌≡◌, ◌++◌, ◌+◌, ◌≤◌, ◌<◌, [], ◌∷◌, map, suc, IfOk, IfErr, OnOk, Some, None, string_bytes, codes};
+ghost use Rattle.serde_json.specs.Data.{null};
+ghost use Rattle.serde_json.specs.Written.{compact_text};
+ghost use Rattle.cost_num.specs.Capped.{capped};
+ghost use Rattle.response_model.specs.Cost.{Part};
+ghost use Rattle.response_model.specs.Response.{object};
+ghost use Rattle.response_model.specs.ResponseText.{tree_text, elements_text, entries_text, key_text, response_text};
+ghost use Rattle.local_introspection.specs.AskedNodes.{asked_nodes, asked_node};
+ghost use Rattle.schema_facts.specs.Things.{ThingData, thing_data, held_data, leaf_of, the_root};
+ghost use Rattle.schema_facts.specs.FactsViews.{facts_data};
+ghost use Rattle.schema_facts.specs.Table.{held};
+ghost use Rattle.local_introspection.specs.Answers.{entries_of, tree_of_thing, tree_of_held, elements_for, cost_of_entries, cost_of_thing, cost_of_held, cost_of_things, field_cost, values_in, values_in_elements, values_in_entries};
+ghost use Rattle.local_introspection.specs.declared.walk.Stop.TheVariants.{TooLarge as LargeStop};
+ghost use Rattle.local_introspection.specs.MetaTypes.{number_of, weight_of};
+ghost use Rattle.local_introspection.specs.Walking.{Adds, AddsTree, AddsLeaf, IsAnswer};
+
+use crate::asked::AskedNode;
+use cost_num::{CAP, Cost, UNIT};
+use gql_base::{Text, print_value};
+use response_model::{write_key, write_string};
+use schema_facts::{Held, SchemaFacts, Thing, What, look_up};
+use std::alloc::{AllocError, Global};
+
+/// How many values an answer has at most, lists and nulls among them.
+pub const VALUE_LIMIT: usize = 1_000_000;
+
+/// Why an answer isn't finished.
+#[derive(Clone, Copy)]
+pub enum Stop {
+    TooLarge,
+    Memory,
+}
+
+impl From<AllocError> for Stop {
+    ghost use Rattle.local_introspection.specs.declared.walk.Stop.TheVariants.{Memory};
+
+    ghost from_gives = { λ _ stop. stop ≡ Memory };
+
+    fn from(_failed: AllocError) -> Stop {
+        Stop::Memory
+    }
+}
+
+/// The text of an answer, and what it costs.
+#[derive(Drop)]
+pub struct Local {
+    pub cost: Cost,
+    pub text: Text,
+}
+
+const NOTHING: Cost = Cost {
+    types: 0,
+    fields: 0,
+};
+
+fn sum_capped(a: u64, b: u64) -> u64
+    ensures { result ≡ capped (a + b) }
+{
+    a.saturating_add(b).min(CAP + 1)
+}
+
+fn sum(a: Cost, b: Cost) -> Cost
+    ensures types { result.types ≡ capped (a.types + b.types) }
+    ensures fields { result.fields ≡ capped (a.fields + b.fields) }
+{
+    Cost {
+        types: sum_capped(a.types, b.types),
+        fields: sum_capped(a.fields, b.fields),
+    }
+}
+
+fn weight_of(what: What) -> u64
+    ensures { result ≡ weight_of what }
+{
+    match what {
+        What::Schema => UNIT,
+        What::Named { of: _ } => UNIT,
+        What::Types => UNIT,
+        What::QueryType => UNIT,
+        What::MutationType => UNIT,
+        What::SubscriptionType => UNIT,
+        What::Directives => UNIT,
+        What::Fields { all: _ } => UNIT,
+        What::Interfaces => UNIT,
+        What::PossibleTypes => UNIT,
+        What::EnumValues { all: _ } => UNIT,
+        What::InputFields => UNIT,
+        What::OfType => UNIT,
+        What::Args => UNIT,
+        What::FieldType => UNIT,
+        _ => 0,
+    }
+}
+
+// Takes one of the values that may still come.
+fn take_one(left: &mut usize) -> Result<(), Stop>
+    ensures taken { OnOk result (left.old ≡ left.new + 1) }
+    ensures none { IfErr result (λ stop. (stop ≡ LargeStop) × (left.old ≡ 0)) }
+{
+    if *left == 0 {
+        return Err(Stop::TooLarge);
+    }
+    *left -= 1;
+    Ok(())
+}
+
+// Writes the leaf that a thing is. Of an object nothing is written.
+fn write_leaf(alloc: Global, thing: Thing<'_>, into: &mut String) -> Result<bool, AllocError>
+    ensures { IfOk result (λ is_leaf. AddsLeaf (string_bytes into.old) (string_bytes into.new) (leaf_of (thing_data thing.entry)) is_leaf) }
+{
+    match thing {
+        Thing::Word(text) => {
+            write_string(alloc, text, into)?;
+            Ok(true)
+        }
+        Thing::Default(value) => {
+            let text = print_value(alloc, value)?;
+            write_string(alloc, text.as_str(), into)?;
+            Ok(true)
+        }
+        Thing::Flag(true) => {
+            into.push_str("true")?;
+            Ok(true)
+        }
+        Thing::Flag(false) => {
+            into.push_str("false")?;
+            Ok(true)
+        }
+        _ => Ok(false),
+    }
+}
+
+#[cycle(walk)]
+fn write_thing(
+    alloc: Global,
+    facts: &SchemaFacts,
+    thing: Thing<'_>,
+    nodes: &[AskedNode],
+    left: &mut usize,
+    into: &mut String,
+) -> Result<Cost, Stop>
+    ensures { AddsTree left.old left.new (string_bytes into.old) (string_bytes into.new) result (tree_of_thing (entries_of (facts_data facts.now) (asked_nodes nodes.now)) (thing_data thing.entry)) (λ part. cost_of_thing part (cost_of_entries (facts_data facts.now) part (asked_nodes nodes.now)) (thing_data thing.entry)) }
+{
+    take_one(left)?;
+    if write_leaf(alloc, thing, into)? {
+        return Ok(NOTHING);
+    }
+    into.push_str("{")?;
+    let below = write_entries(alloc, facts, thing, nodes, left, into)?;
+    Ok(sum(
+        Cost {
+            types: UNIT,
+            fields: 0,
+        },
+        below,
+    ))
+}
+
+#[cycle(walk)]
+fn write_entries(
+    alloc: Global,
+    facts: &SchemaFacts,
+    thing: Thing<'_>,
+    nodes: &[AskedNode],
+    left: &mut usize,
+    into: &mut String,
+) -> Result<Cost, Stop>
+    ensures { Adds left.old left.new (string_bytes into.old) (string_bytes into.new) result (values_in_entries (entries_of (facts_data facts.now) (asked_nodes nodes.now) (thing_data thing.entry))) (entries_text [] (entries_of (facts_data facts.now) (asked_nodes nodes.now) (thing_data thing.entry))) (λ part. cost_of_entries (facts_data facts.now) part (asked_nodes nodes.now) (thing_data thing.entry)) }
+{
+    let mut cost = NOTHING;
+    let mut front = "";
+    'nodes: for node in nodes {
+        into.push_str(front)?;
+        cost = sum(cost, write_entry(alloc, facts, thing, node, left, into)?);
+        front = ",";
+    }
+    into.push_str("}")?;
+    Ok(cost)
+}
+
+#[cycle(walk)]
+fn write_entry(
+    alloc: Global,
+    facts: &SchemaFacts,
+    thing: Thing<'_>,
+    node: &AskedNode,
+    left: &mut usize,
+    into: &mut String,
+) -> Result<Cost, Stop>
+    ensures { Adds left.old left.new (string_bytes into.old) (string_bytes into.new) result (values_in (tree_of_held (entries_of (facts_data facts.now) (asked_node node.now).below) (held (facts_data facts.now) (thing_data thing.entry) (asked_node node.now).what))) (key_text (asked_node node.now).key ++ tree_text (tree_of_held (entries_of (facts_data facts.now) (asked_node node.now).below) (held (facts_data facts.now) (thing_data thing.entry) (asked_node node.now).what))) (λ part. field_cost part (asked_node node.now).what + cost_of_held part (cost_of_entries (facts_data facts.now) part (asked_node node.now).below) (held (facts_data facts.now) (thing_data thing.entry) (asked_node node.now).what)) }
+{
+    write_key(alloc, node.key.as_str(), into)?;
+    let found = look_up(alloc, facts, thing, node.what)?;
+    let below = write_held(alloc, facts, found, node.below.as_slice(), left, into)?;
+    Ok(sum(
+        Cost {
+            types: 0,
+            fields: weight_of(node.what),
+        },
+        below,
+    ))
+}
+
+#[cycle(walk)]
+fn write_held(
+    alloc: Global,
+    facts: &SchemaFacts,
+    found: Held<'_>,
+    nodes: &[AskedNode],
+    left: &mut usize,
+    into: &mut String,
+) -> Result<Cost, Stop>
+    ensures { AddsTree left.old left.new (string_bytes into.old) (string_bytes into.new) result (tree_of_held (entries_of (facts_data facts.now) (asked_nodes nodes.now)) (held_data found.entry)) (λ part. cost_of_held part (cost_of_entries (facts_data facts.now) part (asked_nodes nodes.now)) (held_data found.entry)) }
+{
+    match found {
+        Held::Nothing => {
+            take_one(left)?;
+            into.push_str("null")?;
+            Ok(NOTHING)
+        }
+        Held::One(thing) => write_thing(alloc, facts, thing, nodes, left, into),
+        Held::Many(things) => {
+            take_one(left)?;
+            into.push_str("[")?;
+            write_things(alloc, facts, things.as_slice(), nodes, left, into)
+        }
+    }
+}
+
+#[cycle(walk)]
+fn write_things(
+    alloc: Global,
+    facts: &SchemaFacts,
+    things: &[Thing<'_>],
+    nodes: &[AskedNode],
+    left: &mut usize,
+    into: &mut String,
+) -> Result<Cost, Stop>
+    ensures { Adds left.old left.new (string_bytes into.old) (string_bytes into.new) result (values_in_elements (elements_for (entries_of (facts_data facts.now) (asked_nodes nodes.now)) (map thing_data things.entry.now))) (elements_text [] (elements_for (entries_of (facts_data facts.now) (asked_nodes nodes.now)) (map thing_data things.entry.now))) (λ part. cost_of_things part (cost_of_entries (facts_data facts.now) part (asked_nodes nodes.now)) (map thing_data things.entry.now)) }
+{
+    let mut cost = NOTHING;
+    let mut front = "";
+    'things: for thing in things {
+        into.push_str(front)?;
+        cost = sum(cost, write_thing(alloc, facts, *thing, nodes, left, into)?);
+        front = ",";
+    }
+    into.push_str("]")?;
+    Ok(cost)
+}
+
+/// The answer to what is asked at the root of a query. Too many values are told as soon as one comes that is one too many.
+pub fn write_answer(alloc: Global, facts: &SchemaFacts, nodes: &[AskedNode]) -> Result<Local, Stop>
+    ensures { IsAnswer (facts_data facts.now) (asked_nodes nodes.now) result }
+{
+    let mut text = String::new(alloc);
+    text.push_str("{\"data\":")?;
+    let mut left = VALUE_LIMIT;
+    let cost = write_thing(alloc, facts, Thing::Root, nodes, &mut left, &mut text)?;
+    text.push_str("}")?;
+    Ok(Local {
+        cost,
+        text: Text::from(text),
+    })
+}
