@@ -1,5 +1,5 @@
 -- Where repeats are left out the same is asked, and what is asked is planned.
-use Rattle.std.proofs.Common.{◌≡◌, ℕ, zero, suc, List, [], ◌∷◌, refl, sym, ap, ap₂, ◌∙◌}
+use Rattle.std.proofs.Common.{◌≡◌, ℕ, zero, suc, List, [], ◌∷◌, refl, ap, ap₂, ◌∙◌}
 use Rattle.response_model.specs.Plan.{Selected, Plan, position, Nodes, node, object_type, no_type}
 use Rattle.plan_model.specs.SelectedFields.{Setting, FieldCall, Place, leaf_place, object_place, place_at, arguments_at, if_coerced}
 use Rattle.plan_model.specs.Merging.{Position, keys_at, call_under, selected_under, below_key}

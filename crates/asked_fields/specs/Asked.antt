@@ -2,7 +2,7 @@
 -- (CoerceArgumentValues; GraphQL October 2021, 6.4.1). Of the objects at a place those of the first possible type are asked.
 use Rattle.std.specs.Prelude.{◌≡◌, ◌↔◌, ℕ, zero, suc, List, [], ◌∷◌}
 use Rattle.serde_json.specs.Data.{Data}
-use Rattle.response_model.specs.Plan.{Form, Selected, LeafType, Plan, leaf_plan, position, ObjectTypes, no_type, object_type, Nodes, no_node, node}
+use Rattle.response_model.specs.Plan.{Form, Selected, LeafType, Plan, leaf_plan, position, no_type, object_type, Nodes, no_node, node}
 use Rattle.response_model.specs.Response.{Tree, Fits}
 use Rattle.response_model.specs.Cost.{Part}
 use Rattle.schema_model.specs.Arguments.{ArgData}

@@ -1,2 +1,6 @@
 -- What is asked.
 pub mod Asked
+pub mod Arguments
+pub mod AskedNodes
+-- Finding it.
+pub mod Asking
