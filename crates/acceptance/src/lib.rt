@@ -19,4 +19,4 @@ pub use laws::{
     sent_bodies_hold_no_float,
 };
 pub use request::Request;
-pub use telling::refusal_text;
+pub use telling::{refusal_text, told_of_argument, told_of_size};

@@ -93,7 +93,8 @@ fn told_of_variable(alloc: Global, fault: &CoerceFault) -> Result<Text, AllocErr
     }
 }
 
-fn told_of_argument(alloc: Global, fault: &ArgFault) -> Result<Text, AllocError>
+/// Which argument is refused.
+pub fn told_of_argument(alloc: Global, fault: &ArgFault) -> Result<Text, AllocError>
     ensures { IfOk result (λ told. told ≡ argument_text fault.now) }
 {
     match fault {
@@ -104,7 +105,8 @@ fn told_of_argument(alloc: Global, fault: &ArgFault) -> Result<Text, AllocError>
     }
 }
 
-fn told_of_size(alloc: Global, fault: SizeFault) -> Result<Text, AllocError>
+/// Why a list has no size.
+pub fn told_of_size(alloc: Global, fault: SizeFault) -> Result<Text, AllocError>
     ensures { IfOk result (λ told. told ≡ size_text fault) }
 {
     match fault {

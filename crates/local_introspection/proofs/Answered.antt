@@ -10,7 +10,7 @@ use Rattle.local_introspection.specs.declared.walk.Stop.{Stop}
 use Rattle.local_introspection.specs.declared.walk.Stop.TheVariants.{TooLarge, Memory}
 use Rattle.local_introspection.specs.declared.walk.Local.{Local}
 use Rattle.schema_facts.specs.Facts.{FactsData}
-use Rattle.local_introspection.specs.AskedNodes.{AskedNodes}
+use Rattle.asked_fields.specs.AskedNodes.{AskedNodes}
 use Rattle.schema_facts.specs.Things.{the_root}
 use Rattle.local_introspection.specs.Answers.{values_in}
 use Rattle.local_introspection.specs.Walking.{AddsTree, IsAnswer, answer_tree, answer_cost}

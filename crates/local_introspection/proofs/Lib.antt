@@ -5,3 +5,10 @@ pub mod Most
 pub mod Answered
 pub mod Suits
 pub mod Fitting
+pub mod MetaAsked
+pub mod MetaLeaves
+pub mod OverMeta
+pub mod KeptPlaces
+pub mod Stages
+pub mod RequestAnswers
+pub mod PlainTexts

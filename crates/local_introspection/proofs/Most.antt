@@ -1,4 +1,4 @@
--- An answer costs at answer_at_most one a value.
+-- An answer costs at most one a value.
 use Rattle.std.proofs.Common.{◌≡◌, ℕ, ◌+◌, ◌*◌, ◌≤◌, suc, List, [], ◌∷◌, Option, Some, None, arith}
 use Rattle.serde_json.specs.Data.{Data}
 use Rattle.cost_num.specs.declared.TheConstants.{UNIT}
@@ -7,11 +7,11 @@ use Rattle.response_model.specs.Response.{Tree, object, Entries}
 use Rattle.schema_facts.specs.Facts.{FactsData}
 use Rattle.schema_facts.specs.declared.table.What.{What}
 use Rattle.schema_facts.specs.declared.table.What.TheVariants as what
-use Rattle.local_introspection.specs.AskedNodes.{AskedNodes, nothing_asked, asked_then}
+use Rattle.asked_fields.specs.AskedNodes.{AskedNodes, nothing_asked, asked_then}
 use Rattle.schema_facts.specs.Things.{ThingData, HeldData, nothing, one, many, leaf_of}
-use Rattle.local_introspection.specs.MetaTypes.{number_of, weight_of}
-use Rattle.schema_facts.specs.Table.{held}
-use Rattle.local_introspection.specs.Answers.{entries_of, tree_of_thing, leaf_or, tree_of_held, elements_for, values_in, values_in_entries, values_in_elements, field_cost, unless_leaf, cost_of_thing, cost_of_things, cost_of_held, cost_of_entries}
+use Rattle.meta_schema.specs.MetaTypes.{number_of, weight_of}
+use Rattle.meta_schema.specs.Fields.{what_asked}
+use Rattle.local_introspection.specs.Answers.{given_by, entries_of, tree_of_thing, leaf_or, tree_of_held, elements_for, values_in, values_in_entries, values_in_elements, field_cost, unless_leaf, cost_of_thing, cost_of_things, cost_of_held, cost_of_entries}
 
 -- what an entry may add beside its value
 abbrev extra : Part → ℕ
@@ -74,8 +74,8 @@ module _ (p : Part) (costs : ThingData → ℕ) (entries : ThingData → Entries
 pub entries_at_most : (f : FactsData) (p : Part) (nodes : AskedNodes) (x : ThingData) → cost_of_entries f p nodes x ≤ UNIT * values_in_entries (entries_of f nodes x)
 unfolding entries_of cost_of_entries
 entries_at_most f p nothing_asked x = omega arith
-entries_at_most f p (asked_then key w below others) x =
-    omega (arith, field_most p w, held_at_most p (cost_of_entries f p below) (entries_of f below) (entries_at_most f p below) (held f x w), entries_at_most f p others x)
+entries_at_most f p (asked_then key name argument below others) x =
+    omega (arith, field_most p (what_asked name argument), held_at_most p (cost_of_entries f p below) (entries_of f below) (entries_at_most f p below) (given_by f x name argument), entries_at_most f p others x)
 
 pub answer_at_most : (f : FactsData) (p : Part) (nodes : AskedNodes) (x : ThingData) → cost_of_thing p (cost_of_entries f p nodes) x ≤ UNIT * values_in (tree_of_thing (entries_of f nodes) x)
 answer_at_most f p nodes x = omega (arith, thing_at_most p (cost_of_entries f p nodes) (entries_of f nodes) (entries_at_most f p nodes) x)

@@ -3,15 +3,13 @@ use Rattle.std.proofs.Common.{◌≡◌, ℕ, List, [], ◌∷◌, Option, Some,
 use Rattle.serde_json.specs.Data.{Data}
 use Rattle.response_model.specs.Response.{Tree, null, leaf, list_of, object, Elements, no_element, element, Entries, no_entry, entry}
 use Rattle.schema_facts.specs.Facts.{FactsData}
-use Rattle.schema_facts.specs.declared.table.What.{What}
-use Rattle.local_introspection.specs.AskedNodes.{AskedNodes, nothing_asked, asked_then}
+use Rattle.asked_fields.specs.AskedNodes.{AskedNodes, nothing_asked, asked_then}
 use Rattle.schema_facts.specs.Things.{ThingData, HeldData, nothing, one, many, leaf_of}
-use Rattle.local_introspection.specs.MetaTypes.{number_of}
-use Rattle.schema_facts.specs.Table.{held}
-use Rattle.local_introspection.specs.Answers.{Gives, GivesEach, HasEntries, entries_of, tree_of_thing, leaf_or, tree_of_held, elements_for}
+use Rattle.meta_schema.specs.MetaTypes.{number_of}
+use Rattle.local_introspection.specs.Answers.{given_by, Gives, GivesEach, HasEntries, entries_of, tree_of_thing, leaf_or, tree_of_held, elements_for}
 
 module _ (f : FactsData) where
-  -- one at answer_at_most
+  -- one at most
   mutual
     unfolding entries_of
 
@@ -39,9 +37,9 @@ module _ (f : FactsData) where
     one_object : (x : ThingData) (nodes : AskedNodes) (es : Entries) → HasEntries f x nodes es → es ≡ entries_of f nodes x
     one_object x nothing_asked no_entry is = refl
     one_object x nothing_asked (entry k t es) is = absurd is
-    one_object x (asked_then key what below others) no_entry is = absurd is
-    one_object x (asked_then key what below others) (entry k t es) (same, there, rest) =
-        ap (λ j. entry j t es) (sym same) ∙ ap₂ (entry key) (one_tree (held f x what) below t there) (one_object x others es rest)
+    one_object x (asked_then key name argument below others) no_entry is = absurd is
+    one_object x (asked_then key name argument below others) (entry k t es) (same, there, rest) =
+        ap (λ j. entry j t es) (sym same) ∙ ap₂ (entry key) (one_tree (given_by f x name argument) below t there) (one_object x others es rest)
 
   -- and there is one
   thing_is_given : (nodes : AskedNodes) (x : ThingData) (leaf_is : Option Data) → leaf_of x ≡ leaf_is → HasEntries f x nodes (entries_of f nodes x) → Gives f (one x) nodes (leaf_or leaf_is (object (number_of x) (entries_of f nodes x)))
@@ -60,4 +58,4 @@ module _ (f : FactsData) where
   pub entries_are_given : (nodes : AskedNodes) (x : ThingData) → HasEntries f x nodes (entries_of f nodes x)
   unfolding entries_of
   entries_are_given nothing_asked x = tt
-  entries_are_given (asked_then key what below others) x = (refl, is_given below (entries_are_given below) (held f x what), entries_are_given others x)
+  entries_are_given (asked_then key name argument below others) x = (refl, is_given below (entries_are_given below) (given_by f x name argument), entries_are_given others x)

@@ -1,12 +1,12 @@
 -- A node, opened.
 use Rattle.std.proofs.Common.{◌≡◌, ℕ, zero, suc, ◌+◌, ◌<◌, ◌≤◌, List, [], ◌∷◌, length, drop, get_or, max, refl, sym, ap, ◌∙◌, subst, arith}
-use Rattle.local_introspection.specs.declared.asked.AskedNode.{AskedNode}
-use Rattle.local_introspection.specs.declared.asked.AskedNode.TheFolds.{fold_out-AskedNode}
-use Rattle.local_introspection.specs.declared.asked.AskedNode.TheViews.{out-AskedNode}
-use Rattle.local_introspection.specs.AskedNodes.{AskedNodes, AskedOne, nothing_asked, asked_then, asked_step, asked_node, asked_nodes, asked_depth}
+use Rattle.asked_fields.specs.declared.asked.AskedNode.{AskedNode}
+use Rattle.asked_fields.specs.declared.asked.AskedNode.TheFolds.{fold_out-AskedNode}
+use Rattle.asked_fields.specs.declared.asked.AskedNode.TheViews.{out-AskedNode}
+use Rattle.asked_fields.specs.AskedNodes.{AskedNodes, AskedOne, nothing_asked, asked_then, asked_step, asked_node, asked_nodes, asked_depth}
 use Rattle.local_introspection.proofs.WalkSteps.{front_node}
 
-pub open_asked : (n : AskedNode) → asked_node n ≡ record { key = (out-AskedNode n).key; what = (out-AskedNode n).what; below = asked_nodes (out-AskedNode n).below.items }
+pub open_asked : (n : AskedNode) → asked_node n ≡ record { key = (out-AskedNode n).key; name = (out-AskedNode n).name; argument = (out-AskedNode n).argument; below = asked_nodes (out-AskedNode n).below.items }
 unfolding asked_node
 open_asked n = fold_out-AskedNode AskedOne asked_step n
 

@@ -16,8 +16,8 @@ use Rattle.schema_facts.specs.Deprecations.{is_deprecated, reason_of, url_of}
 use Rattle.schema_facts.specs.Things.{ThingData, the_root, the_schema, a_type, a_list_type, a_non_null_type, a_field, an_input, an_enum_value, a_directive, a_word, a_flag, a_default, HeldData, nothing, one, many, leaf_of, word, maybe_word, type_thing}
 use Rattle.schema_facts.specs.Table as table
 use Rattle.schema_facts.specs.Table.{held, definition_at, known_at, types_from, maybe_type, is_location}
-use Rattle.local_introspection.specs.MetaTypes.{number_of}
-use Rattle.local_introspection.specs.MetaForms.{form_of, below_of, leaf_type_of, holds, is_of, meta_name}
+use Rattle.meta_schema.specs.MetaTypes.{number_of}
+use Rattle.meta_schema.specs.MetaForms.{form_of, below_of, leaf_type_of, holds, is_of, meta_name}
 
 -- ---- what suits a form
 

@@ -6,19 +6,17 @@ use Rattle.cost_num.specs.declared.Cost.{Cost}
 use Rattle.cost_num.specs.declared.TheConstants.{CAP}
 use Rattle.response_model.specs.Cost.{Part, types, fields}
 use Rattle.std.specs.Prelude.{Result}
-use Rattle.response_model.specs.Response.{Tree}
 use Rattle.response_model.specs.ResponseText.{comma, key_text, tree_text, elements_text, entries_text}
 use Rattle.response_model.proofs.Pieces.{text_left}
+use Rattle.asked_fields.specs.declared.asked.AskedNode.{AskedNode}
+use Rattle.asked_fields.specs.AskedNodes.{AskedNodes, AskedOne, asked_then, asked_node, asked_nodes}
+use Rattle.schema_facts.specs.Facts.{FactsData}
+use Rattle.schema_facts.specs.declared.things.Thing.{Thing}
+use Rattle.schema_facts.specs.Things.{ThingData, HeldData, thing_data}
 use Rattle.local_introspection.specs.declared.walk.Stop.{Stop}
 use Rattle.local_introspection.specs.declared.walk.Stop.TheVariants.{TooLarge, Memory}
-use Rattle.schema_facts.specs.Facts.{FactsData}
-use Rattle.local_introspection.specs.declared.asked.AskedNode.{AskedNode}
-use Rattle.schema_facts.specs.declared.things.Thing.{Thing}
-use Rattle.local_introspection.specs.AskedNodes.{AskedNodes, nothing_asked, asked_then, asked_node, asked_nodes}
-use Rattle.schema_facts.specs.Things.{ThingData, HeldData, thing_data}
-use Rattle.schema_facts.specs.Table.{held}
-use Rattle.local_introspection.specs.Answers.{entries_of, tree_of_thing, tree_of_held, elements_for, values_in, values_in_entries, values_in_elements, field_cost, cost_of_held, cost_of_thing, cost_of_things, cost_of_entries}
-use Rattle.local_introspection.specs.Walking.{Adds}
+use Rattle.local_introspection.specs.Answers.{entries_of, elements_for, values_in_entries, values_in_elements, field_cost, cost_of_held, cost_of_things, cost_of_entries}
+use Rattle.local_introspection.specs.Walking.{Adds, what_of, held_under, tree_under, WritesThing, WritesEntries, WritesEntry, WritesHeld, WritesThings}
 
 pub record GoesOn (start left : ℕ) (before now : List ℕ) (c : Cost) (count whole_count : ℕ) (costs whole_costs : Part → ℕ) (text whole_text : List ℕ) : Type 0 where
   pub values_go_on : start + count ≡ left + whole_count
@@ -62,7 +60,11 @@ goes_no_further start left still before now mid after c Memory m n whole costs a
 
 -- ---- entries
 
-pub front_node : (nodes : List AskedNode) (i : ℕ) (n : AskedNode) → i < length nodes → n ≡ get_or nodes i n → asked_nodes (drop i nodes) ≡ asked_then (asked_node n).key (asked_node n).what (asked_node n).below (asked_nodes (drop (i + 1) nodes))
+-- one node in front of others
+abbrev pub then_asked : AskedOne → AskedNodes → AskedNodes
+then_asked n others = asked_then n.key n.name n.argument n.below others
+
+pub front_node : (nodes : List AskedNode) (i : ℕ) (n : AskedNode) → i < length nodes → n ≡ get_or nodes i n → asked_nodes (drop i nodes) ≡ then_asked (asked_node n) (asked_nodes (drop (i + 1) nodes))
 front_node nodes i n less is =
     let one_more : suc i ≡ i + 1 = omega arith in
     ap asked_nodes (drop-cons nodes i n less ∙ ap (λ (x : AskedNode). x ∷ drop (suc i) nodes) (sym is) ∙ ap (λ (j : ℕ). n ∷ drop j nodes) one_more)
@@ -73,19 +75,13 @@ module _ (f : FactsData) (x : ThingData) (start : ℕ) (before : List ℕ) where
       GoesOn start left before now c (values_in_entries (entries_of f rest x)) (values_in_entries (entries_of f all x)) (λ part. cost_of_entries f part rest x) (λ part. cost_of_entries f part all x)
       (entries_text front (entries_of f rest x)) (entries_text [] (entries_of f all x))
 
-  abbrev pub tree_of_entry : AskedNode → Tree
-  tree_of_entry n = tree_of_held (entries_of f (asked_node n).below) (held f x (asked_node n).what)
-
-  abbrev pub AddsEntry : ℕ → ℕ → List ℕ → List ℕ → Result Cost Stop → AskedNode → Type 0
-  AddsEntry left still old new r n = Adds left still old new r (values_in (tree_of_entry n)) (key_text (asked_node n).key ++ tree_text (tree_of_entry n)) (λ part. field_cost part (asked_node n).what + cost_of_held part (cost_of_entries f part (asked_node n).below) (held f x (asked_node n).what))
-
   opened_rest : (left : ℕ) (now : List ℕ) (c : Cost) (front : List ℕ) (nodes : List AskedNode) (i : ℕ) (n : AskedNode) → i < length nodes → n ≡ get_or nodes i n → EntriesGoOn left now c front (asked_nodes (drop i nodes)) (asked_nodes nodes)
-      → EntriesGoOn left now c front (asked_then (asked_node n).key (asked_node n).what (asked_node n).below (asked_nodes (drop (i + 1) nodes))) (asked_nodes nodes)
+      → EntriesGoOn left now c front (then_asked (asked_node n) (asked_nodes (drop (i + 1) nodes))) (asked_nodes nodes)
   opened_rest left now c front nodes i n less is l = subst (λ (rest : AskedNodes). EntriesGoOn left now c front rest (asked_nodes nodes)) (front_node nodes i n less is) l
 
   pub entries_go_on : (left still : ℕ) (now mid after : List ℕ) (c d s : Cost) (front : List ℕ) (nodes : List AskedNode) (i : ℕ) (n : AskedNode)
       → i < length nodes → n ≡ get_or nodes i n → EntriesGoOn left now c front (asked_nodes (drop i nodes)) (asked_nodes nodes)
-      → mid ≡ now ++ front → AddsEntry left still mid after (Ok d) n → s.types ≡ capped (c.types + d.types) → s.fields ≡ capped (c.fields + d.fields)
+      → mid ≡ now ++ front → WritesEntry f left still mid after (Ok d) x (asked_node n) → s.types ≡ capped (c.types + d.types) → s.fields ≡ capped (c.fields + d.fields)
       → EntriesGoOn still after s comma (asked_nodes (drop (i + 1) nodes)) (asked_nodes nodes)
   unfolding entries_of cost_of_entries
   entries_go_on left still now mid after c d s front nodes i n less is l e w p q =
@@ -93,17 +89,16 @@ module _ (f : FactsData) (x : ThingData) (start : ℕ) (before : List ℕ) where
 
   pub entries_stop : (left still : ℕ) (now mid after : List ℕ) (c : Cost) (stop : Stop) (front : List ℕ) (nodes : List AskedNode) (i : ℕ) (n : AskedNode)
       → i < length nodes → n ≡ get_or nodes i n → EntriesGoOn left now c front (asked_nodes (drop i nodes)) (asked_nodes nodes)
-      → AddsEntry left still mid after (Err stop) n
-      → Adds start still before after (Err stop) (values_in_entries (entries_of f (asked_nodes nodes) x)) (entries_text [] (entries_of f (asked_nodes nodes) x)) (λ part. cost_of_entries f part (asked_nodes nodes) x)
+      → WritesEntry f left still mid after (Err stop) x (asked_node n) → WritesEntries f start still before after (Err stop) x (asked_nodes nodes)
   unfolding entries_of cost_of_entries
   entries_stop left still now mid after c stop front nodes i n less is l w =
       goes_no_further start left still before now mid after c stop _ _ _ _ _ _ _ _ [] _ (opened_rest left now c front nodes i n less is l) w
 
   pub entries_end : (left : ℕ) (now after : List ℕ) (c : Cost) (front : List ℕ) (nodes : List AskedNode) (i : ℕ) → length nodes ≤ i → EntriesGoOn left now c front (asked_nodes (drop i nodes)) (asked_nodes nodes) → after ≡ now ++ codes "}"
-      → Adds start left before after (Ok c) (values_in_entries (entries_of f (asked_nodes nodes) x)) (entries_text [] (entries_of f (asked_nodes nodes) x)) (λ part. cost_of_entries f part (asked_nodes nodes) x)
+      → WritesEntries f start left before after (Ok c) x (asked_nodes nodes)
   unfolding entries_of cost_of_entries
-  entries_end left now after c front nodes i answer_at_most l e =
-      goes_to_the_end start left before now after c _ _ (codes "}") _ (subst (λ (rest : List AskedNode). EntriesGoOn left now c front (asked_nodes rest) (asked_nodes nodes)) (drop_all i nodes answer_at_most) l) e
+  entries_end left now after c front nodes i at_most l e =
+      goes_to_the_end start left before now after c _ _ (codes "}") _ (subst (λ (rest : List AskedNode). EntriesGoOn left now c front (asked_nodes rest) (asked_nodes nodes)) (drop_all i nodes at_most) l) e
 
 -- ---- things
 
@@ -118,20 +113,16 @@ module _ (f : FactsData) (nodes : AskedNodes) (start : ℕ) (before : List ℕ) 
       GoesOn start left before now c (values_in_elements (elements_for (entries_of f nodes) rest)) (values_in_elements (elements_for (entries_of f nodes) all)) (λ part. cost_of_things part (cost_of_entries f part nodes) rest) (λ part. cost_of_things part (cost_of_entries f part nodes) all)
       (elements_text front (elements_for (entries_of f nodes) rest)) (elements_text [] (elements_for (entries_of f nodes) all))
 
-  abbrev pub AddsThing : ℕ → ℕ → List ℕ → List ℕ → Result Cost Stop → Thing → Type 0
-  AddsThing left still old new r t = Adds left still old new r (values_in (tree_of_thing (entries_of f nodes) (thing_data t))) (tree_text (tree_of_thing (entries_of f nodes) (thing_data t))) (λ part. cost_of_thing part (cost_of_entries f part nodes) (thing_data t))
-
   pub things_go_on : (left still : ℕ) (now mid after : List ℕ) (c d s : Cost) (front : List ℕ) (things : List Thing) (i : ℕ) (t : Thing)
       → i < length things → t ≡ get_or things i t → ThingsGoOn left now c front (map thing_data (drop i things)) (map thing_data things)
-      → mid ≡ now ++ front → AddsThing left still mid after (Ok d) t → s.types ≡ capped (c.types + d.types) → s.fields ≡ capped (c.fields + d.fields)
+      → mid ≡ now ++ front → WritesThing f left still mid after (Ok d) (thing_data t) nodes → s.types ≡ capped (c.types + d.types) → s.fields ≡ capped (c.fields + d.fields)
       → ThingsGoOn still after s comma (map thing_data (drop (i + 1) things)) (map thing_data things)
   things_go_on left still now mid after c d s front things i t less is l e w p q =
       goes_on start left still before now mid after c d s _ _ _ _ _ _ front _ _ _ (subst (λ (rest : List ThingData). ThingsGoOn left now c front rest (map thing_data things)) (front_thing things i t less is) l) e w p q
 
   pub things_stop : (left still : ℕ) (now mid after : List ℕ) (c : Cost) (stop : Stop) (front : List ℕ) (things : List Thing) (i : ℕ) (t : Thing)
       → i < length things → t ≡ get_or things i t → ThingsGoOn left now c front (map thing_data (drop i things)) (map thing_data things)
-      → AddsThing left still mid after (Err stop) t
-      → Adds start still before after (Err stop) (values_in_elements (elements_for (entries_of f nodes) (map thing_data things))) (elements_text [] (elements_for (entries_of f nodes) (map thing_data things))) (λ part. cost_of_things part (cost_of_entries f part nodes) (map thing_data things))
+      → WritesThing f left still mid after (Err stop) (thing_data t) nodes → WritesThings f start still before after (Err stop) (map thing_data things) nodes
   things_stop left still now mid after c stop front things i t less is l w =
       goes_no_further start left still before now mid after c stop _ _ _ _ _ _ _ _ [] _ (subst (λ (rest : List ThingData). ThingsGoOn left now c front rest (map thing_data things)) (front_thing things i t less is) l) w
 
@@ -140,33 +131,22 @@ module _ (f : FactsData) (nodes : AskedNodes) (start : ℕ) (before : List ℕ) 
 own_and_below : (own k d s : ℕ) → d ≡ capped k → s ≡ capped (own + d) → s ≡ capped (own + k)
 own_and_below own k d s e p = omega arith
 
--- in these no start is named
-abbrev pub TreeOfEntry : FactsData → ThingData → AskedNode → Tree
-TreeOfEntry f x n = tree_of_held (entries_of f (asked_node n).below) (held f x (asked_node n).what)
+module _ (f : FactsData) (x : ThingData) (n : AskedOne) where
+  written_under : (left still : ℕ) (old new : List ℕ) (r : Result Cost Stop) (below : AskedNodes) (h : HeldData) → h ≡ held_under f x n → below ≡ n.below → WritesHeld f left still old new r h below → WritesHeld f left still old new r (held_under f x n) n.below
+  written_under left still old new r below h is same w =
+      subst (λ (b : AskedNodes). WritesHeld f left still old new r (held_under f x n) b) same (subst (λ (g : HeldData). WritesHeld f left still old new r g below) is w)
 
-abbrev pub AddsHeld : FactsData → ℕ → ℕ → List ℕ → List ℕ → Result Cost Stop → AskedNodes → HeldData → Type 0
-AddsHeld f left still old new r below h = Adds left still old new r (values_in (tree_of_held (entries_of f below) h)) (tree_text (tree_of_held (entries_of f below) h)) (λ part. cost_of_held part (cost_of_entries f part below) h)
+  pub entry_added : (left still : ℕ) (old mid new : List ℕ) (d s : Cost) (h : HeldData) (below : AskedNodes) (weight : ℕ)
+      → mid ≡ old ++ key_text n.key → h ≡ held_under f x n → below ≡ n.below → WritesHeld f left still mid new (Ok d) h below
+      → weight ≡ field_cost fields (what_of n) → s.types ≡ capped (0 + d.types) → s.fields ≡ capped (weight + d.fields) → WritesEntry f left still old new (Ok s) x n
+  entry_added left still old mid new d s h below weight key is same w weighs p q =
+      let there = written_under left still mid new (Ok d) below h is same w in (
+        there.0,
+        there.1 ∙ ap (λ t. t ++ tree_text (tree_under f x n)) key ∙ append_assoc old (key_text n.key) (tree_text (tree_under f x n)),
+        own_and_below 0 (cost_of_held types (cost_of_entries f types n.below) (held_under f x n)) d.types s.types there.2 p,
+        own_and_below (field_cost fields (what_of n)) (cost_of_held fields (cost_of_entries f fields n.below) (held_under f x n)) d.fields s.fields there.3 (q ∙ ap (λ (k : ℕ). capped (k + d.fields)) weighs),
+      )
 
-added_held : (f : FactsData) (x : ThingData) (n : AskedNode) (left still : ℕ) (old new : List ℕ) (r : Result Cost Stop) (below : AskedNodes) (h : HeldData) → h ≡ held f x (asked_node n).what → below ≡ (asked_node n).below
-    → AddsHeld f left still old new r below h → AddsHeld f left still old new r (asked_node n).below (held f x (asked_node n).what)
-added_held f x n left still old new r below h is same w =
-    subst (λ (b : AskedNodes). AddsHeld f left still old new r b (held f x (asked_node n).what)) same (subst (λ (g : HeldData). AddsHeld f left still old new r below g) is w)
-
-pub entry_added : (f : FactsData) (x : ThingData) (n : AskedNode) (start left still : ℕ) (before old mid new : List ℕ) (d s : Cost) (h : HeldData) (below : AskedNodes) (weight : ℕ)
-    → mid ≡ old ++ key_text (asked_node n).key → h ≡ held f x (asked_node n).what → below ≡ (asked_node n).below
-    → AddsHeld f left still mid new (Ok d) below h
-    → weight ≡ field_cost fields (asked_node n).what → s.types ≡ capped (0 + d.types) → s.fields ≡ capped (weight + d.fields)
-    → AddsEntry f x start before left still old new (Ok s) n
-entry_added f x n start left still before old mid new d s h below weight key is same w weighs p q =
-    let there = added_held f x n left still mid new (Ok d) below h is same w in (
-      there.0,
-      there.1 ∙ ap (λ t. t ++ tree_text (TreeOfEntry f x n)) key ∙ append_assoc old (key_text (asked_node n).key) (tree_text (TreeOfEntry f x n)),
-      own_and_below 0 (cost_of_held types (cost_of_entries f types (asked_node n).below) (held f x (asked_node n).what)) d.types s.types there.2 p,
-      own_and_below (field_cost fields (asked_node n).what) (cost_of_held fields (cost_of_entries f fields (asked_node n).below) (held f x (asked_node n).what)) d.fields s.fields there.3 (q ∙ ap (λ (k : ℕ). capped (k + d.fields)) weighs),
-    )
-
-pub entry_stops : (f : FactsData) (x : ThingData) (n : AskedNode) (start left still : ℕ) (before old mid new : List ℕ) (stop : Stop) (h : HeldData) (below : AskedNodes)
-    → h ≡ held f x (asked_node n).what → below ≡ (asked_node n).below
-    → AddsHeld f left still mid new (Err stop) below h → AddsEntry f x start before left still old new (Err stop) n
-entry_stops f x n start left still before old mid new TooLarge h below is same w = added_held f x n left still mid new (Err TooLarge) below h is same w
-entry_stops f x n start left still before old mid new Memory h below is same w = tt
+  pub entry_stops : (left still : ℕ) (old mid new : List ℕ) (stop : Stop) (h : HeldData) (below : AskedNodes) → h ≡ held_under f x n → below ≡ n.below → WritesHeld f left still mid new (Err stop) h below → WritesEntry f left still old new (Err stop) x n
+  entry_stops left still old mid new TooLarge h below is same w = written_under left still mid new (Err TooLarge) below h is same w
+  entry_stops left still old mid new Memory h below is same w = tt

@@ -6,10 +6,16 @@ use Rattle.response_model.specs.Response.{Tree, null, leaf, list_of, object, Ele
 use Rattle.response_model.specs.Cost.{Part, types, fields, value_cost}
 use Rattle.schema_facts.specs.Facts.{FactsData}
 use Rattle.schema_facts.specs.declared.table.What.{What}
-use Rattle.local_introspection.specs.AskedNodes.{AskedNodes, nothing_asked, asked_then}
+use Rattle.asked_fields.specs.declared.asked.Argument.{Argument}
+use Rattle.asked_fields.specs.AskedNodes.{AskedNodes, nothing_asked, asked_then}
 use Rattle.schema_facts.specs.Things.{ThingData, HeldData, nothing, one, many, leaf_of}
-use Rattle.local_introspection.specs.MetaTypes.{number_of, weight_of}
+use Rattle.meta_schema.specs.MetaTypes.{number_of, weight_of}
+use Rattle.meta_schema.specs.Fields.{what_asked}
 use Rattle.schema_facts.specs.Table.{held}
+
+-- what a field gives at a thing, by its name and what is kept of its arguments
+abbrev pub given_by : FactsData → ThingData → List ℕ → Argument → HeldData
+given_by f x name argument = held f x (what_asked name argument)
 
 -- ---- what is held, as a tree: every entry has what the table gives for it, and a list has just the items that it gives
 
@@ -38,8 +44,8 @@ module _ (f : FactsData) where
     pub HasEntries : ThingData → AskedNodes → Entries → Type 0
     HasEntries x nothing_asked no_entry = Unit {0}
     HasEntries x nothing_asked (entry k t es) = ⊥
-    HasEntries x (asked_then key what below others) no_entry = ⊥
-    HasEntries x (asked_then key what below others) (entry k t es) = (key ≡ k) × Gives (held f x what) below t × HasEntries x others es
+    HasEntries x (asked_then key name argument below others) no_entry = ⊥
+    HasEntries x (asked_then key name argument below others) (entry k t es) = (key ≡ k) × Gives (given_by f x name argument) below t × HasEntries x others es
 
 -- ---- the tree
 
@@ -61,7 +67,7 @@ tree_of_held entries (many xs) = list_of (elements_for entries xs)
 
 unfoldable pub entries_of : FactsData → AskedNodes → ThingData → Entries
 entries_of f nothing_asked x = no_entry
-entries_of f (asked_then key what below others) x = entry key (tree_of_held (λ y. entries_of f below y) (held f x what)) (entries_of f others x)
+entries_of f (asked_then key name argument below others) x = entry key (tree_of_held (λ y. entries_of f below y) (given_by f x name argument)) (entries_of f others x)
 
 -- ---- how many values a tree has, nulls and lists among them
 
@@ -104,4 +110,4 @@ cost_of_held part below (many xs) = cost_of_things part below xs
 
 unfoldable pub cost_of_entries : FactsData → Part → AskedNodes → ThingData → ℕ
 cost_of_entries f part nothing_asked x = 0
-cost_of_entries f part (asked_then key what below others) x = field_cost part what + cost_of_held part (λ y. cost_of_entries f part below y) (held f x what) + cost_of_entries f part others x
+cost_of_entries f part (asked_then key name argument below others) x = field_cost part (what_asked name argument) + cost_of_held part (λ y. cost_of_entries f part below y) (given_by f x name argument) + cost_of_entries f part others x

@@ -1,6 +1,11 @@
--- the meaning
-pub mod AskedNodes
-pub mod MetaTypes
+-- what is asked, and the one answer
 pub mod Answers
+pub mod MetaNodes
+-- what a request comes to
+pub mod LocalRequests
+pub mod LocalAnswers
+pub mod LocalTexts
+-- what serves proofs
 pub mod Walking
-pub mod MetaForms
+pub mod LocalStages
+pub mod PlainTexts

@@ -1,9 +1,21 @@
 //! Answers to introspection from the gateway's own schema (GraphQL October 2021, 4).
+//!
+//! `Facts::make` tells what is known of a schema, `answer` answers an operation that asks for it. What an operation comes to is said in
+//! `specs/LocalAnswers`, by the words of `plan_model` over the schema of schemas.
 #![tactic(auto)]
 
-mod asked;
+mod answering;
+mod facts;
+mod fault;
 pub mod laws;
+mod plain;
+mod sharing;
+mod telling;
 mod walk;
 
-pub use asked::AskedNode;
+pub use answering::answer;
+pub use facts::Facts;
+pub use fault::LocalFault;
+pub use sharing::answers_are_shared;
+pub use telling::local_text;
 pub use walk::{Local, Stop, VALUE_LIMIT, write_answer};

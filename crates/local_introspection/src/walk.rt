@@ -1,25 +1,18 @@
 //! The walk over what is asked. In one pass each value is written and counted, and what it costs is added up.
 
-ghost use Rattle.std.specs.Prelude.{◌≡◌, ◌++◌, ◌+◌, ◌≤◌, ◌<◌, [], ◌∷◌, map, suc, IfOk, IfErr, OnOk, Some, None, string_bytes, codes};
-ghost use Rattle.serde_json.specs.Data.{null};
-ghost use Rattle.serde_json.specs.Written.{compact_text};
+ghost use Rattle.std.specs.Prelude.{◌≡◌, ◌++◌, ◌+◌, map, IfOk, IfErr, OnOk, string_bytes};
 ghost use Rattle.cost_num.specs.Capped.{capped};
-ghost use Rattle.response_model.specs.Cost.{Part};
-ghost use Rattle.response_model.specs.Response.{object};
-ghost use Rattle.response_model.specs.ResponseText.{tree_text, elements_text, entries_text, key_text, response_text};
-ghost use Rattle.local_introspection.specs.AskedNodes.{asked_nodes, asked_node};
-ghost use Rattle.schema_facts.specs.Things.{ThingData, thing_data, held_data, leaf_of, the_root};
+ghost use Rattle.asked_fields.specs.AskedNodes.{asked_nodes, asked_node};
+ghost use Rattle.schema_facts.specs.Things.{thing_data, held_data, leaf_of};
 ghost use Rattle.schema_facts.specs.FactsViews.{facts_data};
-ghost use Rattle.schema_facts.specs.Table.{held};
-ghost use Rattle.local_introspection.specs.Answers.{entries_of, tree_of_thing, tree_of_held, elements_for, cost_of_entries, cost_of_thing, cost_of_held, cost_of_things, field_cost, values_in, values_in_elements, values_in_entries};
 ghost use Rattle.local_introspection.specs.declared.walk.Stop.TheVariants.{TooLarge as LargeStop};
-ghost use Rattle.local_introspection.specs.MetaTypes.{number_of, weight_of};
-ghost use Rattle.local_introspection.specs.Walking.{Adds, AddsTree, AddsLeaf, IsAnswer};
+ghost use Rattle.local_introspection.specs.Walking.{what_of, AddsLeaf, WritesThing, WritesEntries, WritesEntry, WritesHeld, WritesThings, IsAnswer};
 
-use crate::asked::AskedNode;
+use crate::plain::{write_key, write_text};
+use asked_fields::AskedNode;
 use cost_num::{CAP, Cost, UNIT};
 use gql_base::{Text, print_value};
-use response_model::{write_key, write_string};
+use meta_schema::{weight_of, what_asked};
 use schema_facts::{Held, SchemaFacts, Thing, What, look_up};
 use std::alloc::{AllocError, Global};
 
@@ -71,27 +64,11 @@ fn sum(a: Cost, b: Cost) -> Cost
     }
 }
 
-fn weight_of(what: What) -> u64
-    ensures { result ≡ weight_of what }
+// What a node asks of each thing.
+fn what_of(node: &AskedNode) -> What
+    ensures { result ≡ what_of (asked_node node.now) }
 {
-    match what {
-        What::Schema => UNIT,
-        What::Named { of: _ } => UNIT,
-        What::Types => UNIT,
-        What::QueryType => UNIT,
-        What::MutationType => UNIT,
-        What::SubscriptionType => UNIT,
-        What::Directives => UNIT,
-        What::Fields { all: _ } => UNIT,
-        What::Interfaces => UNIT,
-        What::PossibleTypes => UNIT,
-        What::EnumValues { all: _ } => UNIT,
-        What::InputFields => UNIT,
-        What::OfType => UNIT,
-        What::Args => UNIT,
-        What::FieldType => UNIT,
-        _ => 0,
-    }
+    what_asked(node.name.as_str(), node.argument)
 }
 
 // Takes one of the values that may still come.
@@ -112,12 +89,12 @@ fn write_leaf(alloc: Global, thing: Thing<'_>, into: &mut String) -> Result<bool
 {
     match thing {
         Thing::Word(text) => {
-            write_string(alloc, text, into)?;
+            write_text(alloc, text, into)?;
             Ok(true)
         }
         Thing::Default(value) => {
             let text = print_value(alloc, value)?;
-            write_string(alloc, text.as_str(), into)?;
+            write_text(alloc, text.as_str(), into)?;
             Ok(true)
         }
         Thing::Flag(true) => {
@@ -141,7 +118,7 @@ fn write_thing(
     left: &mut usize,
     into: &mut String,
 ) -> Result<Cost, Stop>
-    ensures { AddsTree left.old left.new (string_bytes into.old) (string_bytes into.new) result (tree_of_thing (entries_of (facts_data facts.now) (asked_nodes nodes.now)) (thing_data thing.entry)) (λ part. cost_of_thing part (cost_of_entries (facts_data facts.now) part (asked_nodes nodes.now)) (thing_data thing.entry)) }
+    ensures { WritesThing (facts_data facts.now) left.old left.new (string_bytes into.old) (string_bytes into.new) result (thing_data thing.entry) (asked_nodes nodes.now) }
 {
     take_one(left)?;
     if write_leaf(alloc, thing, into)? {
@@ -167,7 +144,7 @@ fn write_entries(
     left: &mut usize,
     into: &mut String,
 ) -> Result<Cost, Stop>
-    ensures { Adds left.old left.new (string_bytes into.old) (string_bytes into.new) result (values_in_entries (entries_of (facts_data facts.now) (asked_nodes nodes.now) (thing_data thing.entry))) (entries_text [] (entries_of (facts_data facts.now) (asked_nodes nodes.now) (thing_data thing.entry))) (λ part. cost_of_entries (facts_data facts.now) part (asked_nodes nodes.now) (thing_data thing.entry)) }
+    ensures { WritesEntries (facts_data facts.now) left.old left.new (string_bytes into.old) (string_bytes into.new) result (thing_data thing.entry) (asked_nodes nodes.now) }
 {
     let mut cost = NOTHING;
     let mut front = "";
@@ -189,15 +166,16 @@ fn write_entry(
     left: &mut usize,
     into: &mut String,
 ) -> Result<Cost, Stop>
-    ensures { Adds left.old left.new (string_bytes into.old) (string_bytes into.new) result (values_in (tree_of_held (entries_of (facts_data facts.now) (asked_node node.now).below) (held (facts_data facts.now) (thing_data thing.entry) (asked_node node.now).what))) (key_text (asked_node node.now).key ++ tree_text (tree_of_held (entries_of (facts_data facts.now) (asked_node node.now).below) (held (facts_data facts.now) (thing_data thing.entry) (asked_node node.now).what))) (λ part. field_cost part (asked_node node.now).what + cost_of_held part (cost_of_entries (facts_data facts.now) part (asked_node node.now).below) (held (facts_data facts.now) (thing_data thing.entry) (asked_node node.now).what)) }
+    ensures { WritesEntry (facts_data facts.now) left.old left.new (string_bytes into.old) (string_bytes into.new) result (thing_data thing.entry) (asked_node node.now) }
 {
     write_key(alloc, node.key.as_str(), into)?;
-    let found = look_up(alloc, facts, thing, node.what)?;
+    let what = what_of(node);
+    let found = look_up(alloc, facts, thing, what)?;
     let below = write_held(alloc, facts, found, node.below.as_slice(), left, into)?;
     Ok(sum(
         Cost {
             types: 0,
-            fields: weight_of(node.what),
+            fields: weight_of(what),
         },
         below,
     ))
@@ -212,7 +190,7 @@ fn write_held(
     left: &mut usize,
     into: &mut String,
 ) -> Result<Cost, Stop>
-    ensures { AddsTree left.old left.new (string_bytes into.old) (string_bytes into.new) result (tree_of_held (entries_of (facts_data facts.now) (asked_nodes nodes.now)) (held_data found.entry)) (λ part. cost_of_held part (cost_of_entries (facts_data facts.now) part (asked_nodes nodes.now)) (held_data found.entry)) }
+    ensures { WritesHeld (facts_data facts.now) left.old left.new (string_bytes into.old) (string_bytes into.new) result (held_data found.entry) (asked_nodes nodes.now) }
 {
     match found {
         Held::Nothing => {
@@ -238,7 +216,7 @@ fn write_things(
     left: &mut usize,
     into: &mut String,
 ) -> Result<Cost, Stop>
-    ensures { Adds left.old left.new (string_bytes into.old) (string_bytes into.new) result (values_in_elements (elements_for (entries_of (facts_data facts.now) (asked_nodes nodes.now)) (map thing_data things.entry.now))) (elements_text [] (elements_for (entries_of (facts_data facts.now) (asked_nodes nodes.now)) (map thing_data things.entry.now))) (λ part. cost_of_things part (cost_of_entries (facts_data facts.now) part (asked_nodes nodes.now)) (map thing_data things.entry.now)) }
+    ensures { WritesThings (facts_data facts.now) left.old left.new (string_bytes into.old) (string_bytes into.new) result (map thing_data things.entry.now) (asked_nodes nodes.now) }
 {
     let mut cost = NOTHING;
     let mut front = "";

@@ -47,6 +47,13 @@ pub fn number_in(types: &Indexed<KnownType>, name: &str) -> usize
 }
 
 impl SchemaFacts {
+    /// The types, by their numbers and their names.
+    pub fn types(&self) -> &Indexed<KnownType>
+        ensures { map known_type result.now.items.items ≡ (facts_data self.now).types }
+    {
+        &self.types
+    }
+
     /// The name of the type of queries.
     pub fn query_name(&self) -> &str
         ensures { result.now ≡ (facts_data self.now).query_name }

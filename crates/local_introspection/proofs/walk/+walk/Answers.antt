@@ -1,12 +1,12 @@
 use Rattle.std.proofs.Common.{◌++◌, ◌∷◌, [], refl, sym, ap, ◌∙◌, arith, string_bytes, map}
 use Rattle.std.proofs.lemmas.Result.{err_from_is_err_and}
-use Rattle.local_introspection.specs.declared.asked.AskedNode.TheViews.{out-AskedNode}
-use Rattle.local_introspection.specs.AskedNodes.{asked_node, asked_nodes, asked_depth, AskedOne}
+use Rattle.asked_fields.specs.AskedNodes.{asked_node, asked_nodes, asked_depth, AskedOne}
 use Rattle.response_model.specs.ResponseText.{key_text}
-use Rattle.local_introspection.specs.MetaTypes.{weight_of}
 use Rattle.schema_facts.specs.FactsViews.{facts_data}
 use Rattle.schema_facts.specs.Things.{thing_data, held_data}
 use Rattle.schema_facts.specs.Table.{held}
+use Rattle.meta_schema.specs.MetaTypes.{weight_of}
+use Rattle.local_introspection.specs.Walking.{held_under}
 use Rattle.local_introspection.proofs.WalkSteps.{entries_go_on, entries_stop, entries_end, entry_added, entry_stops}
 use Rattle.local_introspection.proofs.Opened.{open_asked, less_deep}
 use Rattle.local_introspection.proofs.walk.+walk.Goals as goal
@@ -41,19 +41,19 @@ write_entry-write_held-requires t c =
 pub write_entry-returns-in_err-below : goal.write_entry-returns-in_err-below
 write_entry-returns-in_err-below t c =
     let p = err_from_is_err_and c.from_residual-in_err-below.result c.from_residual-in_err-below.ensures.1 in
-    rw (p.1, p.2) (entry_stops (facts_data c.args.facts.now) (thing_data c.args.thing) c.args.node.now c.args.left.now c.args.left.now c.write_held.new.left (string_bytes c.args.into.now) (string_bytes c.args.into.now) (string_bytes c.write_key.new.into) (string_bytes c.write_held.new.into)
+    rw (p.1, p.2) (entry_stops (facts_data c.args.facts.now) (thing_data c.args.thing) (asked_node c.args.node.now) c.args.left.now c.write_held.new.left (string_bytes c.args.into.now) (string_bytes c.write_key.new.into) (string_bytes c.write_held.new.into)
     c.in_err-below.field-0.0 (held_data c.in_ok-found.found) (asked_nodes c.as_slice.result.now)
-    (c.in_ok-found.ensures ∙ ap (λ (n : AskedOne). held (facts_data c.args.facts.now) (thing_data c.args.thing) n.what) (sym (open_asked c.args.node.now)))
+    (c.in_ok-found.ensures ∙ ap (λ w. held (facts_data c.args.facts.now) (thing_data c.args.thing) w) c.what_of-what.ensures)
     (ap asked_nodes c.as_slice.ensures.value ∙ ap (λ (n : AskedOne). n.below) (sym (open_asked c.args.node.now)))
     c.in_err-below.ensures)
 
 pub write_entry-returns : goal.write_entry-returns
 write_entry-returns t c =
-    entry_added (facts_data c.args.facts.now) (thing_data c.args.thing) c.args.node.now c.args.left.now c.args.left.now c.write_held.new.left (string_bytes c.args.into.now) (string_bytes c.args.into.now) (string_bytes c.write_key.new.into) (string_bytes c.write_held.new.into)
+    entry_added (facts_data c.args.facts.now) (thing_data c.args.thing) (asked_node c.args.node.now) c.args.left.now c.write_held.new.left (string_bytes c.args.into.now) (string_bytes c.write_key.new.into) (string_bytes c.write_held.new.into)
     c.in_ok-below.below c.sum.result (held_data c.in_ok-found.found) (asked_nodes c.as_slice.result.now) c.weight_of.result
     (c.in_ok-write_key.ensures ∙ ap (λ k. string_bytes c.args.into.now ++ key_text k) (c.as_str.ensures ∙ ap (λ (n : AskedOne). n.key) (sym (open_asked c.args.node.now))))
-    (c.in_ok-found.ensures ∙ ap (λ (n : AskedOne). held (facts_data c.args.facts.now) (thing_data c.args.thing) n.what) (sym (open_asked c.args.node.now)))
+    (c.in_ok-found.ensures ∙ ap (λ w. held (facts_data c.args.facts.now) (thing_data c.args.thing) w) c.what_of-what.ensures)
     (ap asked_nodes c.as_slice.ensures.value ∙ ap (λ (n : AskedOne). n.below) (sym (open_asked c.args.node.now)))
     c.in_ok-below.ensures
-    (c.weight_of.ensures ∙ ap (λ (n : AskedOne). weight_of n.what) (sym (open_asked c.args.node.now)))
+    (c.weight_of.ensures ∙ ap weight_of c.what_of-what.ensures)
     c.sum.ensures.types c.sum.ensures.fields

@@ -1,16 +1,13 @@
 -- What the schema of schemas says of its fields (GraphQL October 2021, 4.2): on which types they are, how their values may be, and
 -- what stands below them. Types have their numbers in it.
-use Rattle.std.specs.Prelude.{◌≡◌, ℕ, zero, suc, List, [], ◌∷◌, Bool, true, false, ◌==◌, ◌||◌, ◌&&◌, Option, Some, None, codes, eqb}
+use Rattle.std.specs.Prelude.{ℕ, zero, suc, List, [], ◌∷◌, Bool, true, false, ◌||◌, ◌&&◌, Option, Some, None, codes, eqb}
 use Rattle.std.specs.List.{list_any}
 use Rattle.std.specs.Str.{bytes_eq}
 use Rattle.serde_json.specs.Data.{Data, string, boolean}
-use Rattle.cost_num.specs.declared.TheConstants.{UNIT}
-use Rattle.response_model.specs.Plan.{Form, single, listed, Selected, LeafType, type_name, numbered, Plan, leaf_plan, position, ObjectTypes, no_type, object_type, Nodes, no_node, node}
+use Rattle.response_model.specs.Plan.{Form, single, listed, LeafType, type_name, numbered}
 use Rattle.schema_facts.specs.declared.table.What.{What}
 use Rattle.schema_facts.specs.declared.table.What.TheVariants as what
 use Rattle.schema_facts.specs.Table.{is_location}
-use Rattle.local_introspection.specs.AskedNodes.{AskedNodes, nothing_asked, asked_then}
-use Rattle.local_introspection.specs.MetaTypes.{weight_of}
 
 -- how a field's values may be; a name is missing of types alone
 abbrev pub form_of : ℕ → What → Form
@@ -118,29 +115,3 @@ meta_name query (suc (suc (suc (suc (suc zero))))) = codes "__InputValue"
 meta_name query (suc (suc (suc (suc (suc (suc zero)))))) = codes "__EnumValue"
 meta_name query (suc (suc (suc (suc (suc (suc (suc zero))))))) = codes "__Directive"
 meta_name query other = []
-
--- ---- the plan of what is asked
-
-abbrev pub selected_for : ℕ → List ℕ → What → Selected
-selected_for T key w = record { key = key; field = []; asked = false; form = form_of T w; size = None; weight = weight_of w; arguments = 0 }
-
-abbrev pub alone : ℕ → Nodes → Plan
-alone T nodes = position (object_type T UNIT nodes no_type)
-
-abbrev pub plan_by : List ℕ → ℕ → What → (ℕ → Nodes) → Option ℕ → Plan
-plan_by query T w nodes None = leaf_plan (leaf_type_of w) 0 (string (meta_name query T))
-plan_by query T w nodes (Some U) = alone U (nodes U)
-
--- the nodes of what is asked of objects of a type
-unfoldable pub planned_nodes : List ℕ → AskedNodes → ℕ → Nodes
-planned_nodes query nothing_asked T = no_node
-planned_nodes query (asked_then key w below others) T = node (selected_for T key w) (plan_by query T w (λ U. planned_nodes query below U) (below_of w)) (planned_nodes query others T)
-
--- each field that is asked for is one of the type of which it is asked
-abbrev pub AreBelow : (ℕ → Type 0) → Option ℕ → Type 0
-AreBelow P None = Unit {0}
-AreBelow P (Some U) = P U
-
-unfoldable pub AreOf : AskedNodes → ℕ → Type 0
-AreOf nothing_asked T = Unit {0}
-AreOf (asked_then key w below others) T = (is_of T w ≡ true) × AreBelow (λ U. AreOf below U) (below_of w) × AreOf others T

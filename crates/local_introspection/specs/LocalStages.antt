@@ -1,0 +1,40 @@
+-- What the stages of an answer hand on.
+use Rattle.std.specs.Prelude.{◌≡◌, List}
+use Rattle.serde_json.specs.View.{view}
+use Rattle.operation_class.specs.declared.classes.Class.TheVariants.{Local as LocalClass}
+use Rattle.operation_class.specs.Classes.{class_at}
+use Rattle.document_rules.specs.declared.checking.Checked.{Checked}
+use Rattle.variable_coercion.specs.declared.variables.Variables.{Variables}
+use Rattle.plan_model.specs.Visits.{planned_well}
+use Rattle.merged_selections.specs.Building.{answer_for}
+use Rattle.local_introspection.specs.declared.answering.Asking.{Asking}
+use Rattle.local_introspection.specs.declared.facts.Facts.{Facts}
+use Rattle.local_introspection.specs.declared.fault.LocalFault.{LocalFault}
+use Rattle.local_introspection.specs.declared.fault.LocalFault.TheVariants.{TooLarge, Memory}
+use Rattle.local_introspection.specs.declared.walk.Stop.{Stop}
+use Rattle.local_introspection.specs.declared.walk.Stop.TheVariants.{TooLarge as LargeStop, Memory as MemoryStop}
+use Rattle.asked_fields.specs.declared.asked.AskedNode.{AskedNode}
+use Rattle.asked_fields.specs.AskedNodes.{asked_nodes}
+use Rattle.asked_fields.specs.Asking.{kept_below, asked_for}
+use Rattle.schema_facts.specs.FactsViews.{facts_data}
+use Rattle.local_introspection.specs.LocalRequests.{LocalRequest, local_request, place_in}
+
+abbrev pub ask_data : Asking → LocalRequest
+ask_data a = local_request a.facts.now a.document.now.definitions.items a.place (view a.given.now)
+
+-- The operation at the place is one that the gateway answers.
+abbrev pub IsLocal : LocalRequest → Type 0
+IsLocal r = class_at r.document r.place ≡ LocalClass
+
+-- What was checked is planned well over the schema of schemas.
+abbrev pub IsPlannedOver : Facts → Checked → Variables → Type 0
+IsPlannedOver facts checked variables = answer_for facts.meta.schema facts.meta.weights checked variables ≡ planned_well
+
+-- These nodes are what it asks.
+abbrev pub AreAsked : Facts → Checked → Variables → List AskedNode → Type 0
+AreAsked facts checked variables nodes = asked_nodes nodes ≡ kept_below (place_in (facts_data facts.known)) (asked_for facts.meta.schema facts.meta.weights checked variables)
+
+-- why the walk stopped, as a fault
+abbrev pub stop_told : Stop → LocalFault
+stop_told LargeStop = TooLarge
+stop_told MemoryStop = Memory

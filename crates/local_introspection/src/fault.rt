@@ -1,0 +1,31 @@
+//! Why the gateway doesn't answer an operation that asks for its schema.
+
+use document_rules::RuleFault;
+use merged_selections::PlanFault;
+use thiserror::Error;
+use variable_coercion::CoerceFault;
+
+/// Why an operation isn't answered from the gateway's own schema: the first test that it doesn't pass, in their order. No fault in it is
+/// want of memory. The tests are those of any operation, over the schema of schemas.
+#[derive(Debug, Drop, Error)]
+pub enum LocalFault {
+    /// Beside a field that the gateway answers stands one that it can't, whose name begins at this offset. `answer` isn't
+    /// asked for such an operation.
+    #[error("the field at {at} can't be answered beside fields of the schema")]
+    Mixed { at: usize },
+    /// The operation breaks a rule.
+    #[error("the operation can't be checked: {0}")]
+    Rule(RuleFault),
+    /// A variable has no value.
+    #[error("the operation can't run: {0}")]
+    Variable(CoerceFault),
+    /// A node of the operation is at fault, or it has too many nodes.
+    #[error("the operation can't be planned: {0}")]
+    Plan(PlanFault),
+    /// The answer has too many values, lists and nulls among them.
+    #[error("the answer has more than {} values", crate::VALUE_LIMIT)]
+    TooLarge,
+    /// There was no memory.
+    #[error("there was no memory for the answer")]
+    Memory,
+}

@@ -1,0 +1,13 @@
+//! The schema of schemas (GraphQL October 2021, 4.2): what it says of its fields, and that what is built of its text says so.
+#![tactic(auto)]
+
+mod fields;
+mod laws;
+mod made;
+mod tables;
+mod testing;
+
+pub use fields::what_asked;
+pub use laws::a_meta_schema_has_its_form;
+pub use made::MetaSchema;
+pub use tables::weight_of;
