@@ -1,8 +1,17 @@
 //! The streams of clients over TCP.
 
-use std::io::{ErrorKind, Read};
-use std::net::{Shutdown, TcpListener, TcpStream};
+ghost use Rattle.std.specs.Prelude.{◌≡◌, true, false};
+ghost use Rattle.std.specs.Io.{ReadsAtMost, WritesAtMost};
+
+use crate::looking::{Look, peeked};
+use std::alloc::Global;
+use std::io::{ErrorKind, Read, Write};
+use std::net::{Shutdown, TcpStream};
+use std::os::fd::{AsRawFd, RawFd};
+use std::sync::Arc;
+use std::sync::atomic::{AtomicBool, Ordering};
 use std::time::Duration;
+use std::{io, rt};
 
 /// How long one read of what a client sends, or one write to it, may wait, in seconds. One that waits longer fails.
 pub const CLIENT_SECONDS: u64 = 30;
@@ -10,50 +19,234 @@ pub const CLIENT_SECONDS: u64 = 30;
 /// How many bytes at most are read and dropped when a connection is handed back.
 pub const LINGER_BYTES: usize = 65_536;
 
-/// How long one read of bytes that are dropped may wait, in seconds.
-pub const LINGER_SECONDS: u64 = 1;
+/// How long bytes are read and dropped when a connection is handed back, in seconds.
+pub const LINGER_SECONDS: u64 = 2;
 
-// How many bytes one read drops at most, and how many reads there are, however few bytes each gives.
+// How many bytes one read drops at most.
 const PIECE_BYTES: usize = 4096;
 
-const LINGER_READS: u32 = 64;
-
-// The next client that calls. One that hung up before it was accepted is passed over.
-pub(crate) fn next_client(listener: &TcpListener) -> Option<TcpStream> {
-    for _ in 0..u64::MAX {
-        match listener.accept() {
-            Ok((stream, _)) => return Some(stream),
-            Err(error) if error.kind() == ErrorKind::ConnectionAborted => {}
-            Err(_) => return None,
-        }
-    }
-    None
+/// The stream of a client, which its reader and its writer share.
+#[derive(Drop)]
+pub struct Client {
+    stream: TcpStream,
+    // Whether a read or a write waits where it can't go on.
+    waits: AtomicBool,
+    // Whether the client may go on with a further request, and none of it was read.
+    rests: AtomicBool,
 }
 
-// Lets no read or write wait too long, and none for more bytes before it sends. A stream that doesn't allow for it is
-// left as it is.
-pub(crate) fn set_up(stream: &TcpStream) {
-    let longest = Some(Duration::from_secs(CLIENT_SECONDS));
-    let _ = stream.set_read_timeout(longest);
-    let _ = stream.set_write_timeout(longest);
-    let _ = stream.set_nodelay(true);
+impl Client {
+    /// A stream whose reads and writes wait.
+    pub(crate) fn waiting(stream: TcpStream) -> Client {
+        Client {
+            stream,
+            waits: AtomicBool::new(true),
+            rests: AtomicBool::new(false),
+        }
+    }
+
+    /// A stream whose reads and writes don't wait; none where the system refuses that.
+    pub(crate) fn ready(stream: TcpStream) -> Option<Client> {
+        if stream.set_nonblocking(true).is_err() {
+            return None;
+        }
+        Some(Client {
+            stream,
+            waits: AtomicBool::new(false),
+            rests: AtomicBool::new(false),
+        })
+    }
+
+    /// Lets no read or write wait too long, and none for more bytes before it sends. A stream that doesn't allow for it
+    /// is left as it is.
+    pub(crate) fn set_up(&self, longest: Duration) {
+        let _ = self.stream.set_read_timeout(Some(longest));
+        let _ = self.stream.set_write_timeout(Some(longest));
+        let _ = self.stream.set_nodelay(true);
+    }
+
+    /// The number that the system knows it by.
+    pub(crate) fn fd(&self) -> RawFd {
+        self.stream.as_raw_fd()
+    }
+
+    /// What stands at the front of what the client sent. It doesn't wait.
+    pub(crate) fn look(&self) -> Look {
+        if self.set_waits(false).is_err() {
+            return Look::Over;
+        }
+        peeked(&self.stream)
+    }
+
+    // Lets reads and writes wait, or not.
+    fn set_waits(&self, waits: bool) -> io::Result<()> {
+        if self.waits.load(Ordering::SeqCst) != waits {
+            self.stream.set_nonblocking(!waits)?;
+            self.waits.store(waits, Ordering::SeqCst);
+        }
+        Ok(())
+    }
+
+    // Whether this answer says that a call would have to wait, on a stream whose calls don't.
+    fn has_to_wait(&self, answer: &io::Result<usize>) -> bool {
+        match answer {
+            Err(error) => {
+                error.kind() == ErrorKind::WouldBlock && !self.waits.load(Ordering::SeqCst)
+            }
+            Ok(_) => false,
+        }
+    }
+
+    // Reads, and waits where it has to.
+    fn read(&self, into: &mut [u8]) -> io::Result<usize>
+        ensures { ReadsAtMost result into.new }
+    {
+        let answer = (&self.stream).read(into);
+        if self.has_to_wait(&answer) {
+            self.set_waits(true)?;
+            return (&self.stream).read(into);
+        }
+        answer
+    }
+
+    // Writes, and waits where it has to.
+    fn write(&self, piece: &[u8]) -> io::Result<usize>
+        ensures { WritesAtMost result piece.now }
+    {
+        let answer = (&self.stream).write(piece);
+        if self.has_to_wait(&answer) {
+            self.set_waits(true)?;
+            return (&self.stream).write(piece);
+        }
+        answer
+    }
+
+    /// Whether the client may go on with a further request, and none of it was read.
+    pub(crate) fn rests(&self) -> bool {
+        self.rests.load(Ordering::SeqCst)
+    }
+
+    // Says whether it does.
+    fn set_rests(&self, rests: bool) {
+        self.rests.store(rests, Ordering::SeqCst);
+    }
+
+    /// Begins a further turn, in which nothing was read.
+    pub(crate) fn begin(&self) {
+        self.set_rests(false);
+    }
+
+    /// Says that no reply follows, and drops what the client still sends, so that closing the stream then doesn't take
+    /// back the last reply: a stream that is closed with bytes unread is reset. It is closed by the caller.
+    pub(crate) fn take_leave<R: rt::Clock>(&self, rt: &R) {
+        if self.stream.shutdown(Shutdown::Write).is_err() || self.set_waits(true).is_err() {
+            return;
+        }
+        let Ok(begun) = rt.monotonic() else {
+            return;
+        };
+        let mut piece = [0u8; PIECE_BYTES];
+        let mut left = LINGER_BYTES;
+        for _ in 0..LINGER_BYTES {
+            let most = left.min(PIECE_BYTES);
+            match self.dropped(rt, begun, &mut piece[..most]) {
+                Some(count) => left = left.saturating_sub(count),
+                None => return,
+            }
+        }
+    }
+
+    // How many bytes one read dropped; none where the end was met, the time is over, or the read failed.
+    fn dropped<R: rt::Clock>(&self, rt: &R, begun: Duration, piece: &mut [u8]) -> Option<usize> {
+        let passed = rt.monotonic().ok()?.saturating_sub(begun);
+        let left = Duration::from_secs(LINGER_SECONDS).saturating_sub(passed);
+        if left.is_zero() {
+            return None;
+        }
+        let _ = self.stream.set_read_timeout(Some(left));
+        match (&self.stream).read(piece) {
+            Ok(0) => None,
+            Ok(count) => Some(count),
+            Err(error) if error.kind() == ErrorKind::Interrupted => Some(0),
+            Err(_) => None,
+        }
+    }
 }
 
-// Says that no reply follows, and drops what the client still sends, so that closing the stream then doesn't take back
-// the last reply: a stream that is closed with bytes unread is reset. It is closed by the caller.
-pub(crate) fn take_leave(mut stream: TcpStream) {
-    if stream.shutdown(Shutdown::Write).is_err() {
-        return;
+/// Reads what a client sends.
+#[derive(Drop)]
+pub struct ClientReader {
+    client: Arc<Client, Global>,
+    /// In a turn, how many bytes of the request at hand weren't read so far. Without a number the stream is read as it
+    /// comes, to its end.
+    left: Option<usize>,
+}
+
+impl ClientReader {
+    /// Reads all that the client sends, or in a turn so much of its first request.
+    pub(crate) fn new(client: Arc<Client, Global>, left: Option<usize>) -> ClientReader {
+        ClientReader { client, left }
     }
-    let _ = stream.set_read_timeout(Some(Duration::from_secs(LINGER_SECONDS)));
-    let mut piece = [0u8; PIECE_BYTES];
-    let mut left = LINGER_BYTES;
-    for _ in 0..LINGER_READS {
-        match stream.read(&mut piece[..left.min(PIECE_BYTES)]) {
-            Ok(0) => return,
-            Ok(count) => left = left.saturating_sub(count),
-            Err(error) if error.kind() == ErrorKind::Interrupted => {}
-            Err(_) => return,
+
+    // Where the request at hand was read whole, looks for the next one. It is none where the turn is over.
+    fn at_next(&mut self) -> bool {
+        if self.left != Some(0) {
+            return true;
         }
+        match self.client.look() {
+            Look::Request(length) => {
+                self.left = Some(length);
+                true
+            }
+            Look::Other => {
+                self.left = None;
+                true
+            }
+            Look::Part | Look::Nothing => {
+                self.client.set_rests(true);
+                false
+            }
+            Look::Over => false,
+        }
+    }
+}
+
+impl Read for ClientReader {
+    fn read(&mut self, buf: &mut [u8]) -> io::Result<usize>
+        ensures { ReadsAtMost result buf.new }
+    {
+        if !self.at_next() {
+            return Ok(0);
+        }
+        let Some(left) = self.left else {
+            return self.client.read(buf);
+        };
+        let most = left.min(buf.len());
+        let count = self.client.read(&mut buf[..most])?;
+        self.left = Some(left.saturating_sub(count));
+        Ok(count)
+    }
+}
+
+/// Writes to a client.
+#[derive(Drop)]
+pub struct ClientWriter {
+    client: Arc<Client, Global>,
+}
+
+impl ClientWriter {
+    /// Writes to this client.
+    pub(crate) fn new(client: Arc<Client, Global>) -> ClientWriter {
+        ClientWriter { client }
+    }
+}
+
+impl Write for ClientWriter {
+    fn write(&mut self, buf: &[u8]) -> io::Result<usize> {
+        self.client.write(buf)
+    }
+
+    fn flush(&mut self) -> io::Result<()> {
+        Ok(())
     }
 }

@@ -18,7 +18,13 @@ pub fn forms_are_shared() {
 
 /// Doors over TCP may be shared by threads where what reaches the network may be.
 pub fn tcp_doors_are_shared<
-    R: Net<Listener = TcpListener, Stream = TcpStream> + rt::Clock + Clone + Drop + Send + Sync,
+    R: Net<Listener = TcpListener, Stream = TcpStream>
+        + rt::Clock
+        + rt::Files
+        + Clone
+        + Drop
+        + Send
+        + Sync,
 >() {
     is_shared::<TcpDoor<R>>();
     is_shared::<TcpDoors<R>>();

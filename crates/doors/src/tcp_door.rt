@@ -2,34 +2,51 @@
 
 ghost use Rattle.std.specs.Prelude.{◌≡◌, None, true, false, is_some};
 
-use crate::client::{next_client, set_up, take_leave};
+use crate::client::{ClientReader, ClientWriter};
 use crate::conn::Conn;
 use crate::door::{Door, DoorFault};
+use crate::entrance::{Entrance, Entry};
 use outside::{StdSink, StdSource, SystemClock, TcpWire};
+use std::alloc::Global;
 use std::net::{Net, TcpListener, TcpStream};
 use std::rt;
+use std::sync::Arc;
+use std::time::Duration;
 
 /// A connection of a client over TCP.
-pub type TcpConn<R> = Conn<StdSource<TcpStream>, StdSink<TcpStream>, TcpWire<R>, SystemClock<R>>;
+pub type TcpConn<R> = Conn<
+    StdSource<ClientReader>,
+    StdSink<ClientWriter>,
+    TcpWire<R>,
+    SystemClock<R>,
+>;
 
-/// A door over TCP. Doors of several workers may share one listener. It doesn't tell its visits.
+/// A door over TCP. Doors of several workers may share one listener, and a waiting room. It doesn't tell its visits.
 #[derive(Drop)]
-pub struct TcpDoor<R: Net<Listener = TcpListener, Stream = TcpStream> + rt::Clock + Clone + Drop> {
+pub struct TcpDoor<
+    R: Net<Listener = TcpListener, Stream = TcpStream> + rt::Clock + rt::Files + Clone + Drop,
+> {
     rt: R,
-    listener: TcpListener,
+    alloc: Global,
+    entrance: Entrance,
     upstream: String,
-    /// The client's stream, while a connection is out.
-    client: Option<TcpStream>,
+    patience: Duration,
+    /// The client, while a connection is out.
+    client: Option<Entry>,
     to_come: u32,
     faults: u64,
 }
 
-impl<R: Net<Listener = TcpListener, Stream = TcpStream> + rt::Clock + Clone + Drop> TcpDoor<R> {
-    // A door for so many connections of clients that call at this listener.
+impl<
+    R: Net<Listener = TcpListener, Stream = TcpStream> + rt::Clock + rt::Files + Clone + Drop,
+> TcpDoor<R> {
+    // A door for so many connections of clients that come in here.
     pub(crate) fn new(
         rt: R,
-        listener: TcpListener,
+        alloc: Global,
+        entrance: Entrance,
         upstream: String,
+        patience: Duration,
         connections: u32,
     ) -> TcpDoor<R>
         ensures client { result.client ≡ None }
@@ -38,39 +55,51 @@ impl<R: Net<Listener = TcpListener, Stream = TcpStream> + rt::Clock + Clone + Dr
     {
         TcpDoor {
             rt,
-            listener,
+            alloc,
+            entrance,
             upstream,
+            patience,
             client: None,
             to_come: connections,
             faults: 0,
         }
     }
 
-    // The next client's stream, and the connection over it.
-    fn next(&self) -> Option<(TcpStream, TcpConn<R>)> {
-        let client = next_client(&self.listener)?;
-        set_up(&client);
-        let source = StdSource::new(client.try_clone().ok()?);
-        let sink = StdSink::new(client.try_clone().ok()?);
-        let wire = TcpWire::new(self.rt.clone().ok()?, self.upstream.clone().ok()?);
-        let clock = SystemClock::new(self.rt.clone().ok()?);
-        Some((
-            client,
-            Conn {
-                source,
-                sink,
-                wire,
-                clock,
-            },
-        ))
+    // A connection of this client.
+    fn connect(&self, entry: &Entry) -> Option<TcpConn<R>> {
+        let reader = ClientReader::new(Arc::try_clone(&entry.client).ok()?, entry.left);
+        let writer = ClientWriter::new(Arc::try_clone(&entry.client).ok()?);
+        Some(Conn {
+            source: StdSource::new(reader),
+            sink: StdSink::new(writer),
+            wire: TcpWire::new(self.rt.clone().ok()?, self.upstream.clone().ok()?),
+            clock: SystemClock::new(self.rt.clone().ok()?),
+        })
+    }
+
+    // The next client, and the connection to it.
+    fn next(&mut self) -> Option<(Entry, TcpConn<R>)>
+        ensures client { self.new.client ≡ self.old.client }
+        ensures to_come { self.new.to_come ≡ self.old.to_come }
+        ensures faults { self.new.faults ≡ self.old.faults }
+    {
+        let entry = self.entrance.next(&self.rt, self.alloc, self.patience)?;
+        let conn = self.connect(&entry)?;
+        Some((entry, conn))
     }
 }
 
-impl<R: Net<Listener = TcpListener, Stream = TcpStream> + rt::Clock + Clone + Drop + Send> Door
-    for TcpDoor<R> {
-    type S = StdSource<TcpStream>;
+impl<
+    R: Net<Listener = TcpListener, Stream = TcpStream>
+        + rt::Clock
+        + rt::Files
+        + Clone
+        + Drop
+        + Send,
+> Door for TcpDoor<R> {
+    type S = StdSource<ClientReader>;
 
-    type K = StdSink<TcpStream>;
+    type K = StdSink<ClientWriter>;
 
     type W = TcpWire<R>;
 
@@ -91,8 +120,8 @@ impl<R: Net<Listener = TcpListener, Stream = TcpStream> + rt::Clock + Clone + Dr
             return Ok(None);
         }
         match self.next() {
-            Some((client, conn)) => {
-                self.client = Some(client);
+            Some((entry, conn)) => {
+                self.client = Some(entry);
                 self.to_come -= 1;
                 Ok(Some(conn))
             }
@@ -110,8 +139,8 @@ impl<R: Net<Listener = TcpListener, Stream = TcpStream> + rt::Clock + Clone + Dr
         ensures count { self.new.faults ≡ self.old.faults }
     {
         drop(conn);
-        if let Some(client) = self.client.take() {
-            take_leave(client);
+        if let Some(entry) = self.client.take() {
+            self.entrance.take_back(&self.rt, entry);
         }
     }
 }

@@ -1,0 +1,154 @@
+//! Where the clients of a door come in.
+
+use crate::client::Client;
+use crate::ending::Ending;
+use crate::hall::Guest;
+use crate::listening::{Accepted, accept, pause};
+use crate::room::Place;
+use mio::unix::SourceFd;
+use mio::{Events, Interest, Poll, Token};
+use std::alloc::Global;
+use std::net::{Net, TcpListener, TcpStream};
+use std::os::fd::AsRawFd;
+use std::sync::Arc;
+use std::time::Duration;
+use std::{io, rt};
+
+// How long one wait for a client takes at most, where the end may be asked for, in milliseconds.
+const WAIT_MILLISECONDS: u64 = 500;
+
+/// A client that came in.
+#[derive(Drop)]
+pub(crate) struct Entry {
+    pub(crate) client: Arc<Client, Global>,
+    /// In a turn, how long its first request is, where that is known.
+    pub(crate) left: Option<usize>,
+    // Its number in the waiting room.
+    number: usize,
+}
+
+/// Where the clients of a door come in.
+#[derive(Drop)]
+pub(crate) enum Entrance {
+    /// At a listener, each for all that it sends.
+    Listener(TcpListener),
+    /// The same until the end is asked for.
+    Watched(Watch),
+    /// In a waiting room, each for a turn.
+    Room(Place),
+}
+
+/// A listener that is watched beside the end.
+#[derive(Drop)]
+pub(crate) struct Watch {
+    listener: TcpListener,
+    poll: Poll,
+    events: Events,
+    ending: Arc<Ending, Global>,
+}
+
+impl Watch {
+    /// A watch over this listener.
+    pub(crate) fn new<R: Net>(
+        rt: &R,
+        alloc: Global,
+        listener: TcpListener,
+        ending: Arc<Ending, Global>,
+    ) -> io::Result<Watch> {
+        listener.set_nonblocking(true)?;
+        let poll = Poll::new(rt)?;
+        let fd = listener.as_raw_fd();
+        poll.registry()
+            .register(&mut SourceFd(&fd), Token(0), Interest::READABLE)?;
+        Ok(Watch {
+            listener,
+            poll,
+            events: Events::with_capacity(alloc, 1)?,
+            ending,
+        })
+    }
+
+    // The next stream of a client. None where the end was asked for, or the listener failed.
+    fn next<R: rt::Clock + rt::Files>(&mut self, rt: &R) -> Option<TcpStream> {
+        for _ in 0..u64::MAX {
+            if self.ending.is_asked(rt) {
+                return None;
+            }
+            match accept(&self.listener) {
+                Accepted::Client(stream) => return Some(stream),
+                Accepted::Nobody => {
+                    let patience = Some(Duration::from_millis(WAIT_MILLISECONDS));
+                    let _ = self.poll.poll(&mut self.events, patience);
+                }
+                Accepted::Shortage => pause(rt),
+                Accepted::Failed => return None,
+            }
+        }
+        None
+    }
+}
+
+// The next stream of a client at a listener whose accept waits.
+fn next_stream<R: rt::Clock>(rt: &R, listener: &TcpListener) -> Option<TcpStream> {
+    for _ in 0..u64::MAX {
+        match accept(listener) {
+            Accepted::Client(stream) => return Some(stream),
+            Accepted::Shortage => pause(rt),
+            Accepted::Nobody | Accepted::Failed => return None,
+        }
+    }
+    None
+}
+
+// A client for all that it sends.
+fn for_all(alloc: Global, stream: TcpStream, patience: Duration) -> Option<Entry> {
+    let client = Client::waiting(stream);
+    client.set_up(patience);
+    Some(Entry {
+        client: Arc::new(alloc, client).ok()?,
+        left: None,
+        number: 0,
+    })
+}
+
+impl Entrance {
+    /// The next client that comes in. One read of what it sends, or one write to it, waits no longer than that.
+    pub(crate) fn next<R: rt::Clock + rt::Files>(
+        &mut self,
+        rt: &R,
+        alloc: Global,
+        patience: Duration,
+    ) -> Option<Entry> {
+        match self {
+            Entrance::Listener(listener) => for_all(alloc, next_stream(rt, listener)?, patience),
+            Entrance::Watched(watch) => for_all(alloc, watch.next(rt)?, patience),
+            Entrance::Room(place) => {
+                let called = place.next(rt)?;
+                called.client.begin();
+                Some(Entry {
+                    client: called.client,
+                    left: called.left,
+                    number: called.number,
+                })
+            }
+        }
+    }
+
+    /// Takes back a client that was given. One that may go on goes back into the waiting room; else its connection is
+    /// closed.
+    pub(crate) fn take_back<R: rt::Clock + rt::Files>(&self, rt: &R, entry: Entry) {
+        match self {
+            Entrance::Room(place) if entry.client.rests() => {
+                let since = rt.monotonic().unwrap_or(Duration::ZERO);
+                if !place.room.is_ending(rt) {
+                    place.room.take_back(Guest {
+                        number: entry.number,
+                        client: entry.client,
+                        since,
+                    });
+                }
+            }
+            _ => entry.client.take_leave(rt),
+        }
+    }
+}

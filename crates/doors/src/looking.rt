@@ -1,0 +1,79 @@
+//! A look at what a client sent, which takes nothing.
+
+ghost use Rattle.std.specs.Prelude.{◌≡◌, ◌≤◌, length, IfOk};
+
+use http_fields::Fields;
+use httparse::Status;
+use httparse::spans::{EMPTY_HEADER_SPAN, HeaderSpan, parse_request};
+use std::io::ErrorKind;
+use std::net::TcpStream;
+
+/// How many bytes a look sees at most: as many as the longest head has.
+pub const LOOK_BYTES: usize = 16_384;
+
+// The longest body that a client may send. What is longer is refused by its head.
+const BODY_BYTES: u64 = 262_144;
+
+/// What stands at the front of what a client sent.
+#[derive(Clone, Copy, Drop)]
+pub(crate) enum Look {
+    /// Nothing so far.
+    Nothing,
+    /// Nothing, and nothing follows; or the stream failed.
+    Over,
+    /// Less than a request.
+    Part,
+    /// A request of so many bytes: all of them, or as many as a look sees.
+    Request(usize),
+    /// What is no request, or none that is taken.
+    Other,
+}
+
+// The length of the body that a head says, where it is taken.
+fn body_length(fields: Fields) -> Option<usize> {
+    match fields.length() {
+        Ok(Some(length)) if length <= BODY_BYTES => Some(length as usize),
+        _ => None,
+    }
+}
+
+// What these bytes are the front of.
+fn look_at(bytes: &[u8], headers: &mut [HeaderSpan]) -> Look
+    requires room { length headers.old ≡ 64 }
+{
+    match parse_request(bytes, headers) {
+        Ok(Status::Complete(spans)) => {
+            let fields = Fields {
+                bytes,
+                headers: &headers[..spans.headers],
+            };
+            match body_length(fields) {
+                Some(length) => so_far(bytes.len(), spans.len.saturating_add(length)),
+                None => Look::Other,
+            }
+        }
+        Ok(Status::Partial) if bytes.len() < LOOK_BYTES => Look::Part,
+        _ => Look::Other,
+    }
+}
+
+// Whether a request of that length is there.
+fn so_far(seen: usize, length: usize) -> Look {
+    if seen < length.min(LOOK_BYTES) {
+        Look::Part
+    } else {
+        Look::Request(length)
+    }
+}
+
+/// Looks at what a client sent, on a stream whose reads don't wait.
+pub(crate) fn peeked(stream: &TcpStream) -> Look {
+    let mut front = [0u8; LOOK_BYTES];
+    let mut headers = [EMPTY_HEADER_SPAN; 64];
+    match stream.peek(&mut front) {
+        Ok(0) => Look::Over,
+        Ok(count) => look_at(&front[..count], &mut headers),
+        Err(error) if error.kind() == ErrorKind::WouldBlock => Look::Nothing,
+        Err(_) => Look::Over,
+    }
+}
