@@ -1,10 +1,9 @@
 -- The whole answer.
-use Rattle.std.proofs.Common.{◌≡◌, ℕ, ◌+◌, ◌*◌, ◌≤◌, ◌<◌, List, [], ◌∷◌, ◌++◌, Ok, Err, sym, ap, ◌∙◌, subst, arith, codes, append_assoc}
-use Rattle.std.specs.Prelude.{Result}
+use Rattle.std.proofs.Common.{◌≡◌, ℕ, ◌*◌, ◌≤◌, List, ◌++◌, Ok, Err, ap, ◌∙◌, arith, codes}
 use Rattle.cost_num.specs.declared.TheConstants.{UNIT}
 use Rattle.cost_num.specs.Capped.{capped}
 use Rattle.cost_num.specs.declared.Cost.{Cost}
-use Rattle.response_model.specs.Cost.{Part, types, fields}
+use Rattle.response_model.specs.Cost.{types, fields}
 use Rattle.response_model.specs.ResponseText.{tree_text}
 use Rattle.local_introspection.specs.declared.walk.Stop.{Stop}
 use Rattle.local_introspection.specs.declared.walk.Stop.TheVariants.{TooLarge, Memory}

@@ -1,10 +1,10 @@
 -- What suits fits: the answer fits the plan of what is asked, and costs what its tree costs beside it.
-use Rattle.std.proofs.Common.{◌≡◌, ℕ, ◌+◌, List, [], ◌∷◌, Bool, true, false, cond, eqb, eq-eqb, ◌||◌, Option, Some, None, refl, sym, ap, ap₂, ◌∙◌, subst, arith}
+use Rattle.std.proofs.Common.{◌≡◌, ℕ, ◌+◌, List, [], ◌∷◌, Bool, true, false, cond, eq-eqb, ◌||◌, Option, Some, None, refl, sym, ap, ap₂, ◌∙◌, subst, arith}
 use Rattle.std.specs.List.{AllByRecursion}
 use Rattle.serde_json.specs.Data.{Data, string}
 use Rattle.cost_num.specs.declared.TheConstants.{UNIT}
 use Rattle.response_model.specs.Plan.{Form, single, listed, Selected, LeafType, type_name, numbered, Plan, leaf_plan, position, object_type, no_type, Nodes, no_node}
-use Rattle.response_model.specs.Response.{object, Entries, Elements, IsLeafOf, Fits, EntriesFit, ElementsFit}
+use Rattle.response_model.specs.Response.{object, Entries, IsLeafOf, Fits, EntriesFit, ElementsFit}
 use Rattle.response_model.specs.Cost.{Part, types, fields, value_cost, entry_cost, cost, entries_cost, elements_cost}
 use Rattle.schema_facts.specs.declared.table.What.{What}
 use Rattle.schema_facts.specs.Facts.{FactsData}
@@ -12,7 +12,7 @@ use Rattle.schema_facts.specs.Things.{ThingData, the_root, HeldData, nothing, on
 use Rattle.asked_fields.specs.Asked.{Asked, no_field, field_then, AskedBelow, of_leaf, of_objects, of_nothing, nodes_in, plan_in}
 use Rattle.asked_fields.specs.Asking.{kept_of, kept_below}
 use Rattle.asked_fields.specs.Arguments.{argument_kept}
-use Rattle.meta_schema.specs.MetaTypes.{number_of, weight_of}
+use Rattle.meta_schema.specs.MetaTypes.{number_of}
 use Rattle.meta_schema.specs.MetaForms.{form_of, below_of, leaf_type_of, holds as table_holds, meta_name}
 use Rattle.local_introspection.specs.Answers.{given_by, entries_of, tree_of_thing, leaf_or, tree_of_held, elements_for, field_cost, unless_leaf, cost_of_thing, cost_of_things, cost_of_held, cost_of_entries}
 use Rattle.local_introspection.specs.MetaNodes.{IsFieldNode, IsMetaLeaf, what_in, AreMetaFields, IsMetaBelow, IsMetaRoot}

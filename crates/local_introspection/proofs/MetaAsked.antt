@@ -1,23 +1,22 @@
 -- Where an operation is planned well over the schema of schemas, each node that it asks is one of that schema's fields.
-use Rattle.std.proofs.Common.{◌≡◌, ◌∙◌, ℕ, zero, suc, ◌+◌, List, [], ◌∷◌, map, flat_map, Bool, true, false, Option, Some, None, refl, sym, ap, subst, arith}
-use Rattle.serde_json.specs.Data.{Data, string}
-use Rattle.cost_num.specs.declared.TheConstants.{UNIT}
+use Rattle.std.proofs.Common.{◌≡◌, ℕ, zero, suc, List, [], ◌∷◌, map, flat_map, Bool, true, false, Option, Some, None, refl, sym, ap, subst}
+use Rattle.serde_json.specs.Data.{string}
 use Rattle.cost_num.specs.Capped.{capped}
 use Rattle.response_model.specs.Plan.{LeafType, type_name, numbered}
 use Rattle.schema_rules.specs.First.{or_else, fault_where, first_of}
 use Rattle.schema_rules.proofs.FirstFaults.{neither}
 use Rattle.document_reader.specs.declared.trees.Operation.{Operation}
-use Rattle.plan_model.specs.SelectedFields.{Setting, FieldCall, HandedSize, Place, leaf_place, object_place, types_of, lacks_types, place_at, arguments_at, if_coerced}
+use Rattle.plan_model.specs.SelectedFields.{Setting, FieldCall, HandedSize, Place, types_of, lacks_types, place_at, arguments_at, if_coerced}
 use Rattle.plan_model.specs.Collecting.{CollectedField}
 use Rattle.plan_model.specs.Merging.{Position, keys_at, first_call, fields_under, call_under, selected_under, below_key}
-use Rattle.plan_model.specs.Plans.{with_capped, type_weight}
-use Rattle.plan_model.specs.Visits.{NodeFault, conflict, no_possible_type, names_differ, argument_fault, arguments_differ, size_fault, fault_of, Visit, visits_of_key, visits_of_type, too_deep_at, deepest_visits, visits, level_limit, node_limit}
+use Rattle.plan_model.specs.Plans.{with_capped}
+use Rattle.plan_model.specs.Visits.{conflict, no_possible_type, names_differ, argument_fault, arguments_differ, size_fault, fault_of, Visit, visits_of_key, visits_of_type, too_deep_at, deepest_visits, visits, level_limit, node_limit}
 use Rattle.plan_model.specs.Operations.{root_position, root_place, nodes_visited, IsPlannedWell}
 use Rattle.plan_model.proofs.FaultlessPlans.{NoFault, none_in_front, none_behind, own_none, inner_none}
 use Rattle.plan_model.proofs.PlannedWell.{none_at_fault}
 use Rattle.schema_facts.specs.declared.table.What.{What}
 use Rattle.schema_facts.specs.declared.table.What.TheVariants as what
-use Rattle.asked_fields.specs.Asked.{Asked, no_field, field_then, AskedBelow, of_leaf, of_objects, of_nothing, fields_asked, asked_at, nothing_below, asked, asked_operation}
+use Rattle.asked_fields.specs.Asked.{Asked, AskedBelow, fields_asked, asked_at, nothing_below, asked, asked_operation}
 use Rattle.asked_fields.specs.Arguments.{argument_kept}
 use Rattle.meta_schema.specs.MetaForms.{below_of, leaf_type_of, meta_name}
 use Rattle.meta_schema.specs.MetaFields.{IsObjectType, meta_fill, place_by, meta_place, IsMetaField, HasMetaForm}

@@ -1,5 +1,5 @@
 -- Leaves over the schema of schemas hold what its tables say.
-use Rattle.std.proofs.Common.{◌≡◌, ◌∙◌, ℕ, List, [], ◌∷◌, Bool, true, false, ◌||◌, ◌&&◌, eqb, eqb-true, refl, sym, subst}
+use Rattle.std.proofs.Common.{◌≡◌, ◌∙◌, ℕ, List, Bool, true, false, ◌||◌, ◌&&◌, eqb, eqb-true, refl, sym, subst}
 use Rattle.std.specs.List.{list_any}
 use Rattle.std.specs.Str.{bytes_eq}
 use Rattle.serde_json.specs.Data.{Data, null, boolean, number, string, array, object}

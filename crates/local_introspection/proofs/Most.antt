@@ -1,15 +1,15 @@
 -- An answer costs at most one a value.
-use Rattle.std.proofs.Common.{◌≡◌, ℕ, ◌+◌, ◌*◌, ◌≤◌, suc, List, [], ◌∷◌, Option, Some, None, arith}
+use Rattle.std.proofs.Common.{◌≡◌, ℕ, ◌+◌, ◌*◌, ◌≤◌, List, [], ◌∷◌, Option, Some, None, arith}
 use Rattle.serde_json.specs.Data.{Data}
 use Rattle.cost_num.specs.declared.TheConstants.{UNIT}
 use Rattle.response_model.specs.Cost.{Part, types, fields, value_cost}
-use Rattle.response_model.specs.Response.{Tree, object, Entries}
+use Rattle.response_model.specs.Response.{object, Entries}
 use Rattle.schema_facts.specs.Facts.{FactsData}
 use Rattle.schema_facts.specs.declared.table.What.{What}
 use Rattle.schema_facts.specs.declared.table.What.TheVariants as what
 use Rattle.asked_fields.specs.AskedNodes.{AskedNodes, nothing_asked, asked_then}
 use Rattle.schema_facts.specs.Things.{ThingData, HeldData, nothing, one, many, leaf_of}
-use Rattle.meta_schema.specs.MetaTypes.{number_of, weight_of}
+use Rattle.meta_schema.specs.MetaTypes.{number_of}
 use Rattle.meta_schema.specs.Fields.{what_asked}
 use Rattle.local_introspection.specs.Answers.{given_by, entries_of, tree_of_thing, leaf_or, tree_of_held, elements_for, values_in, values_in_entries, values_in_elements, field_cost, unless_leaf, cost_of_thing, cost_of_things, cost_of_held, cost_of_entries}
 

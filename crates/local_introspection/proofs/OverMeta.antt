@@ -12,12 +12,11 @@ use Rattle.plan_model.specs.Operations.{root_place, root_position, IsPlannedWell
 use Rattle.schema_facts.specs.Facts.{FactsData}
 use Rattle.schema_facts.specs.Things.{the_root}
 use Rattle.asked_fields.specs.AskedNodes.{AskedNodes}
-use Rattle.asked_fields.specs.Asked.{AskedBelow, asked_operation, plan_in, FitsAsAsked, CostsAsAsked}
+use Rattle.asked_fields.specs.Asked.{asked_operation, plan_in, FitsAsAsked, CostsAsAsked}
 use Rattle.asked_fields.specs.Asking.{kept_below}
 use Rattle.meta_schema.specs.MetaFields.{HasMetaForm}
 use Rattle.local_introspection.specs.Answers.{values_in}
 use Rattle.local_introspection.specs.Walking.{answer_tree, answer_cost}
-use Rattle.local_introspection.specs.MetaNodes.{IsMetaRoot}
 use Rattle.local_introspection.proofs.Fitting.{root_fits, root_costs}
 use Rattle.local_introspection.proofs.MetaAsked.{root_is_meta}
 use Rattle.local_introspection.proofs.MetaLeaves.{said_of_leaves}

@@ -1,7 +1,7 @@
 -- What is written is the answer to the request.
 use Rattle.std.specs.Prelude.{Result, IfOk}
 use Rattle.std.specs.declared.alloc.AllocError.{AllocError}
-use Rattle.std.proofs.Common.{◌≡◌, ◌∙◌, ◌≤◌, ◌<◌, ℕ, List, Vec, Global, map, Option, Some, Ok, Err, refl, sym, ap, subst}
+use Rattle.std.proofs.Common.{◌≡◌, ◌∙◌, ℕ, List, Vec, Global, map, Some, Ok, Err, refl, sym, ap, subst}
 use Rattle.serde_json.specs.Data.{Data}
 use Rattle.gql_base.specs.names.Names.{place_of_name}
 use Rattle.gql_base.specs.declared.parts.trees.OperationKind.{OperationKind}
@@ -16,10 +16,9 @@ use Rattle.variable_coercion.specs.declared.variables.Variables.{Variables}
 use Rattle.variable_coercion.specs.Variables.{values_by_name}
 use Rattle.variable_coercion.specs.Calls.{variables_data, environment}
 use Rattle.plan_model.specs.SelectedFields.{Setting}
-use Rattle.plan_model.specs.Visits.{planned_well}
 use Rattle.plan_model.specs.Operations.{operation_answer}
 use Rattle.schema_facts.specs.declared.known.KnownType.{KnownType}
-use Rattle.schema_facts.specs.Facts.{FactsData, KnownTree, known_name, known_type}
+use Rattle.schema_facts.specs.Facts.{KnownTree, known_name, known_type}
 use Rattle.schema_facts.specs.FactsViews.{facts_data}
 use Rattle.schema_facts.specs.Things.{one, the_root}
 use Rattle.asked_fields.specs.declared.asked.AskedNode.{AskedNode}
@@ -31,11 +30,9 @@ use Rattle.meta_schema.specs.MetaSchemas.{IsMetaSchema, IsOver}
 use Rattle.meta_schema.specs.MetaFields.{HasMetaForm}
 use Rattle.local_introspection.specs.declared.facts.Facts.{Facts}
 use Rattle.local_introspection.specs.declared.fault.LocalFault.{LocalFault}
-use Rattle.local_introspection.specs.declared.fault.LocalFault.TheVariants.{TooLarge, Memory}
 use Rattle.local_introspection.specs.declared.walk.Local.{Local}
 use Rattle.local_introspection.specs.declared.walk.Stop.{Stop}
 use Rattle.local_introspection.specs.declared.walk.Stop.TheVariants.{TooLarge as LargeStop, Memory as MemoryStop}
-use Rattle.local_introspection.specs.Answers.{values_in}
 use Rattle.local_introspection.specs.Walking.{IsAnswer, answer_tree}
 use Rattle.local_introspection.specs.LocalRequests.{LocalRequest, local_request, IsMade, IsCheckFor, AreValues, Prepared, setting, IsPlannedWell, place_in, nodes_asked, IsTheAnswer}
 use Rattle.local_introspection.specs.LocalAnswers.{IsAnsweredWith, IsRefusedFor}

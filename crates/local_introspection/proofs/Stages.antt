@@ -1,6 +1,6 @@
 -- What each stage finds is what becomes of the request.
-use Rattle.std.proofs.Common.{◌≡◌, ◌∙◌, ℕ, List, Option, None, Some, Ok, Err, refl, sym, ap, ap₂, subst}
-use Rattle.std.specs.Prelude.{◌≢◌, IsSome, Result}
+use Rattle.std.proofs.Common.{◌≡◌, ◌∙◌, List, Option, None, Some, Err, refl, sym, ap, ap₂, subst}
+use Rattle.std.specs.Prelude.{◌≢◌, IsSome}
 use Rattle.gql_base.specs.declared.parts.trees.OperationKind.{OperationKind}
 use Rattle.gql_base.specs.declared.parts.trees.OperationKind.TheVariants.{Query, Mutation, Subscription}
 use Rattle.document_reader.specs.declared.trees.Definition.{Definition}
@@ -15,16 +15,13 @@ use Rattle.document_rules.specs.declared.rule.RuleFault.{RuleFault}
 use Rattle.document_rules.specs.declared.rule.RuleFault.TheVariants.{Broken, Memory as NoRuleMemory}
 use Rattle.document_rules.specs.declared.checking.Checked.{Checked}
 use Rattle.document_rules.specs.Parts.{operation_at}
-use Rattle.document_rules.specs.Sites.{type_of_kind}
 use Rattle.document_rules.specs.Checking.{Breach, first_broken, IsCheckOf, AnswersBreach}
 use Rattle.merged_selections.specs.declared.fault.PlanFault.{PlanFault}
 use Rattle.merged_selections.specs.Faults.{IsTold}
-use Rattle.plan_model.specs.SelectedFields.{Setting}
 use Rattle.plan_model.specs.Operations.{setting_of, operation_answer}
-use Rattle.schema_model.specs.SchemaData.{SchemaData}
 use Rattle.operation_class.specs.declared.classes.Class.{Class}
-use Rattle.operation_class.specs.declared.classes.Class.TheVariants.{Upstream, Local as LocalClass}
-use Rattle.operation_class.specs.Classes.{class_of_kind, class_of, class_there, class_by_fields}
+use Rattle.operation_class.specs.declared.classes.Class.TheVariants.{Local as LocalClass}
+use Rattle.operation_class.specs.Classes.{class_of_kind, class_there}
 use Rattle.acceptance.specs.Refusals.{NamesBreach, NamesVariable, NamesNode}
 use Rattle.local_introspection.specs.declared.fault.LocalFault.{LocalFault}
 use Rattle.local_introspection.specs.declared.fault.LocalFault.TheVariants.{Mixed, Rule, Variable, Plan, TooLarge as LocalTooLarge, Memory}

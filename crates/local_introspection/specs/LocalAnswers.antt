@@ -1,5 +1,5 @@
 -- What a request of the gateway's own schema comes to.
-use Rattle.std.specs.Prelude.{◌≡◌, ◌≢◌, ◌<◌, ℕ, Result, Ok, Err}
+use Rattle.std.specs.Prelude.{◌≡◌, ◌≢◌, ◌<◌, Result, Ok, Err}
 use Rattle.document_reader.specs.declared.trees.Operation.{Operation}
 use Rattle.response_model.specs.Response.{Tree}
 use Rattle.document_rules.specs.declared.rule.RuleFault.{RuleFault}

@@ -1,5 +1,4 @@
 use Rattle.serde_json.specs.View.{view}
-use Rattle.local_introspection.proofs.OverMeta.{AskLaws}
 use Rattle.local_introspection.proofs.RequestAnswers.{is_answered, is_stopped}
 use Rattle.local_introspection.proofs.answering.written.Goals as goal
 

@@ -1,4 +1,4 @@
-use Rattle.std.proofs.Common.{◌++◌, ◌∷◌, [], refl, sym, ap, ◌∙◌, arith, string_bytes, map}
+use Rattle.std.proofs.Common.{◌++◌, ◌∷◌, [], refl, sym, ap, ◌∙◌, arith, string_bytes}
 use Rattle.std.proofs.lemmas.Result.{err_from_is_err_and}
 use Rattle.asked_fields.specs.AskedNodes.{asked_node, asked_nodes, asked_depth, AskedOne}
 use Rattle.response_model.specs.ResponseText.{key_text}
@@ -6,7 +6,6 @@ use Rattle.schema_facts.specs.FactsViews.{facts_data}
 use Rattle.schema_facts.specs.Things.{thing_data, held_data}
 use Rattle.schema_facts.specs.Table.{held}
 use Rattle.meta_schema.specs.MetaTypes.{weight_of}
-use Rattle.local_introspection.specs.Walking.{held_under}
 use Rattle.local_introspection.proofs.WalkSteps.{entries_go_on, entries_stop, entries_end, entry_added, entry_stops}
 use Rattle.local_introspection.proofs.Opened.{open_asked, less_deep}
 use Rattle.local_introspection.proofs.walk.+walk.Goals as goal

@@ -1,5 +1,5 @@
 -- What was done and what is left give the whole. Each step goes down in the nodes.
-use Rattle.std.proofs.Common.{◌≡◌, ◌+◌, ◌*◌, drop, map, string_bytes}
+use Rattle.std.proofs.Common.{◌+◌, ◌*◌, drop, map, string_bytes}
 use denote.Text.{Utf8}
 use denote.Shadow.{shadow}
 use Rattle.asked_fields.specs.AskedNodes.{asked_nodes, asked_node, asked_depth}
