@@ -12,3 +12,5 @@ pub mod KeptPlaces
 pub mod Stages
 pub mod RequestAnswers
 pub mod PlainTexts
+pub mod OneVerdict
+pub mod OneLines

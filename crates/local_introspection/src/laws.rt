@@ -1,15 +1,23 @@
 //! What holds of all answers. These functions do nothing: their contracts are the laws.
 
-ghost use Rattle.std.specs.Prelude.{◌≡◌, ◌≤◌, ◌*◌};
+ghost use Rattle.std.specs.Prelude.{◌≡◌, ◌≢◌, ◌≤◌, ◌*◌, Ok, Err, true};
 ghost use Rattle.cost_num.specs.declared.TheConstants.{UNIT};
-ghost use Rattle.response_model.specs.Cost.{Part};
+ghost use Rattle.gql_base.specs.printing.OneLine.{is_one_line};
+ghost use Rattle.response_model.specs.Cost.{Part, types, fields};
 ghost use Rattle.response_model.specs.Response.{Tree};
 ghost use Rattle.schema_facts.specs.Facts.{FactsData};
 ghost use Rattle.schema_facts.specs.Things.{one, the_root};
 ghost use Rattle.asked_fields.specs.AskedNodes.{AskedNodes};
 ghost use Rattle.local_introspection.specs.Answers.{Gives, values_in};
 ghost use Rattle.local_introspection.specs.Walking.{answer_tree, answer_cost};
-ghost use Rattle.local_introspection.specs.LocalRequests.{LocalRequest, Prepared, IsTheAnswer};
+ghost use Rattle.local_introspection.specs.LocalRequests.{LocalRequest, Prepared, IsTheAnswer, cost_of_response};
+ghost use Rattle.local_introspection.specs.LocalAnswers.{ComesTo};
+ghost use Rattle.local_introspection.specs.LocalTexts.{local_text};
+ghost use Rattle.local_introspection.specs.declared.fault.LocalFault.{LocalFault as Fault};
+ghost use Rattle.local_introspection.specs.declared.fault.LocalFault.TheVariants.{Memory as NoMemory};
+ghost use Rattle.local_introspection.specs.declared.walk.Local.{Local as LocalAnswer};
+
+use acceptance::refusal_texts_are_one_line;
 
 /// There is one tree whose every entry is what the schema's facts give for it, and whose lists have just the items that they
 /// give. It is the one that is written.
@@ -23,3 +31,19 @@ pub fn there_is_one_answer()
 pub fn a_value_costs_one_at_most()
     ensures { (f : FactsData) (nodes : AskedNodes) (part : Part) → answer_cost f nodes part ≤ UNIT * values_in (answer_tree f nodes) }
 {}
+
+/// A request is answered or refused, not both, but for want of memory. It has one answer, by its text and its cost, and is refused in one
+/// way. Whatever tree answers it costs just what is told: this is the greatest cost of an answer, and the only one.
+pub fn a_request_has_one_verdict()
+    ensures not_both { (r : LocalRequest) (local : LocalAnswer) (fault : Fault) → fault ≢ NoMemory → ComesTo r (Ok local) → ComesTo r (Err fault) → ⊥ }
+    ensures one_refusal { (r : LocalRequest) (fault other : Fault) → fault ≢ NoMemory → other ≢ NoMemory → ComesTo r (Err fault) → ComesTo r (Err other) → fault ≡ other }
+    ensures one_answer { (r : LocalRequest) (local other : LocalAnswer) → ComesTo r (Ok local) → ComesTo r (Ok other) → (local.text ≡ other.text) × (local.cost ≡ other.cost) }
+    ensures one_cost { (r : LocalRequest) (local : LocalAnswer) (p : Prepared r) (t : Tree) → ComesTo r (Ok local) → IsTheAnswer r p t → (local.cost.types ≡ cost_of_response r p t types) × (local.cost.fields ≡ cost_of_response r p t fields) }
+{}
+
+/// The text of why an operation isn't answered is one line: no line feed and no other control character stands in it.
+pub fn local_texts_are_one_line()
+    ensures { (fault : Fault) → is_one_line (local_text fault) ≡ true }
+{
+    refusal_texts_are_one_line();
+}

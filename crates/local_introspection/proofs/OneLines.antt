@@ -1,0 +1,48 @@
+-- The texts of refusals are one line: behind its first words each says what a refusal of another request says.
+use Rattle.std.proofs.Common.{◌≡◌, true, refl}
+use Rattle.gql_base.specs.printing.OneLine.{is_one_line}
+use Rattle.document_reader.specs.declared.document.DocFault.TheVariants as document
+use Rattle.document_rules.specs.declared.rule.RuleFault.{RuleFault}
+use Rattle.document_rules.specs.declared.rule.RuleFault.TheVariants as rule
+use Rattle.variable_coercion.specs.declared.faults.CoerceFault.{CoerceFault}
+use Rattle.variable_coercion.specs.declared.faults.CoerceFault.TheVariants as variable
+use Rattle.merged_selections.specs.declared.fault.PlanFault.{PlanFault}
+use Rattle.merged_selections.specs.declared.fault.PlanFault.TheVariants as plan
+use Rattle.acceptance.specs.declared.fault.Refusal.{Refusal}
+use Rattle.acceptance.specs.declared.fault.Refusal.TheVariants as refusal
+use Rattle.acceptance.specs.Texts.{refusal_text}
+use Rattle.local_introspection.specs.declared.fault.LocalFault.{LocalFault}
+use Rattle.local_introspection.specs.declared.fault.LocalFault.TheVariants.{Mixed, Rule, Variable, Plan, TooLarge, Memory}
+use Rattle.local_introspection.specs.LocalTexts.{local_rule_text, local_variable_text, local_plan_text, local_text}
+
+module _ (plain : (r : Refusal) → is_one_line (refusal_text r) ≡ true) where
+  rule_plain : (fault : RuleFault) → is_one_line (local_rule_text fault) ≡ true
+  unfolding is_one_line
+  rule_plain (rule.Broken name at) = plain (refusal.Rule (rule.Broken name at))
+  rule_plain rule.Memory = refl
+
+  variable_plain : (fault : CoerceFault) → is_one_line (local_variable_text fault) ≡ true
+  unfolding is_one_line
+  variable_plain (variable.Missing name) = plain (refusal.Variable (variable.Missing name))
+  variable_plain (variable.BadValue path) = plain (refusal.Variable (variable.BadValue path))
+  variable_plain (variable.TooLarge name) = plain (refusal.Variable (variable.TooLarge name))
+  variable_plain variable.Memory = refl
+
+  plan_plain : (fault : PlanFault) → is_one_line (local_plan_text fault) ≡ true
+  unfolding is_one_line
+  plan_plain (plan.Argument at fault) = plain (refusal.Plan (plan.Argument at fault))
+  plan_plain (plan.Conflict at) = plain (refusal.Plan (plan.Conflict at))
+  plan_plain (plan.Size at fault) = plain (refusal.Plan (plan.Size at fault))
+  plan_plain (plan.NoPossibleType at) = plain (refusal.Plan (plan.NoPossibleType at))
+  plan_plain plan.TooLarge = refl
+  plan_plain (plan.TooDeep at) = plain (refusal.Plan (plan.TooDeep at))
+  plan_plain plan.Memory = refl
+
+  pub local_plain : (fault : LocalFault) → is_one_line (local_text fault) ≡ true
+  unfolding is_one_line
+  local_plain (Mixed at) = plain (refusal.Document (document.Unexpected at))
+  local_plain (Rule fault) = rule_plain fault
+  local_plain (Variable fault) = variable_plain fault
+  local_plain (Plan fault) = plan_plain fault
+  local_plain TooLarge = refl
+  local_plain Memory = refl
