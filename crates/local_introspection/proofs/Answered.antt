@@ -1,8 +1,9 @@
 -- The whole answer.
 use Rattle.std.proofs.Common.{◌≡◌, ℕ, ◌*◌, ◌≤◌, List, ◌++◌, Ok, Err, ap, ◌∙◌, arith, codes}
-use Rattle.cost_num.specs.declared.TheConstants.{UNIT}
+use Rattle.cost_num.specs.declared.TheConstants.{UNIT, CAP}
 use Rattle.cost_num.specs.Capped.{capped}
 use Rattle.cost_num.specs.declared.Cost.{Cost}
+use Rattle.static_cost.specs.CostBound.{IsWithin}
 use Rattle.response_model.specs.Cost.{types, fields}
 use Rattle.response_model.specs.ResponseText.{tree_text}
 use Rattle.local_introspection.specs.declared.walk.Stop.{Stop}
@@ -31,3 +32,13 @@ is_answered f nodes still t0 t1 t2 c l w begins ends costs text =
 pub is_not_answered : (f : FactsData) (nodes : AskedNodes) (still : ℕ) (t0 t1 : List ℕ) (stop : Stop) → AddsTree 1000000 still t0 t1 (Err stop) (answer_tree f nodes) (answer_cost f nodes) → IsAnswer f nodes (Err stop)
 is_not_answered f nodes still t0 t1 TooLarge w = w
 is_not_answered f nodes still t0 t1 Memory w = tt
+
+few_within : (n count c : ℕ) → n ≤ UNIT * count → count ≤ 1000000 → c ≡ n → c ≤ CAP
+few_within n count c less few is = omega (arith, less, few, is)
+
+-- so few values cost less than the cap
+pub is_within : (f : FactsData) (nodes : AskedNodes) (l : Local) → IsAnswer f nodes (Ok l) → IsWithin l.cost
+is_within f nodes l (few, text, of_types, of_fields) = record {
+  of_types = few_within (answer_cost f nodes types) (values_in (answer_tree f nodes)) l.cost.types (answer_at_most f types nodes the_root) few of_types;
+  of_fields = few_within (answer_cost f nodes fields) (values_in (answer_tree f nodes)) l.cost.fields (answer_at_most f fields nodes the_root) few of_fields;
+}

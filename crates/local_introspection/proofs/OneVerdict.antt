@@ -17,7 +17,7 @@ use Rattle.variable_coercion.specs.declared.faults.ArgFault.{ArgFault}
 use Rattle.variable_coercion.specs.declared.faults.ArgFault.TheVariants.{Missing as MissingArgument, BadValue as BadArgument, TooLarge as LargeArgument, Memory as NoArgumentMemory}
 use Rattle.variable_coercion.specs.Refusals.{Refusal as Unvalued, missing, bad_value, too_large as too_large_value}
 use Rattle.variable_coercion.specs.Variables.{VariableData, values_by_name, variables_answer}
-use Rattle.variable_coercion.specs.Calls.{variable_told, argument_told}
+use Rattle.variable_coercion.specs.Calls.{variable_told}
 use Rattle.merged_selections.specs.declared.fault.PlanFault.{PlanFault}
 use Rattle.merged_selections.specs.declared.fault.PlanFault.TheVariants.{Argument, Conflict, Size, NoPossibleType, TooLarge, TooDeep, Memory as NoPlanMemory}
 use Rattle.merged_selections.specs.Faults.{path_text, IsFaultAt, IsTold}

@@ -3,6 +3,7 @@
 ghost use Rattle.std.specs.Prelude.{◌≡◌, IfOk, IfErr};
 ghost use Rattle.serde_json.specs.View.{view};
 ghost use Rattle.schema_model.specs.SchemaViews.{schema_data};
+ghost use Rattle.static_cost.specs.CostBound.{IsWithin};
 ghost use Rattle.document_rules.specs.Checking.{IsChecked};
 ghost use Rattle.variable_coercion.specs.Calls.{variables_data};
 ghost use Rattle.operation_class.specs.declared.classes.Class.TheVariants.{Local as LocalClass};
@@ -156,7 +157,8 @@ fn written(
     requires values { AreValues (ask_data of.now) checked.now.operation.now (variables_data variables.now) }
     requires planned { IsPlannedOver of.now.facts.now checked.now variables.now }
     requires asked { AreAsked of.now.facts.now checked.now variables.now nodes.now }
-    ensures { ComesTo (ask_data of.now) result }
+    ensures comes_to { ComesTo (ask_data of.now) result }
+    ensures within { IfOk result (λ local. IsWithin local.cost) }
 {
     what_arguments_see();
     responses_to_what_is_asked();
@@ -182,7 +184,8 @@ pub fn answer(
 ) -> Result<Local, LocalFault>
     requires made { IsMade facts.now }
     requires local { class_at document.now.definitions.items place ≡ LocalClass }
-    ensures { ComesTo (local_request facts.now document.now.definitions.items place (view given.now)) result }
+    ensures comes_to { ComesTo (local_request facts.now document.now.definitions.items place (view given.now)) result }
+    ensures within { IfOk result (λ local. IsWithin local.cost) }
 {
     let of = Asking {
         facts,
