@@ -39,12 +39,12 @@ ROWS = [
 def run(program, schema, document, variables="{}", makes=1, times=1):
     with tempfile.TemporaryDirectory() as folder:
         names = []
-        for name, text in (("schema", schema), ("document", document), ("variables", variables)):
+        for name, text in (("schema", schema), ("variables", variables), ("document", document)):
             names.append(os.path.join(folder, name))
             with open(names[-1], "w") as file:
                 file.write(text)
         before = resource.getrusage(resource.RUSAGE_CHILDREN).ru_utime
-        ran = subprocess.run([program, *names, str(makes), str(times)], capture_output=True, text=True)
+        ran = subprocess.run([program, *names[:2], str(makes), str(times), names[2]], capture_output=True, text=True)
         seconds = resource.getrusage(resource.RUSAGE_CHILDREN).ru_utime - before
         return (ran.stdout.splitlines() or [ran.stderr.strip()]), seconds
 
