@@ -13,7 +13,7 @@ import sys
 
 TOP = os.path.dirname(os.path.dirname(os.path.abspath(__file__)))
 RELEASED = f"{TOP}/release/tellcrock"
-OPTIONS = ["variables", "operation", "unsized", "listen", "upstream", "target", "workers", "connections", "help", "limit"]
+OPTIONS = ["variables", "operation", "unsized", "listen", "upstream", "target", "workers", "connections", "endless", "idle", "stop", "help", "limit"]
 NUMBERS = ["0", "1", "00010", "16", "17", "5000", "5001", "1000000", "1000001", "99999999999999999999", "+4", "-1", "1.0", "", "ten"]
 FILES = ["books.graphql", "titles.graphql", "search.json", "reply.json", "day.clients", "minute.script", "not_there", "-", ""]
 # What an option takes, so that most lists are nearly right.
@@ -26,6 +26,8 @@ VALUES = {
     "target": ["/", "/graphql", ""],
     "workers": NUMBERS,
     "connections": NUMBERS,
+    "idle": NUMBERS,
+    "stop": ["not_there", ""],
 }
 # The usual arguments of each command.
 USUAL = {
@@ -43,7 +45,7 @@ USUAL = {
 OWN = {
     **dict.fromkeys(["price", "worst", "forward", "meter"], ["variables", "operation", "unsized"]),
     "replay": ["unsized"],
-    "serve": ["target", "workers", "connections", "unsized"],
+    "serve": ["target", "workers", "connections", "endless", "idle", "stop", "unsized"],
 }
 
 

@@ -8,7 +8,7 @@ mod Floatless
 mod SentFloats
 mod SentBodies
 pub mod AlikeDocuments
-mod AlikeOperations
+pub mod AlikeOperations
 mod AlikeRequests
 mod AlikeBodies
 mod HasVerdict

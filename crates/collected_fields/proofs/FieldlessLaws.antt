@@ -9,8 +9,8 @@ use Rattle.collected_fields.specs.declared.marks.Marks.{Marks}
 use Rattle.collected_fields.specs.declared.steps.Step.{Step}
 use Rattle.collected_fields.specs.declared.tables.Tables.{Tables}
 use Rattle.collected_fields.specs.Steps.{StepData, field_step, spread_step, inline_step, step_data}
-use Rattle.collected_fields.specs.Prepared.{ListData, EntryData, list_data, entry_data}
-use Rattle.collected_fields.specs.Fieldless.{steps_in, marked_for, MarksMore, is_fieldless, are_fieldless, AreFieldless, KnowsFieldless, list_fieldless}
+use Rattle.collected_fields.specs.Prepared.{EntryData, list_data, entry_data}
+use Rattle.collected_fields.specs.Fieldless.{steps_in, marked_for, MarksMore, is_fieldless, are_fieldless, KnowsFieldless, list_fieldless}
 use Rattle.collected_fields.proofs.WalkSteps.{behind}
 
 where_more : (b n m : Bool) → (n ≡ true → m ≡ true) → (if b then n else true) ≡ true → (if b then m else true) ≡ true

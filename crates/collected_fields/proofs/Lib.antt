@@ -1,4 +1,3 @@
-pub mod Truths
 pub mod Fields
 pub mod StepLaws
 pub mod PrepareLaws

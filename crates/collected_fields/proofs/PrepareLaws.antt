@@ -1,7 +1,6 @@
 -- Selection sets that are made ready, one after another.
-use Rattle.std.proofs.Common.{◌≡◌, ⊎_elim, ℕ, zero, suc, ◌+◌, ◌<◌, ◌≤◌, List, [], ◌∷◌, ◌++◌, map, take, slice_get, get_or, length, Bool, true, false, not, bytes_eq, Result, Ok, Err, OnOk, Option, Some, None, refl, sym, ap, ◌∙◌, subst, append_assoc, append-nil}
+use Rattle.std.proofs.Common.{◌≡◌, ⊎_elim, ℕ, zero, suc, ◌+◌, ◌<◌, ◌≤◌, List, [], ◌∷◌, ◌++◌, map, take, slice_get, get_or, length, true, false, bytes_eq, Result, Ok, Err, OnOk, Option, Some, None, refl, sym, ap, ◌∙◌, subst, append_assoc, append-nil}
 use Rattle.std.specs.Map.{update}
-use Rattle.std.specs.List.{list_any}
 use Rattle.std.specs.Borrow.{Bor}
 use Rattle.std.specs.BTreeMap.{BTreeMap}
 use Rattle.std.proofs.lemmas.Bool.{cases_Bool}
@@ -9,7 +8,6 @@ use Rattle.std.proofs.lemmas.List.{map_push, take_more, take_all}
 use Rattle.std.proofs.lemmas.Option.{same_Some, none-some}
 use Rattle.std.proofs.lemmas.Slice.Eq.{bytes_eq-Decides}
 use Rattle.gql_base.specs.declared.parts.trees.Argument.{Argument}
-use Rattle.gql_base.specs.declared.parts.trees.Directive.{Directive}
 use Rattle.gql_base.specs.ways.Reading.{Identifier}
 use Rattle.gql_base.specs.parts.Arguments.{DirectiveTree}
 use Rattle.gql_base.specs.parts.Trees.{named_value, directive_tree}
@@ -17,17 +15,16 @@ use Rattle.gql_base.specs.names.Names.{place_of_name}
 use Rattle.gql_base.specs.names.Indexes.{at_name}
 use Rattle.document_reader.specs.declared.trees.Field.{Field}
 use Rattle.document_reader.specs.declared.trees.Selection.{Selection}
-use Rattle.document_reader.specs.Documents.{SelectionTree, SelectionTrees, fragment_spread, inline_fragment}
+use Rattle.document_reader.specs.Documents.{SelectionTree, fragment_spread, inline_fragment}
 use Rattle.document_reader.specs.DocumentReading.{selections_from}
 use Rattle.document_reader.specs.Trees.{names_of, field_tree, selection_tree, set_tree}
 use Rattle.document_reader.proofs.PrintingSteps.{open_field}
-use Rattle.input_values.specs.coercion.Literals.{Environment}
 use Rattle.schema_model.specs.SchemaData.{SchemaData, type_named}
 use Rattle.document_rules.specs.Parts.{FragmentData, fragment_name}
 use Rattle.document_rules.specs.Sites.{name_of_field, below_inline}
 use Rattle.document_rules.proofs.SiteSteps.{name_of_names}
 use Rattle.plan_model.specs.SelectedFields.{Setting, written_below}
-use Rattle.plan_model.specs.Collecting.{CollectedField, WrittenSelections, written_in, is_included, leaves_out}
+use Rattle.plan_model.specs.Collecting.{CollectedField, WrittenSelections, written_in, is_included}
 use Rattle.plan_model.specs.Merging.{selections_below}
 use Rattle.collected_fields.specs.Views.{written_field}
 use Rattle.collected_fields.specs.Steps.{StepData, field_step, spread_step, inline_step, IsClosed, Stands, IsLeaf, KnowsLeaves, StandsFor}
@@ -138,22 +135,6 @@ list_added e parent ts steps old mid new number p grown is =
     }
 
 -- ---- what is added for one selection
-
--- what is told of the directives of a selection
-abbrev pub TellsIncluded : Environment → List Directive → Bool → Type 0
-TellsIncluded values directives b = b ≡ not (list_any (leaves_out values) (map directive_tree directives))
-
-pub field_told : (values : Environment) (f : Field) (given : List Directive) (b : Bool) → TellsIncluded values given b → given ≡ f.directives.items → is_included values (field_tree f) ≡ b
-unfolding is_included
-field_told values f given b told same = ap (is_included values) (open_field f) ∙ (ap (λ ds. not (list_any (leaves_out values) (map directive_tree ds))) (sym same) ∙ sym told)
-
-pub spread_told : (values : Environment) (name : Identifier) (directives given : List Directive) (b : Bool) → TellsIncluded values given b → given ≡ directives → is_included values (fragment_spread name (map directive_tree directives)) ≡ b
-unfolding is_included
-spread_told values name directives given b told same = ap (λ ds. not (list_any (leaves_out values) (map directive_tree ds))) (sym same) ∙ sym told
-
-pub inline_told : (values : Environment) (on : Option Identifier) (directives given : List Directive) (below : SelectionTrees) (b : Bool) → TellsIncluded values given b → given ≡ directives → is_included values (inline_fragment on (map directive_tree directives) below) ≡ b
-unfolding is_included
-inline_told values on directives given below b told same = ap (λ ds. not (list_any (leaves_out values) (map directive_tree ds))) (sym same) ∙ sym told
 
 pub on_ok_both : {A E : Type 0} (r : Result A E) {P Q R : Type 0} → (P → Q → R) → OnOk r P → OnOk r Q → OnOk r R
 on_ok_both (Ok x) f p q = f p q

@@ -6,7 +6,7 @@ use Rattle.gql_base.proofs.Lists.{at_front}
 use Rattle.schema_model.specs.SchemaData.{SchemaData}
 use Rattle.collected_fields.specs.declared.steps.Step.{Step}
 use Rattle.collected_fields.specs.Steps.{StepData, step_data}
-use Rattle.collected_fields.specs.Prepared.{ListData, EntryData}
+use Rattle.collected_fields.specs.Prepared.{EntryData}
 use Rattle.collected_fields.specs.Walks.{WalkData, is_marked, marked, walk_steps, walk_entry, walk_fragment}
 
 -- the steps behind a place

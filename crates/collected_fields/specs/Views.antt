@@ -1,24 +1,19 @@
 -- What an operation is planned by, and what is collected, as definitions see them.
 use Rattle.std.specs.Prelude.{ℕ, List, map, option_map, Option}
-use Rattle.std.specs.Borrow.{Bor}
 use Rattle.gql_base.specs.parts.Trees.{named_value}
-use Rattle.document_reader.specs.declared.trees.Fragment.{Fragment}
 use Rattle.document_reader.specs.declared.trees.Field.{Field}
 use Rattle.document_reader.specs.Trees.{names_of, set_tree}
 use Rattle.schema_model.specs.Numbers.{type_number}
 use Rattle.schema_model.specs.SchemaViews.{schema_data}
 use Rattle.cost_directives.specs.WeightViews.{weights_data}
 use Rattle.variable_coercion.specs.Calls.{environment}
-use Rattle.document_rules.specs.Parts.{FragmentData, fragment_data}
 use Rattle.document_rules.specs.Sites.{name_of_field}
 use Rattle.plan_model.specs.SelectedFields.{Setting}
 use Rattle.plan_model.specs.Collecting.{CollectedField}
+pub use Rattle.distinct_selections.specs.Adding.{fragment_seen}
 use Rattle.collected_fields.specs.declared.planning.Planning.{Planning}
 use Rattle.collected_fields.specs.declared.collected.Collected.{Collected}
 use Rattle.collected_fields.specs.declared.collected.Group.{Group}
-
-abbrev pub fragment_seen : Bor Fragment → FragmentData
-fragment_seen f = fragment_data f.now
 
 -- the setting of plans
 abbrev pub setting_of_planning : Planning → Setting

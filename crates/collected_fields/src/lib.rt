@@ -5,7 +5,6 @@ mod collected;
 mod collector;
 mod fieldless;
 mod group;
-mod included;
 mod lookups;
 mod marks;
 mod planning;

@@ -10,12 +10,12 @@ ghost use Rattle.collected_fields.specs.Steps.{step_data};
 ghost use Rattle.collected_fields.specs.Drafts.{source_setting, AddsTo, AddsInlineTo, Knows};
 ghost use Rattle.collected_fields.specs.Prepared.{list_data, entry_data, Prepares, Grows, AreSound, Lists, IsListed, AreEntries, EntersFragment, steps_of_spread, steps_where, reached_fragment};
 
-use crate::included::is_included;
 use crate::lookups::below_field;
 use crate::planning::Planning;
 use crate::source::{Reached, Source};
 use crate::steps::{Draft, Step};
 use crate::tables::{Entry, SelectionList, Tables};
+use distinct_selections::is_included;
 use document_reader::{Field, Fragment, Selection};
 use document_rules::lookups::{below_inline, composite_named};
 use gql_base::{Name, index_owned};

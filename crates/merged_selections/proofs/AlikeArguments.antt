@@ -1,44 +1,21 @@
 -- Fields that are given the same have the same arguments.
-use Rattle.std.proofs.Common.{◌≡◌, ℕ, List, [], ◌∷◌, map, bytes_eq, find, true, false, not, Option, Some, None, Result, Ok, refl, sym, ap, ◌∙◌, subst, ⊎_elim}
-use Rattle.std.specs.Prelude.{option_map}
-use Rattle.std.proofs.lemmas.Bool.{cases_Bool}
+use Rattle.std.proofs.Common.{◌≡◌, ℕ, List, map, false, not, Option, Some, None, Result, Ok, sym, ap, ◌∙◌, subst}
 use Rattle.gql_base.specs.declared.parts.trees.Argument.{Argument}
-use Rattle.gql_base.specs.parts.Values.{NamedValue}
 use Rattle.gql_base.specs.parts.Trees.{named_value}
-use Rattle.input_values.specs.coercion.Given.{Given}
-use Rattle.input_values.specs.coercion.Literals.{Environment}
-use Rattle.schema_model.specs.SchemaData.{SchemaData, field_at}
-use Rattle.schema_model.specs.InputForms.{input_forms}
 use Rattle.schema_model.specs.declared.args.Args.{Args}
 use Rattle.schema_model.specs.Arguments.{ArgData, args_data}
 use Rattle.variable_coercion.specs.declared.faults.ArgFault.{ArgFault}
-use Rattle.variable_coercion.specs.Refusals.{Refusal, and_then, all_in_order}
-use Rattle.variable_coercion.specs.Arguments.{argument_answer, arguments_answer}
+use Rattle.variable_coercion.specs.Arguments.{arguments_answer}
 use Rattle.variable_coercion.specs.Calls.{AnswersRefusal, argument_told}
-use Rattle.plan_model.specs.SelectedFields.{Setting, given_under, coerced_arguments, refusal_of, if_coerced}
+use Rattle.plan_model.specs.SelectedFields.{Setting, coerced_arguments, refusal_of, if_coerced}
 use Rattle.plan_model.specs.Collecting.{CollectedField}
 use Rattle.plan_model.specs.SameArguments.{same_arguments}
-use Rattle.plan_model.proofs.GivenArguments.{same_in_order, same_arguments_written}
-use Rattle.merged_selections.specs.Alike.{given_argument, AreGivenAlike}
+use Rattle.plan_model.proofs.GivenArguments.{coerced_alike, same_arguments_written}
+use Rattle.plan_model.specs.GivenAlike.{AreGivenAlike}
 use Rattle.collected_fields.specs.Views.{collected_field}
 use Rattle.merged_selections.specs.declared.call.Call.{Call}
 use Rattle.merged_selections.specs.NodeTests.{coerced_of, refused_in, differs_from, IsCall, IsKept, IsAlike, Calls}
 use Rattle.merged_selections.proofs.NodeFaults.{same_themselves}
-
-abbrev value_under : List (List ℕ × Given) → List ℕ → Option Given
-value_under given name = option_map (λ g. g.1) (find (λ g. bytes_eq g.0 name) given)
-
-under_given : (values : Environment) (name : List ℕ) (written : List NamedValue) → given_under values written name ≡ value_under (map (given_argument values) written) name
-under_given values name [] = refl
-under_given values name (a ∷ written) = ⊎_elim
-    (λ (is : bytes_eq a.0.0 name ≡ true). rw (is) refl)
-    (λ (is : bytes_eq a.0.0 name ≡ false). rw (is) (under_given values name written))
-    (cases_Bool (bytes_eq a.0.0 name))
-
-pub coerced_alike : (s : SchemaData) (field : ℕ) (values : Environment) (written other : List NamedValue) → AreGivenAlike written other → coerced_arguments s field written values ≡ coerced_arguments s field other values
-unfolding coerced_arguments
-coerced_alike s field values written other alike = same_in_order (λ i. argument_answer (input_forms s) i (given_under values written i.name)) (λ i. argument_answer (input_forms s) i (given_under values other i.name)) (field_at s field).arguments
-    (λ i. ap (λ o. argument_answer (input_forms s) i o) (under_given values i.name written ∙ (ap (λ g. value_under g i.name) (alike values) ∙ sym (under_given values i.name other))))
 
 pub alike_is_same : (e : Setting) (field : ℕ) (f g : CollectedField) (args : List ArgData) → AreGivenAlike f.call.arguments g.call.arguments → coerced_of e field f ≡ Ok args → (refused_in e field g ≡ None) × (false ≡ differs_from e field args g)
 alike_is_same e field f g args alike is =

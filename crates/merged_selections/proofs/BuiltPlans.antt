@@ -1,6 +1,8 @@
 -- The plan of an operation, from what is built at its root.
 use Rattle.std.proofs.Common.{◌≡◌, ℕ, suc, List, [], ◌∷◌, ◌++◌, map, Option, Some, None, Result, Ok, Err, Bor, refl, sym, ap, ◌∙◌, subst}
 use Rattle.document_reader.specs.declared.trees.Fragment.{Fragment}
+use Rattle.document_reader.specs.declared.trees.Selection.{Selection}
+use Rattle.document_reader.specs.Documents.{SelectionTrees}
 use Rattle.document_reader.specs.Trees.{set_tree}
 use Rattle.schema_model.specs.declared.schema.Schema.{Schema}
 use Rattle.schema_model.specs.SchemaViews.{schema_data}
@@ -11,28 +13,28 @@ use Rattle.cost_directives.specs.WeightViews.{weights_data}
 use Rattle.variable_coercion.specs.declared.variables.Variables.{Variables}
 use Rattle.variable_coercion.specs.Calls.{environment}
 use Rattle.document_rules.specs.declared.checking.Checked.{Checked}
-use Rattle.document_rules.specs.Parts.{FragmentData, fragment_data, fragments_of}
-use Rattle.document_rules.specs.Met.{fragments_met}
-use Rattle.document_rules.specs.Checking.{IsChecked, reached_by}
+use Rattle.document_rules.specs.Parts.{FragmentData, fragment_data}
+use Rattle.document_rules.specs.Checking.{IsChecked}
 use Rattle.plan_model.specs.SelectedFields.{Setting, object_place}
 use Rattle.plan_model.specs.Collecting.{WrittenSelections}
 use Rattle.plan_model.specs.Merging.{Position}
 use Rattle.plan_model.specs.MergingWalk.{IsAcyclic}
 use Rattle.plan_model.specs.Plans.{type_weight}
-use Rattle.plan_model.specs.Visits.{planned, visits, node_limit, level_limit, planned_well}
-use Rattle.plan_model.specs.Operations.{root_position}
+use Rattle.plan_model.specs.Visits.{planned, visits, node_limit, level_limit, PlanAnswer, planned_well, answer_of}
+use Rattle.plan_model.specs.Operations.{root_place}
+use Rattle.plan_model.specs.Shortening.{AreShortened, AreShortenedFragments, with_fragments, position_on, IsShorter}
+use Rattle.plan_model.proofs.ShortenedSets.{same_visits_shortened, same_plan_shortened, shorter_is_acyclic}
 use Rattle.plan_model.proofs.CheckedRanks.{checked_is_acyclic}
 use Rattle.plan_table.specs.declared.table.Plan.{Plan}
 use Rattle.plan_table.specs.Tables.{setting_without_values, setting_in, table_rows, HasRows}
-use Rattle.collected_fields.specs.declared.planning.Planning.{Planning}
-use Rattle.collected_fields.specs.Views.{setting_of_planning, fragment_seen}
-use Rattle.collected_fields.specs.Gathering.{IsReady, planning_of, written_at}
+use Rattle.collected_fields.specs.Views.{fragment_seen}
+use Rattle.collected_fields.specs.Gathering.{IsReady, written_at}
 use Rattle.merged_selections.specs.declared.stop.Stop.{Stop}
 use Rattle.merged_selections.specs.declared.fault.PlanFault.{PlanFault}
 use Rattle.merged_selections.specs.declared.building.Building.{Building}
 use Rattle.merged_selections.specs.declared.call.Call.{Call}
-use Rattle.merged_selections.specs.Faults.{IsTold}
-use Rattle.merged_selections.specs.Building.{setting_for, answer_for, IsPlanned}
+use Rattle.merged_selections.specs.Faults.{IsTold, AnswersPlan}
+use Rattle.merged_selections.specs.Building.{setting_for, answer_for, IsPlanned, setting_beside, answer_on, planned_on, AnswersSelections}
 use Rattle.merged_selections.specs.Outcomes.{Outcome, has_left, outcome, answer_from, IsStop}
 use Rattle.merged_selections.specs.NodeTests.{IsKept}
 use Rattle.merged_selections.specs.Stages.{types_rows, Frame, frame, setting_built, position_built, CanBuild, BuildsRows, BuildsTypes}
@@ -46,73 +48,94 @@ has_rows : (e : Setting) (l root : ℕ) (p : Position) (plan : Plan) → plan.ro
 unfolding planned
 has_rows e l root p plan is weighs rows = ((sym is, weighs), rows)
 
-module _ (schema : Schema) (weights : Weights) (checked : Checked) (variables : Variables) (kept : IsChecked (schema_data schema) checked) (planning : Planning) (building new : Building) (list : ℕ)
-    (is_planning : planning_of building.collector ≡ planning) (of_schema : planning.schema.now ≡ schema) (of_weights : planning.weights.now ≡ weights) (of_variables : planning.variables.now ≡ variables) (of_fragments : planning.fragments.now ≡ checked.fragments.items) where
-  abbrev e : Setting
-  e = setting_for schema weights checked variables
+module _ (e : Setting) (root : ℕ) (selections : SelectionTrees) (building new : Building) (list : ℕ) (setting_there : setting_built building ≡ e) (acyclic : IsAcyclic e (position_on root selections))
+    (ready : IsReady building.collector) (written : written_at building.collector list ≡ (Some root, selections)) (tied : setting_in building.plan ≡ setting_without_values e.schema e.weights)
+    (plan_root : building.plan.root.number ≡ root) (no_rows : table_rows building.plan ≡ []) (left : building.left ≡ node_limit) (no_call : building.last ≡ None) (same : frame new ≡ frame building) where
+  position_there : position_built building (list ∷ []) None ≡ position_on root selections
+  position_there = ap (λ (w : WrittenSelections). record { selections = w ∷ []; handed = None }) written
 
-  abbrev root : ℕ
-  root = checked.root.number
+  can_begin : CanBuild building
+  can_begin = record { collector = ready; plan = tied ∙ ap (λ (x : Setting). setting_without_values x.schema x.weights) (sym setting_there); last = subst (λ (call : Option Call). IsKept (setting_built building) call) (sym no_call) tt }
 
-  fragments_there : map fragment_seen planning.fragments.now ≡ map fragment_data (fragments_met (fragments_of checked.document.now.definitions.items) (reached_by checked.document.now.definitions.items checked.operation.now))
-  fragments_there = ap (map fragment_seen) of_fragments ∙ (seen_fragments checked.fragments.items ∙ ap (map fragment_data) kept.of.fragments)
+  acyclic_there : IsAcyclic (setting_built building) (position_built building (list ∷ []) None)
+  acyclic_there = subst (λ (x : Setting). IsAcyclic x (position_built building (list ∷ []) None)) (sym setting_there) (subst (λ (p : Position). IsAcyclic e p) (sym position_there) acyclic)
 
-  setting_there : setting_built building ≡ e
-  setting_there =
-      ap setting_of_planning is_planning
-      ∙ (ap (λ (s : Schema). record { schema = schema_data s; weights = weights_data planning.weights.now; values = environment planning.variables.now; fragments = map fragment_seen planning.fragments.now }) of_schema
-      ∙ (ap (λ (w : Weights). record { schema = schema_data schema; weights = weights_data w; values = environment planning.variables.now; fragments = map fragment_seen planning.fragments.now }) of_weights
-      ∙ (ap (λ (v : Variables). record { schema = schema_data schema; weights = weights_data weights; values = environment v; fragments = map fragment_seen planning.fragments.now }) of_variables
-      ∙ ap (λ (fs : List FragmentData). record { schema = schema_data schema; weights = weights_data weights; values = environment variables; fragments = fs }) fragments_there)))
+  abbrev Built : Result (Unit {0}) Stop → Type 0
+  Built result = BuildsRows result building new (visits e level_limit (root ∷ []) (position_on root selections)) (types_rows e level_limit 1 (position_on root selections) (root ∷ []))
 
-  module _ (ready : IsReady building.collector) (written : written_at building.collector list ≡ (Some root, set_tree checked.operation.now.selections.items)) (plan_schema : building.plan.schema.now ≡ schema) (plan_weights : building.plan.weights.now ≡ weights)
-      (plan_root : building.plan.root.number ≡ root) (no_rows : table_rows building.plan ≡ []) (left : building.left ≡ node_limit) (no_call : building.last ≡ None) (same : frame new ≡ frame building) where
-    position_there : position_built building (list ∷ []) None ≡ root_position root checked.operation.now
-    position_there = ap (λ (w : WrittenSelections). record { selections = w ∷ []; handed = None }) written
+  built : (result : Result (Unit {0}) Stop) (types : List TypeId) (lists : List ℕ) → map type_number types ≡ root ∷ [] → lists ≡ list ∷ [] → BuildsTypes building 1 result new types lists None → Built result
+  built result types lists is_root is_list h =
+      subst (λ (x : Setting). BuildsRows result building new (visits x level_limit (root ∷ []) (position_on root selections)) (types_rows x level_limit 1 (position_on root selections) (root ∷ []))) setting_there
+      (subst (λ (p : Position). BuildsRows result building new (visits (setting_built building) level_limit (root ∷ []) p) (types_rows (setting_built building) level_limit 1 p (root ∷ []))) position_there
+      (subst (λ (Ts : List ℕ). BuildsRows result building new (visits (setting_built building) level_limit Ts (position_built building (list ∷ []) None)) (types_rows (setting_built building) level_limit 1 (position_built building (list ∷ []) None) Ts)) is_root
+      (subst (λ (ls : List ℕ). BuildsTypes building 1 result new types ls None) is_list h (can_begin, acyclic_there))))
 
-    tied : setting_in building.plan ≡ setting_without_values e.schema e.weights
-    tied = ap (λ s. setting_without_values (schema_data s) (weights_data building.plan.weights.now)) plan_schema ∙ ap (λ w. setting_without_values (schema_data schema) (weights_data w)) plan_weights
+  abbrev nodes_there : ℕ → Outcome
+  nodes_there n = outcome n (visits e level_limit (root ∷ []) (position_on root selections))
 
-    can_begin : CanBuild building
-    can_begin = record { collector = ready; plan = tied ∙ ap (λ (x : Setting). setting_without_values x.schema x.weights) (sym setting_there); last = subst (λ (call : Option Call). IsKept (setting_built building) call) (sym no_call) tt }
+  answer_there : (o : Outcome) → nodes_there building.left ≡ o → answer_on e root selections ≡ answer_from o
+  answer_there o is = answer_of_outcome node_limit (visits e level_limit (root ∷ []) (position_on root selections)) ∙ ap answer_from (ap nodes_there (sym left) ∙ is)
 
-    acyclic : IsAcyclic (setting_built building) (position_built building (list ∷ []) None)
-    acyclic = subst (λ (x : Setting). IsAcyclic x (position_built building (list ∷ []) None)) (sym setting_there)
-        (subst (λ (p : Position). IsAcyclic e p) (sym position_there) (checked_is_acyclic (schema_data schema) (weights_data weights) (environment variables) checked.document.now.definitions.items checked.operation.now root kept.kept))
+  same_setting : setting_in new.plan ≡ setting_in building.plan
+  same_setting = ap (λ (f : Frame). f.2) same
 
-    abbrev Built : Result (Unit {0}) Stop → Type 0
-    Built result = BuildsRows result building new (visits e level_limit (root ∷ []) (root_position root checked.operation.now)) (types_rows e level_limit 1 (root_position root checked.operation.now) (root ∷ []))
+  same_root : new.plan.root.number ≡ root
+  same_root = ap (λ (f : Frame). f.3) same ∙ plan_root
 
-    built : (result : Result (Unit {0}) Stop) (types : List TypeId) (lists : List ℕ) → map type_number types ≡ root ∷ [] → lists ≡ list ∷ [] → BuildsTypes building 1 result new types lists None → Built result
-    built result types lists is_root is_list h =
-        subst (λ (x : Setting). BuildsRows result building new (visits x level_limit (root ∷ []) (root_position root checked.operation.now)) (types_rows x level_limit 1 (root_position root checked.operation.now) (root ∷ []))) setting_there
-        (subst (λ (p : Position). BuildsRows result building new (visits (setting_built building) level_limit (root ∷ []) p) (types_rows (setting_built building) level_limit 1 p (root ∷ []))) position_there
-        (subst (λ (Ts : List ℕ). BuildsRows result building new (visits (setting_built building) level_limit Ts (position_built building (list ∷ []) None)) (types_rows (setting_built building) level_limit 1 (position_built building (list ∷ []) None) Ts)) is_root
-        (subst (λ (ls : List ℕ). BuildsTypes building 1 result new types ls None) is_list h (can_begin, acyclic))))
+  pub is_answered : (types : List TypeId) (lists : List ℕ) (done : Unit {0}) → map type_number types ≡ root ∷ [] → lists ≡ list ∷ [] → BuildsTypes building 1 (Ok done) new types lists None
+      → (answer_on e root selections ≡ planned_well) × HasRows new.plan (planned_on e root selections)
+  is_answered types lists done is_root is_list h =
+      let b = built (Ok done) types lists is_root is_list h in (
+        answer_there (has_left new.left) b.0,
+        has_rows e 49 root (position_on root selections) new.plan same_root
+            (ap (λ (x : Setting). type_weight x root) (sym (same_setting ∙ tied)) ∙ ap (λ n. type_weight (setting_in new.plan) n) (sym same_root))
+            (b.1 ∙ ap (λ rows. rows ++ types_rows e level_limit 1 (position_on root selections) (root ∷ [])) no_rows),
+      )
 
-    abbrev nodes_there : ℕ → Outcome
-    nodes_there n = outcome n (visits e level_limit (root ∷ []) (root_position root checked.operation.now))
+  pub is_told : (types : List TypeId) (lists : List ℕ) (stop : Stop) (fault : PlanFault) → map type_number types ≡ root ∷ [] → lists ≡ list ∷ [] → BuildsTypes building 1 (Err stop) new types lists None
+      → ((o : Outcome) → IsStop stop o → IsTold (answer_from o) fault) → IsTold (answer_on e root selections) fault
+  is_told types lists stop fault is_root is_list h tells =
+      subst (λ a. IsTold a fault) (sym (answer_there (nodes_there building.left) refl)) (tells (nodes_there building.left) (built (Err stop) types lists is_root is_list h))
 
-    answer_there : (o : Outcome) → nodes_there building.left ≡ o → answer_for schema weights checked variables ≡ answer_from o
-    answer_there o is = answer_of_outcome node_limit (visits e level_limit (root ∷ []) (root_position root checked.operation.now)) ∙ ap answer_from (ap nodes_there (sym left) ∙ is)
+-- ---- what is built of the shortened selections
 
-    same_setting : setting_in new.plan ≡ setting_in building.plan
-    same_setting = ap (λ (f : Frame). f.2) same
+answers_same : {X : Type 0} (P Q : X → Type 0) (result : Result X PlanFault) (a b : PlanAnswer) → ((x : X) → P x → Q x) → a ≡ b → AnswersPlan P result a → AnswersPlan Q result b
+answers_same P Q (Ok x) a b through same h = (sym same ∙ h.0, through x h.1)
+answers_same P Q (Err fault) a b through same h = subst (λ answer. IsTold answer fault) same h
 
-    same_root : new.plan.root.number ≡ root
-    same_root = ap (λ (f : Frame). f.3) same ∙ plan_root
+module _ (schema : Schema) (weights : Weights) (checked : Checked) (variables : Variables) (keeps : IsChecked (schema_data schema) checked) where
+  abbrev whole : Setting
+  whole = setting_for schema weights checked variables
 
-    pub is_answered : (types : List TypeId) (lists : List ℕ) (done : Unit {0}) → map type_number types ≡ root ∷ [] → lists ≡ list ∷ [] → BuildsTypes building 1 (Ok done) new types lists None
-        → (answer_for schema weights checked variables ≡ planned_well) × IsPlanned schema weights checked variables new.plan
-    is_answered types lists done is_root is_list h =
-        let b = built (Ok done) types lists is_root is_list h in (
-          answer_there (has_left new.left) b.0,
-          has_rows e 49 root (root_position root checked.operation.now) new.plan same_root
-              (ap (λ (x : Setting). type_weight x root) (sym (same_setting ∙ tied)) ∙ ap (λ n. type_weight (setting_in new.plan) n) (sym same_root))
-              (b.1 ∙ ap (λ rows. rows ++ types_rows e level_limit 1 (root_position root checked.operation.now) (root ∷ [])) no_rows),
-        )
+  fragments_there : map fragment_seen checked.fragments.items ≡ whole.fragments
+  fragments_there = seen_fragments checked.fragments.items ∙ ap (map fragment_data) keeps.of.fragments
 
-    pub is_told : (types : List TypeId) (lists : List ℕ) (stop : Stop) (fault : PlanFault) → map type_number types ≡ root ∷ [] → lists ≡ list ∷ [] → BuildsTypes building 1 (Err stop) new types lists None
-        → ((o : Outcome) → IsStop stop o → IsTold (answer_from o) fault) → IsTold (answer_for schema weights checked variables) fault
-    is_told types lists stop fault is_root is_list h tells =
-        subst (λ a. IsTold a fault) (sym (answer_there (nodes_there building.left) refl)) (tells (nodes_there building.left) (built (Err stop) types lists is_root is_list h))
+  acyclic_itself : IsAcyclic whole (position_on checked.root.number (set_tree checked.operation.now.selections.items))
+  acyclic_itself = checked_is_acyclic (schema_data schema) (weights_data weights) (environment variables) checked.document.now.definitions.items checked.operation.now checked.root.number keeps.kept
+
+  -- of the selections as they are
+  pub own_answers : (given : List (Bor Fragment)) (selections : List Selection) (root : ℕ) (result : Result Plan PlanFault) → given ≡ checked.fragments.items → selections ≡ checked.operation.now.selections.items → root ≡ checked.root.number
+      → AnswersSelections (setting_beside schema weights variables (map fragment_seen given)) root (set_tree selections) result → AnswersPlan (IsPlanned schema weights checked variables) result (answer_for schema weights checked variables)
+  own_answers given selections root result same_fragments same_selections same_root answers =
+      subst (λ (n : ℕ). AnswersSelections whole n (set_tree checked.operation.now.selections.items) result) same_root
+      (subst (λ (xs : List Selection). AnswersSelections whole root (set_tree xs) result) same_selections
+      (subst (λ (fs : List FragmentData). AnswersSelections (setting_beside schema weights variables fs) root (set_tree selections) result) (ap (map fragment_seen) same_fragments ∙ fragments_there) answers)) acyclic_itself
+
+  pub shorter_answers : (given : List (Bor Fragment)) (seen fragments : List FragmentData) (selections lent kept : List Selection) (root : ℕ) (result : Result Plan PlanFault) → given ≡ checked.fragments.items → selections ≡ checked.operation.now.selections.items → root ≡ checked.root.number → seen ≡ fragments → lent ≡ kept
+      → AreShortened (environment variables) (set_tree selections) (set_tree kept) → AreShortenedFragments (environment variables) (map fragment_seen given) fragments → AnswersSelections (setting_beside schema weights variables seen) root (set_tree lent) result
+      → AnswersPlan (IsPlanned schema weights checked variables) result (answer_for schema weights checked variables)
+  shorter_answers given seen fragments selections lent kept root result same_fragments same_selections same_root is_seen is_lent below inside answers =
+      let top : ℕ = checked.root.number in
+      let ss : SelectionTrees = set_tree checked.operation.now.selections.items in
+      let others : SelectionTrees = set_tree kept in
+      let shorter : IsShorter whole ss fragments others = record {
+        below = subst (λ (xs : List Selection). AreShortened (environment variables) (set_tree xs) others) same_selections below;
+        inside = subst (λ (fs : List FragmentData). AreShortenedFragments (environment variables) fs fragments) (ap (map fragment_seen) same_fragments ∙ fragments_there) inside;
+      } in
+      let acyclic = shorter_is_acyclic whole top ss others fragments shorter acyclic_itself in
+      answers_same (λ plan. HasRows plan (planned_on (with_fragments whole fragments) top others)) (IsPlanned schema weights checked variables) result (answer_on (with_fragments whole fragments) top others) (answer_for schema weights checked variables)
+      (λ plan h. subst (λ p. HasRows plan p) (sym (same_plan_shortened whole fragments shorter.inside top ss others shorter.below level_limit (root_place top))) h)
+      (ap (answer_of node_limit) (sym (same_visits_shortened whole fragments shorter.inside top ss others shorter.below level_limit (top ∷ []))))
+      (subst (λ (n : ℕ). AnswersSelections (setting_beside schema weights variables fragments) n others result) same_root
+      (subst (λ (xs : List Selection). AnswersSelections (setting_beside schema weights variables fragments) root (set_tree xs) result) is_lent
+      (subst (λ (fs : List FragmentData). AnswersSelections (setting_beside schema weights variables fs) root (set_tree lent) result) is_seen answers)) acyclic)

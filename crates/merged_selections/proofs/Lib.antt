@@ -7,4 +7,3 @@ pub mod NodeFaults
 pub mod Opened
 pub mod SideBySide
 pub mod VisitedParts
-pub mod WrittenAlike

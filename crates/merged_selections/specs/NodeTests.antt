@@ -29,7 +29,7 @@ use Rattle.merged_selections.specs.declared.node.Looked.{Looked}
 use Rattle.merged_selections.specs.declared.why.Why.{Why}
 use Rattle.merged_selections.specs.declared.why.Why.TheVariants.{TooDeep, Conflict, Argument, Size as SizeWhy, NoPossibleType}
 use Rattle.merged_selections.specs.NodeParts.{handed_data, lacks_types_below}
-use Rattle.merged_selections.specs.Alike.{AreGivenAlike}
+use Rattle.plan_model.specs.GivenAlike.{AreGivenAlike}
 
 -- ---- what a refusal tells; want of memory tells nothing
 

@@ -6,8 +6,8 @@ ghost use Rattle.collected_fields.specs.Views.{setting_of_planning, collected_fi
 ghost use Rattle.merged_selections.specs.NodeTests.{coerced_of, ComparesOne, ComparesAll};
 
 use crate::same_values::same_arguments;
-use crate::written::alike_arguments;
 use collected_fields::{Collected, Planning};
+use distinct_selections::alike_arguments;
 use schema_model::{Args, FieldId};
 use std::alloc::Global;
 use variable_coercion::{ArgFault, coerce_arguments};

@@ -1,22 +1,73 @@
 //! The plan of an operation.
 
-ghost use Rattle.std.specs.Prelude.{◌≡◌, IfOk};
+ghost use Rattle.std.specs.Prelude.{◌≡◌, IfOk, map};
+ghost use Rattle.document_reader.specs.Trees.{set_tree};
 ghost use Rattle.schema_model.specs.SchemaViews.{schema_data};
+ghost use Rattle.document_rules.specs.Parts.{fragment_data};
 ghost use Rattle.document_rules.specs.Checking.{IsChecked};
+ghost use Rattle.collected_fields.specs.Views.{fragment_seen};
 ghost use Rattle.merged_selections.specs.Faults.{AnswersPlan};
-ghost use Rattle.merged_selections.specs.Building.{answer_for, IsPlanned};
+ghost use Rattle.merged_selections.specs.Building.{answer_for, IsPlanned, setting_beside, AnswersSelections};
 
 use crate::NODE_LIMIT;
 use crate::building::Building;
 use crate::fault::PlanFault;
+use crate::few::are_few;
 use crate::stop::fault_of;
 use collected_fields::{Collector, Planning};
 use cost_directives::Weights;
+use distinct_selections::distinct_of;
+use document_reader::{Fragment, Selection};
 use document_rules::Checked;
+use input_values::TypeId;
 use plan_table::Plan;
 use schema_model::Schema;
-use std::alloc::Global;
+use std::alloc::{AllocError, Global};
 use variable_coercion::Variables;
+
+/// Fragments, each lent.
+fn lent(alloc: Global, fragments: &[Fragment]) -> Result<Vec<&Fragment>, AllocError>
+    ensures { IfOk result (λ lent. map fragment_seen lent.items ≡ map fragment_data fragments.now) }
+{
+    let mut lent = Vec::new(alloc);
+    for fragment in fragments {
+        lent.push(fragment)?;
+    }
+    Ok(lent)
+}
+
+/// The plan of selections that are written on the type `root`, beside fragments.
+fn build_from<'a, 'b>(
+    alloc: Global,
+    schema: &'a Schema,
+    weights: &'a Weights,
+    variables: &'b Variables,
+    fragments: &'b [&'b Fragment],
+    root: TypeId,
+    selections: &'b [Selection],
+) -> Result<Plan<'a>, PlanFault>
+    ensures answer { AnswersSelections (setting_beside schema.now weights.now variables.now (map fragment_seen fragments.now)) root.number (set_tree selections.now) result }
+    ensures schema { IfOk result (λ plan. plan.schema.now ≡ schema.now) }
+    ensures weights { IfOk result (λ plan. plan.weights.now ≡ weights.now) }
+{
+    let planning = Planning {
+        schema,
+        weights,
+        variables,
+        fragments,
+    };
+    let (collector, list) = Collector::prepare(alloc, planning, root, selections)?;
+    let mut building = Building {
+        collector,
+        plan: Plan::new(alloc, schema, weights, root),
+        left: NODE_LIMIT,
+        last: None,
+    };
+    match building.build_types(alloc, 1, &[root], &[list], None) {
+        Ok(()) => Ok(building.into_plan()),
+        Err(stop) => Err(fault_of(alloc, stop)),
+    }
+}
 
 /// The plan of an operation that was checked: at each place the possible types of objects, and for each of them one node for
 /// each response key, whose fields are merged (GraphQL October 2021, 6.3.2 and 6.4.3). The answer is the first fault in
@@ -24,6 +75,8 @@ use variable_coercion::Variables;
 ///
 /// It asks that the operation breaks no rule of this schema. The weights are to be the schema's, and the variables those
 /// of the operation, coerced by the schema.
+///
+/// What is written as something before it, and what is left out, is left out before the nodes are looked at.
 pub fn build_plan<'a>(
     alloc: Global,
     schema: &'a Schema,
@@ -36,23 +89,28 @@ pub fn build_plan<'a>(
     ensures schema { IfOk result (λ plan. plan.schema.now ≡ schema.now) }
     ensures weights { IfOk result (λ plan. plan.weights.now ≡ weights.now) }
 {
-    let planning = Planning {
+    let selections = checked.operation().selections.as_slice();
+    let reached = checked.fragments();
+    if are_few(selections, reached) {
+        return build_from(
+            alloc,
+            schema,
+            weights,
+            variables,
+            reached,
+            checked.root(),
+            selections,
+        );
+    }
+    let distinct = distinct_of(alloc, variables, selections, reached)?;
+    let fragments = lent(alloc, distinct.fragments.as_slice())?;
+    build_from(
+        alloc,
         schema,
         weights,
         variables,
-        fragments: checked.fragments(),
-    };
-    let root = checked.root();
-    let selections = checked.operation().selections.as_slice();
-    let (collector, list) = Collector::prepare(alloc, planning, root, selections)?;
-    let mut building = Building {
-        collector,
-        plan: Plan::new(alloc, schema, weights, root),
-        left: NODE_LIMIT,
-        last: None,
-    };
-    match building.build_types(alloc, 1, &[root], &[list], None) {
-        Ok(()) => Ok(building.into_plan()),
-        Err(stop) => Err(fault_of(alloc, stop)),
-    }
+        fragments.as_slice(),
+        checked.root(),
+        distinct.selections.as_slice(),
+    )
 }

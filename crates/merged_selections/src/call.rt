@@ -9,9 +9,9 @@ ghost use Rattle.merged_selections.specs.NodeTests.{coerced_of, handed_by, Calls
 
 use crate::arguments::arguments_of;
 use crate::lookups::Handed;
-use crate::written::alike_arguments;
 use collected_fields::{Collected, Planning};
 use cost_directives::Size;
+use distinct_selections::alike_arguments;
 use schema_model::{Args, FieldId};
 use std::alloc::Global;
 use variable_coercion::ArgFault;

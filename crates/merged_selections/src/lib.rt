@@ -9,6 +9,7 @@ mod build;
 mod building;
 mod call;
 mod fault;
+mod few;
 mod laws;
 mod lookups;
 mod node;
@@ -16,7 +17,6 @@ mod same_values;
 mod sharing;
 mod stop;
 mod why;
-mod written;
 
 pub use build::build_plan;
 pub use fault::PlanFault;

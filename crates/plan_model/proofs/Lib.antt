@@ -14,3 +14,6 @@ pub mod CheckedRanks
 pub mod Computed
 pub mod NodeCounts
 pub mod Fillable
+pub mod LikeLists
+pub mod MarkedNodes
+pub mod ShortenedSets

@@ -12,6 +12,11 @@ pub mod Operations
 pub mod Sound
 pub mod Repeats
 pub mod MergingWalk
+-- What is alike wherever it stands: arguments, fields, selection sets; and selections without what is written alike.
+pub mod GivenAlike
+pub mod Likeness
+pub mod Numberings
+pub mod Shortening
 -- What the laws say of a place, its selections and their plan.
 pub mod PlanLaws
 -- Small selections, computed.

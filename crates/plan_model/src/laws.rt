@@ -1,6 +1,6 @@
 //! What holds of all selections, their plans and their responses.
 
-ghost use Rattle.std.specs.Prelude.{◌≡◌, ◌↔◌, ◌≤◌, ℕ, true, List, Option, None, Ok, map, length};
+ghost use Rattle.std.specs.Prelude.{◌≡◌, ◌↔◌, ◌≤◌, ℕ, suc, true, List, Option, None, Ok, map, length};
 ghost use Rattle.gql_base.specs.declared.parts.trees.Argument.{Argument};
 ghost use Rattle.gql_base.specs.parts.Trees.{named_value};
 ghost use Rattle.document_reader.specs.declared.trees.Definition.{Definition};
@@ -17,6 +17,8 @@ ghost use Rattle.schema_model.specs.SchemaViews.{schema_data};
 ghost use Rattle.schema_model.specs.declared.schema.Schema.{Schema};
 ghost use Rattle.schema_model.specs.Faults.{SchemaBuilds};
 ghost use Rattle.schema_model.specs.Arguments.{ArgData};
+ghost use Rattle.document_reader.specs.Documents.{SelectionTrees};
+ghost use Rattle.document_rules.specs.Parts.{FragmentData};
 ghost use Rattle.document_rules.specs.Checking.{first_broken};
 ghost use Rattle.variable_coercion.specs.Arguments.{arguments_answer};
 ghost use Rattle.plan_model.specs.SelectedFields.{Setting, Place, types_of, holds, coerced_arguments};
@@ -31,6 +33,8 @@ ghost use Rattle.plan_model.specs.PlanLaws.{KeepsAsPlanned, CostsAsPlanned, IsBo
 ghost use Rattle.plan_model.specs.Sound.{IsSoundSetting, CanBeFilled, IsOfSchema};
 ghost use Rattle.plan_model.specs.Repeats.{LeavesOutRepeats};
 ghost use Rattle.plan_model.specs.MergingWalk.{IsShortened, walked, IsAcyclic};
+ghost use Rattle.plan_model.specs.Numberings.{ItemsByNumber, HaveSameMarks};
+ghost use Rattle.plan_model.specs.Shortening.{with_fragments, position_on, IsShorter};
 
 /// The arguments that a document's tree has come to what the written arguments come to.
 pub fn arguments_of_trees()
@@ -117,4 +121,18 @@ pub fn walk_leaves_out_repeats()
 /// An operation that breaks no rule is acyclic.
 pub fn checked_operations_are_acyclic()
     ensures { (s : SchemaData) (ds : List Definition) (o : Operation) → first_broken s ds o ≡ None → IsAcyclicOperation s ds o }
+{}
+
+/// Positions whose selections have the same numbers have the same visits and the same plan, wherever their fields stand and however
+/// often they are repeated.
+pub fn numbers_say_all()
+    ensures visited { (e : Setting) (items : ItemsByNumber) (levels : ℕ) (p q : Position) → HaveSameMarks e items (suc levels) p q → (Ts : List ℕ) → visits e levels Ts p ≡ visits e levels Ts q }
+    ensures planned { (e : Setting) (items : ItemsByNumber) (levels : ℕ) (p q : Position) → HaveSameMarks e items (suc levels) p q → (place : Place) → planned e levels place p ≡ planned e levels place q }
+{}
+
+/// Where selections and fragments are shortened, there are the same visits, the same plan, and still no circle of fragments.
+pub fn shortened_selections_come_to_the_same()
+    ensures visited { (e : Setting) (root levels : ℕ) (ss ts : SelectionTrees) (fs : List FragmentData) → IsShorter e ss fs ts → (Ts : List ℕ) → visits e levels Ts (position_on root ss) ≡ visits (with_fragments e fs) levels Ts (position_on root ts) }
+    ensures planned { (e : Setting) (root levels : ℕ) (ss ts : SelectionTrees) (fs : List FragmentData) → IsShorter e ss fs ts → (place : Place) → planned e levels place (position_on root ss) ≡ planned (with_fragments e fs) levels place (position_on root ts) }
+    ensures acyclic { (e : Setting) (root : ℕ) (ss ts : SelectionTrees) (fs : List FragmentData) → IsShorter e ss fs ts → IsAcyclic e (position_on root ss) → IsAcyclic (with_fragments e fs) (position_on root ts) }
 {}

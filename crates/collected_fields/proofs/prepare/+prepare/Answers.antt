@@ -11,7 +11,8 @@ use Rattle.variable_coercion.specs.Calls.{environment}
 use Rattle.collected_fields.specs.Drafts.{source_setting, AddsInlineTo}
 use Rattle.collected_fields.specs.Prepared.{list_data, Adds, steps_of_inline}
 use Rattle.collected_fields.specs.Steps.{step_data}
-use Rattle.collected_fields.proofs.PrepareLaws.{nothing_added, repeat_added, field_added, field_told, spread_told, inline_told, on_ok_both, inline_done, spread_done, list_added, made_none, made_more, made_whole}
+use Rattle.distinct_selections.proofs.IncludedSelections.{field_told, spread_told, inline_told}
+use Rattle.collected_fields.proofs.PrepareLaws.{nothing_added, repeat_added, field_added, on_ok_both, inline_done, spread_done, list_added, made_none, made_more, made_whole}
 use Rattle.collected_fields.proofs.prepare.+prepare.Goals as goal
 
 pub add_field-returns-then-not-is_included-clause-adds : goal.add_field-returns-then-not-is_included-clause-adds

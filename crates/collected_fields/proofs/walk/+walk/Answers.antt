@@ -1,7 +1,7 @@
 use Rattle.std.proofs.Common.{sym, ◌∙◌, map}
 use Rattle.std.proofs.lemmas.Result.{on_ok_weaker}
 use Rattle.schema_model.specs.SchemaViews.{schema_data}
-use Rattle.collected_fields.specs.Prepared.{list_data, entry_data}
+use Rattle.collected_fields.specs.Prepared.{entry_data}
 use Rattle.collected_fields.specs.Walks.{walk_data, walk_fragment, list_steps}
 use Rattle.collected_fields.proofs.WalkSteps.{at_no_depth, passed_over, gone_into, next_step}
 use Rattle.collected_fields.proofs.walk.+walk.Goals as goal

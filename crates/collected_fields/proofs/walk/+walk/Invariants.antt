@@ -1,7 +1,7 @@
 use Rattle.std.proofs.Common.{◌≡◌, ◌+◌, ◌*◌, ◌-◌, length, map, drop}
 use Rattle.schema_model.specs.SchemaViews.{schema_data}
 use Rattle.collected_fields.specs.Steps.{step_data}
-use Rattle.collected_fields.specs.Prepared.{list_data, entry_data}
+use Rattle.collected_fields.specs.Prepared.{entry_data}
 use Rattle.collected_fields.specs.Walks.{walk_data, walk_steps, walk_fragment, list_steps}
 use Rattle.collected_fields.proofs.walk.+walk.Given as goal
 

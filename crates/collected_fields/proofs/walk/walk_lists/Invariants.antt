@@ -1,6 +1,6 @@
 use Rattle.std.proofs.Common.{◌≡◌, map, drop}
 use Rattle.schema_model.specs.SchemaViews.{schema_data}
-use Rattle.collected_fields.specs.Prepared.{list_data, entry_data}
+use Rattle.collected_fields.specs.Prepared.{entry_data}
 use Rattle.collected_fields.specs.Walks.{walk_data, walk_lists, list_steps}
 use Rattle.collected_fields.proofs.walk.walk_lists.Given as goal
 

@@ -2,7 +2,7 @@ use Rattle.std.proofs.Common.{map, subst}
 use Rattle.gql_base.specs.parts.Trees.{named_value}
 use Rattle.schema_model.specs.Arguments.{args_data}
 use Rattle.collected_fields.specs.Views.{setting_of_planning, collected_field}
-use Rattle.merged_selections.specs.Alike.{AreGivenAlike}
+use Rattle.plan_model.specs.GivenAlike.{AreGivenAlike}
 use Rattle.merged_selections.proofs.AlikeArguments.{alike_is_same}
 use Rattle.merged_selections.proofs.arguments.differs.Goals as goal
 

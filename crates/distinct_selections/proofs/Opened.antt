@@ -1,0 +1,11 @@
+-- Parts of documents that are opened.
+use Rattle.gql_base.proofs.PartLaws.ValueSteps.{variable_tree, integer_tree, string_tree, boolean_tree, null_tree, enum_tree, list_tree, object_tree}
+use Rattle.gql_base.proofs.PrintingLaws.PrintSteps.{open_argument}
+use Rattle.document_reader.proofs.ReadingSteps.{tree_of_field, tree_of_inline}
+use Rattle.document_reader.proofs.PrintingSteps.{tree_of_spread, open_field}
+
+pub ruleset value_parts = (variable_tree, integer_tree, string_tree, boolean_tree, null_tree, enum_tree, list_tree, object_tree)
+
+pub ruleset opened_argument = (open_argument)
+
+pub ruleset selection_parts = (tree_of_field, tree_of_spread, tree_of_inline, open_field)

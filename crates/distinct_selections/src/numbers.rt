@@ -1,0 +1,159 @@
+//! Numbers of what is written alike. They say where to look for a selection that is repeated, and nothing rests on them.
+
+use document_reader::Field;
+use gql_base::{Argument, Name, Value};
+use std::alloc::{AllocError, Global};
+use std::collections::BTreeMap;
+
+/// The numbers of names, of whole numbers, and of what is written with these and with other numbers.
+#[derive(Drop)]
+pub struct Numbers<'a> {
+    names: BTreeMap<&'a str, usize>,
+    integers: BTreeMap<i128, usize>,
+    words: BTreeMap<Vec<usize>, usize>,
+}
+
+impl<'a> Numbers<'a> {
+    pub(crate) fn new(alloc: Global) -> Numbers<'a> {
+        Numbers {
+            names: BTreeMap::new(alloc),
+            integers: BTreeMap::new(alloc),
+            words: BTreeMap::new(alloc),
+        }
+    }
+
+    fn name(&mut self, name: &'a str) -> Result<usize, AllocError> {
+        match self.names.get(name).copied() {
+            Some(number) => Ok(number),
+            None => {
+                let number = self.names.len();
+                self.names.insert(name, number)?;
+                Ok(number)
+            }
+        }
+    }
+
+    fn integer(&mut self, value: i128) -> Result<usize, AllocError> {
+        match self.integers.get(&value).copied() {
+            Some(number) => Ok(number),
+            None => {
+                let number = self.integers.len();
+                self.integers.insert(value, number)?;
+                Ok(number)
+            }
+        }
+    }
+
+    /// The number of these words.
+    pub(crate) fn of_words(&mut self, words: Vec<usize>) -> Result<usize, AllocError> {
+        match self.words.get(words.as_slice()).copied() {
+            Some(number) => Ok(number),
+            None => {
+                let number = self.words.len();
+                self.words.insert(words, number)?;
+                Ok(number)
+            }
+        }
+    }
+
+    fn put_name(
+        &mut self,
+        kind: usize,
+        name: &'a str,
+        words: &mut Vec<usize>,
+    ) -> Result<(), AllocError> {
+        words.push(kind)?;
+        words.push(self.name(name)?)?;
+        Ok(())
+    }
+
+    #[cycle(words)]
+    fn put_value(&mut self, value: &'a Value, words: &mut Vec<usize>) -> Result<(), AllocError> {
+        match value {
+            Value::Var(name) => self.put_name(1, name.text.as_str(), words),
+            Value::Int(number) => {
+                words.push(2)?;
+                words.push(self.integer(*number)?)?;
+                Ok(())
+            }
+            Value::Str(text) => self.put_name(3, text.as_str(), words),
+            Value::Bool(truth) => {
+                words.push(if *truth { 4 } else { 5 })?;
+                Ok(())
+            }
+            Value::Null => {
+                words.push(6)?;
+                Ok(())
+            }
+            Value::EnumName(name) => self.put_name(7, name.text.as_str(), words),
+            Value::List(items) => self.put_items(items.as_slice(), words),
+            Value::Object(fields) => self.put_arguments(fields.as_slice(), words),
+        }
+    }
+
+    #[cycle(words)]
+    fn put_items(&mut self, items: &'a [Value], words: &mut Vec<usize>) -> Result<(), AllocError> {
+        words.push(8)?;
+        words.push(items.len())?;
+        'items: for item in items {
+            self.put_value(item, words)?;
+        }
+        Ok(())
+    }
+
+    #[cycle(words)]
+    fn put_arguments(
+        &mut self,
+        arguments: &'a [Argument],
+        words: &mut Vec<usize>,
+    ) -> Result<(), AllocError> {
+        words.push(9)?;
+        words.push(arguments.len())?;
+        'arguments: for argument in arguments {
+            words.push(self.name(argument.name.text.as_str())?)?;
+            self.put_value(&argument.value, words)?;
+        }
+        Ok(())
+    }
+
+    /// The number of a field whose selections have a number.
+    pub(crate) fn of_field(
+        &mut self,
+        alloc: Global,
+        field: &'a Field,
+        below: usize,
+    ) -> Result<usize, AllocError> {
+        let mut words = Vec::new(alloc);
+        match &field.alias {
+            Some(alias) => self.put_name(10, alias.text.as_str(), &mut words)?,
+            None => self.put_name(10, field.name.text.as_str(), &mut words)?,
+        }
+        words.push(self.name(field.name.text.as_str())?)?;
+        words.push(below)?;
+        self.put_arguments(field.arguments.as_slice(), &mut words)?;
+        self.of_words(words)
+    }
+
+    /// The number of the spread of a fragment.
+    pub(crate) fn of_spread(&mut self, alloc: Global, name: &'a Name) -> Result<usize, AllocError> {
+        let mut words = Vec::new(alloc);
+        self.put_name(11, name.text.as_str(), &mut words)?;
+        self.of_words(words)
+    }
+
+    /// The number of an inline fragment whose selections have a number.
+    pub(crate) fn of_inline(
+        &mut self,
+        alloc: Global,
+        on: &'a Option<Name>,
+        below: usize,
+    ) -> Result<usize, AllocError> {
+        let mut words = Vec::new(alloc);
+        match on {
+            Some(name) => self.put_name(12, name.text.as_str(), &mut words)?,
+            None => words.push(13)?,
+        }
+        words.push(below)?;
+        self.of_words(words)
+    }
+}
