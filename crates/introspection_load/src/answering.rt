@@ -93,7 +93,6 @@ fn answered_at(
     given: &Value,
     times: u64,
 ) -> Result<Local, LocalFault>
-    requires made { IsMade facts.now }
     requires local { class_at document.now.definitions.items place ≡ LocalClass }
     ensures comes_to { ComesTo (local_request facts.now document.now.definitions.items place (view given.now)) result }
     ensures within { IfOk result (λ local. IsWithin local.cost) }
@@ -113,7 +112,6 @@ fn local_lines(
     given: &Value,
     times: u64,
 ) -> Result<Text, AllocError>
-    requires made { IsMade facts.now }
     requires local { class_at document.now.definitions.items place ≡ LocalClass }
     ensures { IfOk result (TellsAt facts.now document.now.definitions.items (view given.now) place) }
 {
@@ -131,7 +129,6 @@ fn lines_at(
     given: &Value,
     times: u64,
 ) -> Result<Text, AllocError>
-    requires made { IsMade facts.now }
     ensures { IfOk result (TellsAt facts.now document.now.definitions.items (view given.now) place) }
 {
     match class(alloc, document, place)? {
@@ -168,7 +165,6 @@ pub fn answered(
     given: &Value,
     times: u64,
 ) -> Result<Text, &'static str>
-    requires { IsMade facts.now }
     ensures { IfOk result (Tells facts.now document.now (view given.now)) }
 {
     let document = document_in(alloc, document)?;

@@ -10,7 +10,11 @@ pub mod MetaLeaves
 pub mod OverMeta
 pub mod KeptPlaces
 pub mod Stages
+pub mod PreparedAnswers
 pub mod RequestAnswers
 pub mod PlainTexts
 pub mod OneVerdict
+pub mod HasVerdict
+pub mod AlikeRequests
 pub mod OneLines
+pub mod SharedFacts

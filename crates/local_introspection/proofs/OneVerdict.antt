@@ -1,5 +1,5 @@
 -- A request has one verdict: what is told of it is found stage by stage, and there is one of each.
-use Rattle.std.proofs.Common.{◌≡◌, ◌∙◌, ◌≤◌, ℕ, List, [], Option, None, Some, Result, Ok, Err, refl, sym, ap, subst, arith}
+use Rattle.std.proofs.Common.{◌≡◌, ◌∙◌, ◌≤◌, ◌⊎◌, inl, inr, ℕ, List, [], Option, None, Some, Result, Ok, Err, refl, sym, ap, subst, arith}
 use Rattle.std.specs.Prelude.{◌≢◌}
 use Rattle.std.proofs.lemmas.Option.{same_Some}
 use Rattle.cost_num.proofs.Costs.{cost_eq}
@@ -7,6 +7,8 @@ use Rattle.response_model.specs.Response.{Tree}
 use Rattle.response_model.specs.ResponseText.{response_text}
 use Rattle.response_model.specs.Cost.{Part, types, fields}
 use Rattle.document_reader.specs.declared.trees.Operation.{Operation}
+use Rattle.operation_class.specs.declared.classes.Class.TheVariants.{Local as LocalClass, Mixed as MixedClass}
+use Rattle.operation_class.specs.Classes.{class_at}
 use Rattle.document_rules.specs.declared.rule.RuleFault.{RuleFault}
 use Rattle.document_rules.specs.declared.rule.RuleFault.TheVariants.{Broken, Memory as NoRuleMemory}
 use Rattle.document_rules.specs.Sites.{type_of_kind}
@@ -48,7 +50,7 @@ is_breach : (fault : RuleFault) (first : Option Breach) → NamesBreach fault fi
 is_breach (Broken rule at) first is = ap breach_fault (sym is)
 is_breach NoRuleMemory first is = absurd is
 
-abbrev variable_fault : Option Unvalued → CoerceFault
+abbrev pub variable_fault : Option Unvalued → CoerceFault
 variable_fault None = NoVariableMemory
 variable_fault (Some (missing name)) = Missing name
 variable_fault (Some (bad_value path)) = BadValue path
@@ -65,7 +67,7 @@ argument_fault (missing name) = MissingArgument name
 argument_fault (bad_value name) = BadArgument name
 argument_fault (too_large_value name) = LargeArgument name
 
-abbrev node_fault : List ℕ → NodeFault → PlanFault
+abbrev pub node_fault : List ℕ → NodeFault → PlanFault
 node_fault at too_deep = TooDeep at
 node_fault at conflict = Conflict at
 node_fault at (refused_argument refusal) = Argument at (argument_fault refusal)
@@ -150,21 +152,31 @@ variable_told_by : (r : LocalRequest) (o : Operation) (fault : CoerceFault) → 
 variable_told_by r o fault keeps is =
     ap Variable (is_variable fault ∙ ap variable_fault is.1) ∙ ap (by_values r o) (sym is.2) ∙ ap (by_rules r o) (sym keeps.1)
 
-abbrev IsToldOfIt : LocalRequest → LocalFault → Type 0
+abbrev pub IsToldOfIt : LocalRequest → LocalFault → Type 0
 IsToldOfIt r fault = (o : Operation) × AsksFor r o × (fault ≡ told_of r o)
 
-is_told : (r : LocalRequest) (fault : LocalFault) → fault ≢ Memory → IsRefusedFor r fault → IsToldOfIt r fault
-is_told r (Mixed at) is_one refused = absurd refused
-is_told r (Rule fault) is_one refused = (refused.0, refused.1, rule_told r refused.0 fault (first_broken r.schema r.document refused.0) refused.2)
-is_told r (Variable fault) is_one refused = (refused.0, refused.1.0, variable_told_by r refused.0 fault refused.1 refused.2)
-is_told r (Plan fault) is_one refused = (refused.0.operation, refused.0.keeps.0, plan_told fault (plan_answer r refused.0) refused.1 ∙ told_of_plan r refused.0)
-is_told r LocalTooLarge is_one refused = (refused.0.operation, refused.0.keeps.0, told_well r refused.0 refused.1)
+-- what is told by the class of the operation
+abbrev pub IsToldOfClass : LocalRequest → LocalFault → Type 0
+IsToldOfClass r fault = (at : ℕ) × (class_at r.document r.place ≡ MixedClass at) × (fault ≡ Mixed at)
+
+pub is_told : (r : LocalRequest) (fault : LocalFault) → fault ≢ Memory → IsRefusedFor r fault → IsToldOfClass r fault ⊎ IsToldOfIt r fault
+is_told r (Mixed at) is_one refused = inl (at, refused, refl)
+is_told r (Rule fault) is_one refused = inr (refused.0, refused.1, rule_told r refused.0 fault (first_broken r.schema r.document refused.0) refused.2)
+is_told r (Variable fault) is_one refused = inr (refused.0, refused.1.0, variable_told_by r refused.0 fault refused.1 refused.2)
+is_told r (Plan fault) is_one refused = inr (refused.0.operation, refused.0.keeps.0, plan_told fault (plan_answer r refused.0) refused.1 ∙ told_of_plan r refused.0)
+is_told r LocalTooLarge is_one refused = inr (refused.0.operation, refused.0.keeps.0, told_well r refused.0 refused.1)
 is_told r Memory is_one refused = absurd (is_one refl)
+
+one_place : (at place : ℕ) → MixedClass at ≡ MixedClass place → at ≡ place
+one_place at place same = cc
+
+apart : (at : ℕ) → LocalClass ≡ MixedClass at → ⊥
+apart at same = absurd (cc)
 
 -- ---- one operation, with one root and one list of values
 
 same_operation : (r : LocalRequest) (o p : Operation) → AsksFor r o → AsksFor r p → o ≡ p
-same_operation r o p asks other = same_Some o p (sym asks ∙ other)
+same_operation r o p asks other = same_Some o p (sym asks.0 ∙ other.0)
 
 same_values : (xs ys : List VariableData) → ◌≡◌ {A = Result (List VariableData) Unvalued} (Ok xs) (Ok ys) → xs ≡ ys
 same_values xs ys same = cc
@@ -206,11 +218,14 @@ one_answer r local other (p, well, t, is, written) (q, also, u, too, wrote) = (
   cost_eq local.cost other.cost (written.of_types ∙ same_cost r p q t u types is too ∙ sym wrote.of_types) (written.of_fields ∙ same_cost r p q t u fields is too ∙ sym wrote.of_fields),
 )
 
+same_told : (r : LocalRequest) (fault other : LocalFault) → IsToldOfClass r fault ⊎ IsToldOfIt r fault → IsToldOfClass r other ⊎ IsToldOfIt r other → fault ≡ other
+same_told r fault other (inl (at, mixed, is)) (inl (place, too, also)) = is ∙ ap Mixed (one_place at place (sym mixed ∙ too)) ∙ sym also
+same_told r fault other (inl (at, mixed, is)) (inr (o, asks, also)) = absurd (apart at (sym asks.1 ∙ mixed))
+same_told r fault other (inr (o, asks, is)) (inl (place, too, also)) = absurd (apart place (sym asks.1 ∙ too))
+same_told r fault other (inr (o, asks, is)) (inr (p, too, also)) = is ∙ ap (told_of r) (same_operation r o p asks too) ∙ sym also
+
 pub one_refusal : (r : LocalRequest) (fault other : LocalFault) → fault ≢ Memory → other ≢ Memory → IsRefusedFor r fault → IsRefusedFor r other → fault ≡ other
-one_refusal r fault other is_one too refused also =
-    let a = is_told r fault is_one refused in
-    let b = is_told r other too also in
-    a.2 ∙ ap (told_of r) (same_operation r a.0 b.0 a.1 b.1) ∙ sym b.2
+one_refusal r fault other is_one too refused also = same_told r fault other (is_told r fault is_one refused) (is_told r other too also)
 
 not_too_large : (r : LocalRequest) (local : Local) → IsAnsweredWith r local → IsRefusedFor r LocalTooLarge → ⊥
 not_too_large r local (p, well, t, is, written) (q, also, u, too, many) =
@@ -219,6 +234,6 @@ not_too_large r local (p, well, t, is, written) (q, also, u, too, many) =
 
 pub not_both : (r : LocalRequest) (local : Local) (fault : LocalFault) → fault ≢ Memory → IsAnsweredWith r local → IsRefusedFor r fault → ⊥
 not_both r local fault is_one answered refused =
-    let told = is_told r fault is_one refused in
-    let same = told.2 ∙ ap (told_of r) (same_operation r told.0 answered.0.operation told.1 answered.0.keeps.0) ∙ sym (told_well r answered.0 answered.1) in
+    let large : IsToldOfIt r LocalTooLarge = (answered.0.operation, answered.0.keeps.0, told_well r answered.0 answered.1) in
+    let same = same_told r fault LocalTooLarge (is_told r fault is_one refused) (inr large) in
     not_too_large r local answered (subst (IsRefusedFor r) same refused)

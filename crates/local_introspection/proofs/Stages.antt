@@ -25,9 +25,8 @@ use Rattle.operation_class.specs.Classes.{class_of_kind, class_there}
 use Rattle.acceptance.specs.Refusals.{NamesBreach, NamesVariable, NamesNode}
 use Rattle.local_introspection.specs.declared.fault.LocalFault.{LocalFault}
 use Rattle.local_introspection.specs.declared.fault.LocalFault.TheVariants.{Mixed, Rule, Variable, Plan, TooLarge as LocalTooLarge, Memory}
-use Rattle.local_introspection.specs.LocalRequests.{LocalRequest, AsksFor, KeepsRules, IsCheckFor, AreValues, Prepared, setting}
+use Rattle.local_introspection.specs.LocalRequests.{LocalRequest, IsLocal, AsksFor, KeepsRules, IsCheckFor, AreValues, Prepared, setting}
 use Rattle.local_introspection.specs.LocalAnswers.{IsRefusedFor, TellsRule, TellsVariable, TellsPlan}
-use Rattle.local_introspection.specs.LocalStages.{IsLocal}
 
 -- ---- an operation that is local is a query
 
@@ -41,7 +40,7 @@ query_there ds None is = absurd (cc)
 query_there ds (Some o) is = (o, refl, query_kind o.kind _ is)
 
 pub there_is_one : (r : LocalRequest) → IsLocal r → (o : Operation) × AsksFor r o × (o.kind ≡ Query)
-there_is_one r local = query_there r.document (operation_at r.document r.place) local
+there_is_one r local = let there = query_there r.document (operation_at r.document r.place) local in (there.0, (there.1, local), there.2)
 
 some_inner : {X : Type 0} (a b : X) → Some a ≡ Some b → a ≡ b
 some_inner a b is = cc
@@ -51,23 +50,23 @@ stands None x is = absurd (cc)
 stands (Some y) x is = refl
 
 pub stands_there : (r : LocalRequest) → IsLocal r → IsSome (operation_at r.document r.place)
-stands_there r local = let there = there_is_one r local in stands (operation_at r.document r.place) there.0 there.1
+stands_there r local = let there = there_is_one r local in stands (operation_at r.document r.place) there.0 there.1.0
 
 same_operation : (r : LocalRequest) (a b : Operation) → AsksFor r a → AsksFor r b → a ≡ b
-same_operation r a b first second = some_inner a b (sym first ∙ second)
+same_operation r a b first second = some_inner a b (sym first.0 ∙ second.0)
 
-pub query_asked : (r : LocalRequest) (o : Operation) → IsLocal r → AsksFor r o → o.kind ≡ Query
-query_asked r o local asks = let there = there_is_one r local in ap (λ (x : Operation). x.kind) (same_operation r o there.0 asks there.1) ∙ there.2
+pub query_asked : (r : LocalRequest) (o : Operation) → AsksFor r o → o.kind ≡ Query
+query_asked r o asks = let there = there_is_one r asks.1 in ap (λ (x : Operation). x.kind) (same_operation r o there.0 asks there.1) ∙ there.2
 
 -- ---- rules
 
 abbrev ForEach : LocalRequest → (Operation → Type 0) → Type 0
-ForEach r P = (o : Operation) → AsksFor r o → P o
+ForEach r P = (o : Operation) → operation_at r.document r.place ≡ Some o → P o
 
 pub checked_for : (r : LocalRequest) (c : Checked) → IsLocal r → ForEach r (λ o. (first_broken r.schema r.document o ≡ None) × IsCheckOf r.schema r.document o c) → IsCheckFor r c
 checked_for r c local answer =
     let o = there_is_one r local in
-    let of = answer o.0 o.1 in
+    let of = answer o.0 o.1.0 in
     let moved = subst (λ x. KeepsRules r x × IsCheckOf r.schema r.document x c) (sym of.1.operation) ((o.1, of.0), of.1) in
     record { keeps = moved.0; of = moved.1 }
 
@@ -79,7 +78,7 @@ pub rule_refused : (r : LocalRequest) (c : Operation → Checked → Type 0) (fa
     → ForEach r (λ o. AnswersBreach (c o) (Err fault) (first_broken r.schema r.document o)) → TellsRule fault told → IsRefusedFor r told
 rule_refused r c fault (Rule named) local answer tells =
     let o = there_is_one r local in
-    (o.0, o.1, subst (λ f. NamesBreach f (first_broken r.schema r.document o.0)) (sym tells.0) (breach_named (c o.0) fault (first_broken r.schema r.document o.0) tells.1 (answer o.0 o.1)))
+    (o.0, o.1, subst (λ f. NamesBreach f (first_broken r.schema r.document o.0)) (sym tells.0) (breach_named (c o.0) fault (first_broken r.schema r.document o.0) tells.1 (answer o.0 o.1.0)))
 rule_refused r c fault (Mixed at) local answer tells = absurd tells
 rule_refused r c fault (Variable named) local answer tells = absurd tells
 rule_refused r c fault (Plan named) local answer tells = absurd tells

@@ -4,6 +4,8 @@ pub mod MetaNodes
 -- what a request comes to
 pub mod LocalRequests
 pub mod LocalAnswers
+pub mod AskedHere
+pub mod AskAlike
 pub mod LocalTexts
 -- what serves proofs
 pub mod Walking

@@ -1,7 +1,9 @@
 -- What a request of the gateway's own schema comes to.
-use Rattle.std.specs.Prelude.{◌≡◌, ◌≢◌, ◌<◌, Result, Ok, Err}
+use Rattle.std.specs.Prelude.{◌≡◌, ◌≢◌, ◌<◌, ◌⊎◌, Result, Ok, Err}
 use Rattle.document_reader.specs.declared.trees.Operation.{Operation}
 use Rattle.response_model.specs.Response.{Tree}
+use Rattle.operation_class.specs.declared.classes.Class.TheVariants.{Mixed as MixedClass}
+use Rattle.operation_class.specs.Classes.{class_at}
 use Rattle.document_rules.specs.declared.rule.RuleFault.{RuleFault}
 use Rattle.document_rules.specs.declared.rule.RuleFault.TheVariants.{Memory as NoRuleMemory}
 use Rattle.document_rules.specs.Checking.{first_broken}
@@ -21,11 +23,11 @@ use Rattle.local_introspection.specs.LocalRequests.{LocalRequest, AsksFor, Keeps
 abbrev pub IsAnsweredWith : LocalRequest → Local → Type 0
 IsAnsweredWith r local = (p : Prepared r) × IsPlannedWell r p × (t : Tree) × IsTheAnswer r p t × IsWritten r p t local
 
--- A request is refused for the first rule that its operation breaks over the schema of schemas; or for the first variable that is
--- refused; or since it isn't planned; or since the one answer to it has more than 1,000,000 values. What stands before in this order
--- is passed. Whether fields of another schema stand beside is told before all of these.
+-- A request is refused since a field stands beside that the gateway can't answer, as the class of its operation tells; or for the first
+-- rule that the operation breaks over the schema of schemas; or for the first variable that is refused; or since it isn't planned; or
+-- since the one answer to it has more than 1,000,000 values. What stands before in this order is passed.
 abbrev pub IsRefusedFor : LocalRequest → LocalFault → Type 0
-IsRefusedFor r (Mixed at) = ⊥
+IsRefusedFor r (Mixed at) = class_at r.document r.place ≡ MixedClass at
 IsRefusedFor r (Rule fault) = (o : Operation) × AsksFor r o × NamesBreach fault (first_broken r.schema r.document o)
 IsRefusedFor r (Variable fault) = (o : Operation) × KeepsRules r o × NamesVariable fault (variables_answer r.schema o.variables.items r.given)
 IsRefusedFor r (Plan fault) = (p : Prepared r) × NamesNode fault (plan_answer r p)
@@ -35,6 +37,10 @@ IsRefusedFor r Memory = Unit {0}
 abbrev pub ComesTo : LocalRequest → Result Local LocalFault → Type 0
 ComesTo r (Ok local) = IsAnsweredWith r local
 ComesTo r (Err fault) = IsRefusedFor r fault
+
+-- It is answered, or refused for something else than want of memory.
+abbrev pub HasVerdict : LocalRequest → Type 0
+HasVerdict r = ((local : Local) × IsAnsweredWith r local) ⊎ ((fault : LocalFault) × (fault ≢ Memory) × IsRefusedFor r fault)
 
 -- ---- the fault of a stage is told, and want of memory as such
 

@@ -14,6 +14,8 @@ use Rattle.schema_model.specs.SchemaViews.{schema_data}
 use Rattle.cost_directives.specs.Weights.{WeightsData}
 use Rattle.cost_directives.specs.WeightViews.{weights_data}
 use Rattle.variable_coercion.specs.Variables.{VariableData, values_by_name, variables_answer}
+use Rattle.operation_class.specs.declared.classes.Class.TheVariants.{Local as LocalClass}
+use Rattle.operation_class.specs.Classes.{class_at}
 use Rattle.document_rules.specs.declared.checking.Checked.{Checked}
 use Rattle.document_rules.specs.Parts.{operation_at}
 use Rattle.document_rules.specs.Sites.{type_of_kind}
@@ -46,13 +48,17 @@ pub record LocalRequest : Type 0 where
 abbrev pub local_request : Facts → List Definition → ℕ → Data → LocalRequest
 local_request f document place given = record { facts = facts_data f.known; schema = schema_data f.meta.schema; weights = weights_data f.meta.weights; document = document; place = place; given = given }
 
--- The schema of schemas is that of the type of queries.
+-- The schema of schemas is built of the text with the name of the type of queries.
 abbrev pub IsMade : Facts → Type 0
 IsMade f = IsMetaSchema (facts_data f.known).query_name f.meta
 
--- the operation that is asked for
+-- The gateway answers the operation at the place.
+abbrev pub IsLocal : LocalRequest → Type 0
+IsLocal r = class_at r.document r.place ≡ LocalClass
+
+-- the operation that is asked for, which the gateway answers
 abbrev pub AsksFor : LocalRequest → Operation → Type 0
-AsksFor r o = operation_at r.document r.place ≡ Some o
+AsksFor r o = (operation_at r.document r.place ≡ Some o) × IsLocal r
 
 -- It breaks no rule.
 abbrev pub KeepsRules : LocalRequest → Operation → Type 0

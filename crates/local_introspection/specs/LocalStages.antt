@@ -1,8 +1,6 @@
 -- What the stages of an answer hand on.
 use Rattle.std.specs.Prelude.{◌≡◌, List}
 use Rattle.serde_json.specs.View.{view}
-use Rattle.operation_class.specs.declared.classes.Class.TheVariants.{Local as LocalClass}
-use Rattle.operation_class.specs.Classes.{class_at}
 use Rattle.document_rules.specs.declared.checking.Checked.{Checked}
 use Rattle.variable_coercion.specs.declared.variables.Variables.{Variables}
 use Rattle.plan_model.specs.Visits.{planned_well}
@@ -21,10 +19,6 @@ use Rattle.local_introspection.specs.LocalRequests.{LocalRequest, local_request,
 
 abbrev pub ask_data : Asking → LocalRequest
 ask_data a = local_request a.facts.now a.document.now.definitions.items a.place (view a.given.now)
-
--- The operation at the place is one that the gateway answers.
-abbrev pub IsLocal : LocalRequest → Type 0
-IsLocal r = class_at r.document r.place ≡ LocalClass
 
 -- What was checked is planned well over the schema of schemas.
 abbrev pub IsPlannedOver : Facts → Checked → Variables → Type 0

@@ -8,9 +8,9 @@ ghost use Rattle.document_rules.specs.Checking.{IsChecked};
 ghost use Rattle.variable_coercion.specs.Calls.{variables_data};
 ghost use Rattle.operation_class.specs.declared.classes.Class.TheVariants.{Local as LocalClass};
 ghost use Rattle.operation_class.specs.Classes.{class_at};
-ghost use Rattle.local_introspection.specs.LocalRequests.{local_request, IsMade, IsCheckFor, AreValues};
+ghost use Rattle.local_introspection.specs.LocalRequests.{local_request, IsLocal, IsCheckFor, AreValues};
 ghost use Rattle.local_introspection.specs.LocalAnswers.{IsRefusedFor, ComesTo, TellsRule, TellsVariable, TellsPlan};
-ghost use Rattle.local_introspection.specs.LocalStages.{ask_data, IsLocal, IsPlannedOver, AreAsked, stop_told};
+ghost use Rattle.local_introspection.specs.LocalStages.{ask_data, IsPlannedOver, AreAsked, stop_told};
 
 use crate::facts::Facts;
 use crate::fault::LocalFault;
@@ -151,8 +151,6 @@ fn written(
     variables: &Variables,
     nodes: &[AskedNode],
 ) -> Result<Local, LocalFault>
-    requires made { IsMade of.now.facts.now }
-    requires local { IsLocal (ask_data of.now) }
     requires of { IsCheckFor (ask_data of.now) checked.now }
     requires values { AreValues (ask_data of.now) checked.now.operation.now (variables_data variables.now) }
     requires planned { IsPlannedOver of.now.facts.now checked.now variables.now }
@@ -173,8 +171,7 @@ fn written(
 /// the schema of schemas, and whose every entry is what the schema's facts give. Or the first test that the operation doesn't
 /// pass: the rules (GraphQL October 2021, 5), the values of its variables (6.1.2), its plan (6.3.2), and the size of the answer.
 ///
-/// It asks that the facts were made by `Facts::make`, and that the operation at the place is local. `given` is an object of JSON; what is
-/// no object gives no variable a value.
+/// It asks that the operation at the place is local. `given` is an object of JSON; what is no object gives no variable a value.
 pub fn answer(
     alloc: Global,
     facts: &Facts,
@@ -182,7 +179,6 @@ pub fn answer(
     place: usize,
     given: &Value,
 ) -> Result<Local, LocalFault>
-    requires made { IsMade facts.now }
     requires local { class_at document.now.definitions.items place ≡ LocalClass }
     ensures comes_to { ComesTo (local_request facts.now document.now.definitions.items place (view given.now)) result }
     ensures within { IfOk result (λ local. IsWithin local.cost) }

@@ -9,8 +9,8 @@ use variable_coercion::CoerceFault;
 /// want of memory. The tests are those of any operation, over the schema of schemas.
 #[derive(Debug, Drop, Error)]
 pub enum LocalFault {
-    /// Beside a field that the gateway answers stands one that it can't, whose name begins at this offset. `answer` isn't
-    /// asked for such an operation.
+    /// Beside a field that the gateway answers stands one that it can't, whose name begins at this offset: the class of the
+    /// operation tells it, and `answer` isn't asked for such a one.
     #[error("the field at {at} can't be answered beside fields of the schema")]
     Mixed { at: usize },
     /// The operation breaks a rule.

@@ -16,6 +16,6 @@ mod walk;
 pub use answering::answer;
 pub use facts::Facts;
 pub use fault::LocalFault;
-pub use sharing::answers_are_shared;
+pub use sharing::{answers_are_shared, facts_are_shared};
 pub use telling::local_text;
 pub use walk::{Local, Stop, VALUE_LIMIT, write_answer};

@@ -4,4 +4,6 @@ pub mod BuiltFields
 pub mod Costless
 pub mod Leaves
 pub mod FoundFields
+pub mod Passed
+pub mod Kept
 pub mod Form

@@ -5,4 +5,5 @@ pub mod Fields
 pub mod MetaFields
 -- the schema that is built
 pub mod MetaTests
+pub mod TestedSchemas
 pub mod MetaSchemas

@@ -4,10 +4,11 @@
 mod fields;
 mod laws;
 mod made;
+mod schema;
 mod tables;
 mod testing;
 
 pub use fields::what_asked;
 pub use laws::a_meta_schema_has_its_form;
-pub use made::MetaSchema;
+pub use schema::MetaSchema;
 pub use tables::weight_of;

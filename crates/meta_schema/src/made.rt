@@ -1,27 +1,22 @@
 //! The schema of schemas, built of its text and tested.
 
-ghost use Rattle.std.specs.Prelude.{◌≡◌, IfOk};
+ghost use Rattle.std.specs.Prelude.{◌≡◌, IfOk, OnOk, true};
 ghost use Rattle.schema_reader.specs.Trees.{schema_trees};
 ghost use Rattle.schema_reader.specs.SchemaAnswers.{HasSchema};
 ghost use Rattle.schema_model.specs.SchemaViews.{schema_data};
 ghost use Rattle.cost_directives.specs.WeightViews.{weights_data};
 ghost use Rattle.cost_directives.specs.Weights.{weights_of};
 ghost use Rattle.schema_facts.specs.MetaText.{meta_text};
+ghost use Rattle.meta_schema.specs.MetaTests.{is_meta};
 ghost use Rattle.meta_schema.specs.MetaSchemas.{IsOfMetaText, IsMetaSchema};
 
+use crate::schema::MetaSchema;
 use crate::testing::is_meta;
 use cost_directives::Weights;
 use schema_facts::meta_text;
 use schema_model::{Schema, build_meta};
 use schema_reader::{SchemaText, read_schema_text};
 use std::alloc::{AllocError, Global};
-
-/// The schema of schemas, and what its fields weigh.
-#[derive(Drop)]
-pub struct MetaSchema {
-    pub schema: Schema,
-    pub weights: Weights,
-}
 
 // The text is a schema text, whatever the name of its type of queries is.
 fn read_meta(alloc: Global, query: &str) -> Result<SchemaText, AllocError>
@@ -55,6 +50,17 @@ fn meta_weights(alloc: Global, schema: &Schema) -> Result<Weights, AllocError>
     }
 }
 
+// It is the schema of schemas.
+fn tested(query: &str, schema: &Schema, weights: &Weights) -> Result<(), AllocError>
+    ensures { OnOk result (is_meta query.now (schema_data schema.now) (weights_data weights.now) ≡ true) }
+{
+    if is_meta(query, schema, weights) {
+        Ok(())
+    } else {
+        Err(AllocError)
+    }
+}
+
 impl MetaSchema {
     /// The schema of schemas whose type of queries has this name. It asks for a name. It fails for want of memory alone, since its text
     /// has no fault and says what is tested.
@@ -63,10 +69,7 @@ impl MetaSchema {
     {
         let schema = meta_schema(alloc, query)?;
         let weights = meta_weights(alloc, &schema)?;
-        if is_meta(query, &schema, &weights) {
-            Ok(MetaSchema { schema, weights })
-        } else {
-            Err(AllocError)
-        }
+        tested(query, &schema, &weights)?;
+        Ok(MetaSchema { schema, weights })
     }
 }

@@ -1,5 +1,5 @@
 -- The walk over root fields, step after step.
-use Rattle.std.proofs.Common.{◌≡◌, ◌+◌, ◌<◌, ◌≤◌, ◌-◌, ℕ, zero, suc, Bool, true, false, List, [], ◌∷◌, ◌++◌, map, take, length, get_or, set, replicate, Option, None, Some, refl, sym, ap, ap₂, ◌∙◌, subst, arith, append_assoc, append-nil, length-append, true≢false}
+use Rattle.std.proofs.Common.{◌≡◌, ◌+◌, ◌<◌, ◌≤◌, ◌-◌, ℕ, zero, suc, Bool, true, false, List, [], ◌∷◌, ◌++◌, map, take, length, get_or, set, replicate, Option, None, Some, refl, sym, ap, ap₂, ◌∙◌, arith, append_assoc, append-nil, length-append, true≢false}
 use Rattle.std.specs.Prelude.{slice_get, option_to_list, MatchOption}
 use Rattle.std.specs.Borrow.{Bor}
 use Rattle.gql_base.specs.declared.parts.trees.Name.{Name}
@@ -10,14 +10,14 @@ use Rattle.document_rules.specs.Parts.{FragmentData, fragment_name}
 use Rattle.document_rules.specs.Views.{seen_name}
 use Rattle.operation_class.specs.declared.root_fields.Defined.{Defined}
 use Rattle.operation_class.specs.declared.root_parts.Part.{Part}
-use Rattle.operation_class.specs.RootParts.{RootPart, field_part, spread_part, root_parts, part_data, waiting}
-use Rattle.operation_class.specs.RootFields.{defined_data, parts_in, after_visit, after_spread, fields_within, count_parts, root_fields}
+use Rattle.operation_class.specs.RootParts.{field_part, spread_part, root_parts, part_data, waiting}
+use Rattle.operation_class.specs.RootFields.{defined_data, parts_in, after_spread, fields_within, count_parts, root_fields}
 use Rattle.operation_class.specs.Steps.{data_of, unvisited, LeavesFewer, Enters, Steps}
 use Rattle.operation_class.proofs.PartSteps.{waiting_pushed, length_waiting}
 
 -- ---- how many parts may still come
 
-none_visited : (fragments : List FragmentData) → unvisited (replicate (length fragments) false) fragments ≡ count_parts fragments
+pub none_visited : (fragments : List FragmentData) → unvisited (replicate (length fragments) false) fragments ≡ count_parts fragments
 none_visited [] = refl
 none_visited (f ∷ fragments) = ap (λ n. length (root_parts f.below) + n) (none_visited fragments)
 
@@ -25,7 +25,7 @@ abbrev pub count_at : Option FragmentData → ℕ
 count_at None = 0
 count_at (Some f) = length (root_parts f.below)
 
-visited_once : (marks : List Bool) (fragments : List FragmentData) (k : ℕ) → length marks ≡ length fragments → k < length marks → get_or marks k false ≡ false
+pub visited_once : (marks : List Bool) (fragments : List FragmentData) (k : ℕ) → length marks ≡ length fragments → k < length marks → get_or marks k false ≡ false
     → unvisited (set marks k true) fragments + count_at (slice_get fragments k) ≡ unvisited marks fragments
 visited_once [] fragments k each within new = absurd (omega (arith, within))
 visited_once (b ∷ marks) [] k each within new = absurd (cc)

@@ -1,5 +1,5 @@
 -- Where an operation is answered. Only a query is answered by the gateway.
-use Rattle.std.specs.Prelude.{ℕ, Bool, true, false, ◌||◌, ◌&&◌, not, List, [], ◌∷◌, map, Option, None, Some, codes, if◌then◌else◌}
+use Rattle.std.specs.Prelude.{ℕ, Bool, false, ◌||◌, ◌&&◌, not, List, [], ◌∷◌, map, Option, None, Some, codes, if◌then◌else◌}
 use Rattle.std.specs.Str.{bytes_eq}
 use Rattle.gql_base.specs.ways.Reading.{Identifier}
 use Rattle.gql_base.specs.declared.parts.trees.OperationKind.{OperationKind}
@@ -42,8 +42,12 @@ class_of_kind Query class = class
 class_of_kind Mutation class = Upstream
 class_of_kind Subscription class = Upstream
 
+-- the names of the fields at the root of an operation
+abbrev pub root_names : List Definition → Operation → List Identifier
+root_names definitions o = root_fields (map fragment_data (fragments_of definitions)) (set_tree o.selections.items)
+
 abbrev pub class_of : List Definition → Operation → Class
-class_of definitions o = class_of_kind o.kind (class_by_fields (root_fields (map fragment_data (fragments_of definitions)) (set_tree o.selections.items)))
+class_of definitions o = class_of_kind o.kind (class_by_fields (root_names definitions o))
 
 abbrev pub class_there : List Definition → Option Operation → Class
 class_there definitions None = Upstream

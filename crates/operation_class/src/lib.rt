@@ -3,9 +3,12 @@
 #![tactic(auto)]
 
 mod classes;
+pub mod laws;
 mod operations;
 mod root_fields;
 mod root_parts;
+mod routes;
 
 pub use classes::Class;
 pub use operations::class;
+pub use routes::{Route, route_of};

@@ -3,3 +3,7 @@ pub mod Lists
 pub mod MakingSteps
 pub mod Listed
 pub mod Arguments
+pub mod TurnedLists
+pub mod PossibleSteps
+pub mod SharedParts
+pub mod SharedFacts

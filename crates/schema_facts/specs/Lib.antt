@@ -7,3 +7,5 @@ pub mod Things
 pub mod Table
 -- what serves proofs
 pub mod Making
+pub mod Turning
+pub mod Possible

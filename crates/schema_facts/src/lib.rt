@@ -12,9 +12,11 @@ mod members;
 mod meta_schema;
 mod possible;
 mod scalars;
+mod sharing;
 mod sorting;
 mod table;
 mod things;
+mod turned;
 mod types;
 
 pub use facts::SchemaFacts;
@@ -22,5 +24,6 @@ pub use held::Held;
 pub use known::KnownType;
 pub use making::facts_of;
 pub use meta_schema::meta_text;
+pub use sharing::facts_are_shared;
 pub use table::{What, look_up};
 pub use things::Thing;

@@ -125,8 +125,8 @@ fn facts_with(
 ) -> Result<SchemaFacts, AllocError>
     ensures { IfOk result (λ f. facts_data f ≡ facts_with description (map known_type types.items) told.now.query told.now.mutation told.now.subscription (map definition_tree directives.items)) }
 {
-    let possible = all_possible(alloc, &types)?;
     let types = index_owned(alloc, types)?;
+    let possible = all_possible(alloc, &types)?;
     let query_name = Text::copy_of(alloc, or_empty(&told.query))?;
     Ok(SchemaFacts {
         description,
@@ -140,7 +140,8 @@ fn facts_with(
     })
 }
 
-/// What is known of a schema by its text, which it keeps. It fails for want of memory alone.
+/// What is known of a schema by its text, which it keeps. Of a text that `Schema::build` accepts it fails for want of memory alone; of
+/// another one, such as one without a type of queries, it may say so too.
 pub fn facts_of(alloc: Global, text: SchemaText) -> Result<SchemaFacts, AllocError>
     ensures { IfOk result (λ f. AreFacts (schema_trees text) (facts_data f)) }
 {

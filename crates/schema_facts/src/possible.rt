@@ -1,116 +1,173 @@
 //! The possible types of interfaces and unions (GraphQL October 2021, 5.5.2.3).
 
 ghost use Rattle.std.specs.Prelude.{◌≡◌, map, IfOk};
-ghost use Rattle.std.specs.List.{list_any};
-ghost use Rattle.std.specs.Str.{bytes_eq};
-ghost use Rattle.schema_facts.specs.Facts.{known_type, implements, is_member, numbers_from, possible_types, numbers_in, possible_by};
-ghost use Rattle.schema_reader.specs.Trees.{body_tree};
+ghost use Rattle.schema_facts.specs.Facts.{known_type, number_named, possible_types, numbers_in};
+ghost use Rattle.schema_facts.specs.Possible.{list_at, interfaces_of, members_of, implemented, joined, joining, found_of, found_from, is_object};
 
 use crate::known::KnownType;
-use gql_base::{NameIndex, Text, index_of};
-use schema_reader::{DefBody, SchemaDef};
+use crate::turned::turned;
+use crate::types::number_in;
+use gql_base::{Indexed, Named, Text};
+use schema_reader::DefBody;
 use std::alloc::{AllocError, Global};
 
-fn is_among(names: &[Text], name: &str) -> bool
-    ensures { result ≡ list_any (bytes_eq name.now) names.now }
-{
-    'names: for other in names {
-        if name == other.as_str() {
-            return true;
-        }
-    }
-    false
-}
-
-fn implements(name: &str, known: &KnownType) -> bool
-    ensures { result ≡ implements name.now (known_type known.now) }
+fn interfaces_of(known: &KnownType) -> &[Text]
+    ensures { result.now ≡ interfaces_of (known_type known.now) }
 {
     match known {
-        KnownType::BuiltIn(_) => false,
         KnownType::Defined(definition) => match &definition.body {
-            DefBody::Object { interfaces, .. } => is_among(interfaces, name),
-            _ => false,
+            DefBody::Object { interfaces, .. } => interfaces,
+            _ => &[],
         },
+        KnownType::BuiltIn(_) => &[],
     }
 }
 
-fn is_member(members: &NameIndex<'_, Text>, known: &KnownType) -> bool
-    ensures { result ≡ is_member members.now.items.now (known_type known.now) }
+fn members_of(known: &KnownType) -> &[Text]
+    ensures { result.now ≡ members_of (known_type known.now) }
 {
     match known {
-        KnownType::BuiltIn(_) => false,
         KnownType::Defined(definition) => match &definition.body {
-            DefBody::Object { .. } => members.has(definition.name.as_str()),
-            _ => false,
+            DefBody::Union(members) => members,
+            _ => &[],
         },
+        KnownType::BuiltIn(_) => &[],
     }
 }
 
-fn implementing(alloc: Global, name: &str, types: &[KnownType]) -> Result<Vec<usize>, AllocError>
-    ensures { IfOk result (λ v. v.items ≡ numbers_from 0 (implements name.now) (map known_type types.now)) }
+fn numbers_named(
+    alloc: Global,
+    types: &Indexed<KnownType>,
+    names: &[Text],
+) -> Result<Vec<usize>, AllocError>
+    ensures { IfOk result (λ v. v.items ≡ map (number_named (map known_type types.now.items.items)) names.now) }
 {
     let mut numbers = Vec::new(alloc);
-    'types: for number in 0..types.len() {
-        if implements(name, &types[number]) {
-            numbers.push(number)?;
-        }
+    'names: for name in names {
+        numbers.push(number_in(types, name.as_str()))?;
     }
     Ok(numbers)
 }
 
-fn members_among(
-    alloc: Global,
-    members: &NameIndex<'_, Text>,
-    types: &[KnownType],
-) -> Result<Vec<usize>, AllocError>
-    ensures { IfOk result (λ v. v.items ≡ numbers_from 0 (is_member members.now.items.now) (map known_type types.now)) }
+// The interfaces that each object type implements.
+fn implemented(alloc: Global, types: &Indexed<KnownType>) -> Result<Vec<Vec<usize>>, AllocError>
+    ensures { IfOk result (λ v. map numbers_in v.items ≡ map (implemented (map known_type types.now.items.items)) (map known_type types.now.items.items)) }
 {
-    let mut numbers = Vec::new(alloc);
-    'types: for number in 0..types.len() {
-        if is_member(members, &types[number]) {
-            numbers.push(number)?;
-        }
+    let mut lists = Vec::new(alloc);
+    'types: for known in types.items() {
+        lists.push(numbers_named(alloc, types, interfaces_of(known))?)?;
     }
-    Ok(numbers)
+    Ok(lists)
 }
 
-fn possible_by(
-    alloc: Global,
-    types: &[KnownType],
-    definition: &SchemaDef,
-) -> Result<Vec<usize>, AllocError>
-    ensures { IfOk result (λ v. v.items ≡ possible_by (map known_type types.now) definition.now.name (body_tree definition.now.body)) }
+// The members of each union.
+fn joined(alloc: Global, types: &Indexed<KnownType>) -> Result<Vec<Vec<usize>>, AllocError>
+    ensures { IfOk result (λ v. map numbers_in v.items ≡ map (joined (map known_type types.now.items.items)) (map known_type types.now.items.items)) }
 {
-    match &definition.body {
-        DefBody::Interface { .. } => implementing(alloc, definition.name.as_str(), types),
-        DefBody::Union(members) => {
-            let members = index_of(alloc, members)?;
-            members_among(alloc, &members, types)
-        }
-        _ => Ok(Vec::new(alloc)),
+    let mut lists = Vec::new(alloc);
+    'types: for known in types.items() {
+        lists.push(numbers_named(alloc, types, members_of(known))?)?;
+    }
+    Ok(lists)
+}
+
+fn copied_at(alloc: Global, lists: &[Vec<usize>], place: usize) -> Result<Vec<usize>, AllocError>
+    ensures { IfOk result (λ v. v.items ≡ list_at (map numbers_in lists.now) place) }
+{
+    match lists.get(place) {
+        Some(list) => Vec::from_slice(alloc, list),
+        None => Ok(Vec::new(alloc)),
     }
 }
 
-fn possible_types(
+fn is_object(known: &KnownType) -> bool
+    ensures { result ≡ is_object (known_type known.now) }
+{
+    match known {
+        KnownType::Defined(definition) => matches!(definition.body, DefBody::Object { .. }),
+        KnownType::BuiltIn(_) => false,
+    }
+}
+
+fn joining_of(
     alloc: Global,
-    types: &[KnownType],
+    types: &Indexed<KnownType>,
+    unions: &[Vec<usize>],
     known: &KnownType,
 ) -> Result<Vec<usize>, AllocError>
-    ensures { IfOk result (λ v. v.items ≡ possible_types (map known_type types.now) (known_type known.now)) }
+    ensures { IfOk result (λ v. v.items ≡ joining (map known_type types.now.items.items) (map numbers_in unions.now) (known_type known.now)) }
+{
+    if is_object(known) {
+        copied_at(alloc, unions, number_in(types, known.name()))
+    } else {
+        Ok(Vec::new(alloc))
+    }
+}
+
+// The unions that each object type is a member of, where those that name it stand at its number.
+fn joining(
+    alloc: Global,
+    types: &Indexed<KnownType>,
+    unions: &[Vec<usize>],
+) -> Result<Vec<Vec<usize>>, AllocError>
+    ensures { IfOk result (λ v. map numbers_in v.items ≡ map (joining (map known_type types.now.items.items) (map numbers_in unions.now)) (map known_type types.now.items.items)) }
+{
+    let mut lists = Vec::new(alloc);
+    'types: for known in types.items() {
+        lists.push(joining_of(alloc, types, unions, known)?)?;
+    }
+    Ok(lists)
+}
+
+// The possible types of a type of a number, where those that implement an interface stand at the number that its name has, and
+// the members of a union at its own.
+fn found_of(
+    alloc: Global,
+    types: &Indexed<KnownType>,
+    implementing: &[Vec<usize>],
+    members: &[Vec<usize>],
+    number: usize,
+    known: &KnownType,
+) -> Result<Vec<usize>, AllocError>
+    ensures { IfOk result (λ v. v.items ≡ found_of (map known_type types.now.items.items) (map numbers_in implementing.now) (map numbers_in members.now) number (known_type known.now)) }
 {
     match known {
+        KnownType::Defined(definition) => match &definition.body {
+            DefBody::Interface { .. } => {
+                copied_at(alloc, implementing, number_in(types, known.name()))
+            }
+            DefBody::Union(_) => copied_at(alloc, members, number),
+            _ => Ok(Vec::new(alloc)),
+        },
         KnownType::BuiltIn(_) => Ok(Vec::new(alloc)),
-        KnownType::Defined(definition) => possible_by(alloc, types, definition),
     }
+}
+
+fn found(
+    alloc: Global,
+    types: &Indexed<KnownType>,
+    implementing: &[Vec<usize>],
+    members: &[Vec<usize>],
+) -> Result<Vec<Vec<usize>>, AllocError>
+    ensures { IfOk result (λ v. map numbers_in v.items ≡ found_from (map known_type types.now.items.items) (map numbers_in implementing.now) (map numbers_in members.now) 0 (map known_type types.now.items.items)) }
+{
+    let known = types.items();
+    let mut all = Vec::new(alloc);
+    'types: for number in 0..known.len() {
+        all.push(found_of(alloc, types, implementing, members, number, &known[number])?)?;
+    }
+    Ok(all)
 }
 
 /// The possible types of each type. It fails for want of memory alone.
-pub fn all_possible(alloc: Global, types: &[KnownType]) -> Result<Vec<Vec<usize>>, AllocError>
-    ensures { IfOk result (λ v. map numbers_in v.items ≡ map (possible_types (map known_type types.now)) (map known_type types.now)) }
+pub fn all_possible(
+    alloc: Global,
+    types: &Indexed<KnownType>,
+) -> Result<Vec<Vec<usize>>, AllocError>
+    ensures { IfOk result (λ v. map numbers_in v.items ≡ map (possible_types (map known_type types.now.items.items)) (map known_type types.now.items.items)) }
 {
-    let mut all = Vec::new(alloc);
-    'types: for known in types {
-        all.push(possible_types(alloc, types, known)?)?;
-    }
-    Ok(all)
+    let implementing = turned(alloc, &implemented(alloc, types)?)?;
+    let unions = turned(alloc, &joined(alloc, types)?)?;
+    let members = turned(alloc, &joining(alloc, types, &unions)?)?;
+    found(alloc, types, &implementing, &members)
 }

@@ -1,4 +1,4 @@
-use Rattle.std.proofs.Common.{arith, length, ap, sym, ◌∙◌, get_or, false}
+use Rattle.std.proofs.Common.{arith, ap, sym, ◌∙◌, get_or, false}
 use Rattle.std.proofs.lemmas.List.{length-map}
 use Rattle.std.proofs.lemmas.Result.{on_ok_weaker}
 use Rattle.document_reader.specs.Trees.{set_tree}
