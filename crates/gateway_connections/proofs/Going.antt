@@ -5,19 +5,16 @@ use Rattle.std.proofs.lemmas.List.{length-append}
 use Rattle.std.proofs.lemmas.Bool.Decides.{nat_tests}
 use Rattle.std.specs.Io.KnownBytes.{Appends}
 use Rattle.account_shared.specs.Views.{PassesView}
-use Rattle.account_shared.specs.Gains.{Gains}
-use Rattle.outside.specs.Taken.{Took}
 use Rattle.outside.proofs.Taking.{took_none, took_more}
 use Rattle.doors.specs.Visits.{Told}
-use Rattle.http_front.specs.Asks.{IsAsk}
 use Rattle.gateway_connections.specs.declared.ending.ConnectionEnd.{ConnectionEnd}
 use Rattle.gateway_connections.specs.declared.ending.ConnectionEnd.TheVariants as ending
 use Rattle.gateway_connections.specs.declared.ending.Served.{Served}
 use Rattle.gateway_connections.specs.declared.reply.Reply.{Reply}
 use Rattle.gateway_connections.specs.Replies.{written}
-use Rattle.gateway_connections.specs.Exchanges.{Service, Exchange, IsExchange, AreExchanges}
-use Rattle.gateway_connections.specs.Connections.{Connection, Stop, not_begun, StopsAt, EndsWith, AsksTo, GoesOn, carries, closes, last_of, all_of, calls_of, replies_from}
-use Rattle.gateway_connections.specs.Serving.{Makes, Serves, Turns, TurnsTo, GoesOnAfter}
+use Rattle.gateway_connections.specs.Exchanges.{Service, Exchange, IsExchange}
+use Rattle.gateway_connections.specs.Connections.{Stop, not_begun, StopsAt, EndsWith, carries, closes, last_of, calls_of, replies_from}
+use Rattle.gateway_connections.specs.Serving.{Makes, Serves, Turns, GoesOnAfter}
 use Rattle.gateway_connections.proofs.Growing.{leaves_none, makes_none, makes_then, asks_none, asks_grow, asks_more, none_made, one_more_made, each_more, no_replies, one_more_reply, appended_then}
 
 pub appended_none : (written : Option (List ℕ)) → Appends written written []

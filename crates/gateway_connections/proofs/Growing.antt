@@ -1,19 +1,18 @@
 -- Exchanges one after the other: what they add up to.
-use Rattle.std.proofs.Common.{inl, ◌≡◌, ℕ, ◌+◌, List, [], ◌∷◌, ◌++◌, length, map, refl, sym, ap, ◌∙◌, subst, append_assoc, arith, Option, Some, None, Bool}
+use Rattle.std.proofs.Common.{inl, ◌≡◌, ℕ, ◌+◌, List, [], ◌∷◌, ◌++◌, length, refl, sym, ap, ◌∙◌, subst, append_assoc, arith, Option, Some, None}
 use Rattle.std.proofs.lemmas.List.{append-nil, length-append}
 use Rattle.std.specs.Io.KnownBytes.{Appends}
 use Rattle.std.specs.List.{AllByRecursion}
 use Rattle.account_shared.specs.Views.{PassesView}
-use Rattle.account_shared.specs.Gains.{ClientCall, Gains}
+use Rattle.account_shared.specs.Gains.{Gains}
 use Rattle.account_shared.proofs.Stretches.{none_gained, gained_then}
 use Rattle.outside.specs.Dials.{Dial, Logged, LoggedBy}
 use Rattle.outside.specs.Faults.{RoseBy}
 use Rattle.outside.specs.Ticks.{Ticks}
 use Rattle.outside.proofs.Dialling.{logged_none, logged_by_then}
-use Rattle.outside.proofs.Readings.{ticks_none, ticks_one, ticks_then}
+use Rattle.outside.proofs.Readings.{ticks_none, ticks_then}
 use Rattle.outside.proofs.Rises.{rose_by_none, rose_then}
 use Rattle.doors.specs.Visits.{Told}
-use Rattle.http_front.specs.declared.front.Ask.{Ask}
 use Rattle.http_front.specs.Asks.{IsAsk}
 use Rattle.http_front.proofs.OneAnswer.{ask_stays}
 use Rattle.gateway_connections.specs.Replies.{written}

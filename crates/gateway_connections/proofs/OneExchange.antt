@@ -1,14 +1,16 @@
 -- One exchange, and its turn.
-use Rattle.std.proofs.Common.{◌≡◌, ℕ, ◌+◌, ◌⊎◌, inl, inr, List, [], ◌∷◌, ◌++◌, refl, sym, ap, ◌∙◌, subst, arith, Bool, true, false, Option, Some, None, Result}
+use Rattle.std.proofs.Common.{◌≡◌, ℕ, ◌+◌, inl, inr, List, [], ◌∷◌, refl, sym, ap, subst, arith, Bool, true, false, not, cond, nat_eq, Option, Some, None, Result}
 use Rattle.std.specs.Prelude.{IfSome}
 use Rattle.std.specs.Io.KnownBytes.{Appends}
 use Rattle.account_shared.specs.Views.{PassesView, IsIdle}
-use Rattle.account_shared.specs.Gains.{Gains}
+use Rattle.std.proofs.lemmas.Bool.{and_from, eq-eqb}
+use Rattle.account_core.specs.Machine.{reservation, settlement, granted, done, Entry, entry, grant, is_grant}
+use Rattle.account_shared.specs.Gains.{ClientCall, client_call, grants_past, Gains, LeavesNoneOpen}
 use Rattle.account_shared.proofs.Idle.{idle_past, idle_past_refusal}
 use Rattle.outside.specs.Contents.{AppendsFront}
 use Rattle.outside.specs.Dials.{Dial, LoggedBy}
 use Rattle.outside.specs.Faults.{RoseBy}
-use Rattle.outside.specs.Ticks.{Tick, Ticks}
+use Rattle.outside.specs.Ticks.{Tick}
 use Rattle.outside.proofs.Readings.{ticks_one}
 use Rattle.doors.specs.Visits.{Told}
 use Rattle.http_front.specs.declared.fault.FrontFault.{FrontFault}
@@ -19,17 +21,18 @@ use Rattle.upstream_link.specs.declared.fault.LinkFault.{LinkFault}
 use Rattle.upstream_link.specs.declared.reply.UpstreamReply.{UpstreamReply}
 use Rattle.upstream_link.specs.Exchanges.{CameTo}
 use Rattle.gateway_core.specs.declared.beginning.Denial.{Denial}
-use Rattle.gateway_core.specs.declared.beginning.Denial.TheVariants.{UnknownKey, BadBody, Refused, Short, Memory}
+use Rattle.gateway_core.specs.declared.beginning.Denial.TheVariants.{UnknownKey, Unexpanded, BadBody, Refused, NotLocal, Short, Memory}
 use Rattle.gateway_core.specs.declared.beginning.Begun.TheVariants.{Denied}
-use Rattle.gateway_core.specs.Begins.{calls_begun}
+use Rattle.gateway_core.specs.declared.beginning.LocalAnswer.{LocalAnswer}
+use Rattle.gateway_core.specs.Begins.{calls_begun, calls_answered}
 use Rattle.gateway_connections.specs.declared.reply.Reply.{Reply}
 use Rattle.gateway_connections.specs.declared.ending.ConnectionEnd.{ConnectionEnd}
 use Rattle.gateway_connections.specs.declared.ending.ConnectionEnd.TheVariants as ending
 use Rattle.gateway_connections.specs.declared.ending.Served.{Served}
 use Rattle.gateway_connections.specs.Replies.{written}
 use Rattle.gateway_connections.specs.Exchanges.{Service, Exchange, IsExchange, downs, failures}
-use Rattle.gateway_connections.specs.Connections.{Answers, Refuses, UnlessEndsBy, after_last, carries, calls_of, dials_of, downs_of, failures_of}
-use Rattle.gateway_connections.specs.Serving.{Makes, Leaves, TurnsTo}
+use Rattle.gateway_connections.specs.Connections.{Answers, Refuses, UnlessEndsBy, after_last}
+use Rattle.gateway_connections.specs.Serving.{Makes, TurnsTo}
 use Rattle.gateway_connections.proofs.Growing.{calls_one, dials_one, downs_one, failures_one}
 
 pub some_then : (o : Option (List ℕ)) (P Q : List ℕ → Type 0) → ((kept : List ℕ) → P kept → Q kept) → IfSome o P → IfSome o Q
@@ -42,10 +45,33 @@ at_some o kept P e h = subst (λ v. IfSome v P) e h
 -- a denial leaves no grant open
 pub denied_idle : (p q : PassesView) (client window : ℕ) (denial : Denial) → Gains p q (calls_begun client window (Denied denial)) → IsIdle p → IsIdle q
 denied_idle p q client window UnknownKey g idle = idle_past p q [] g idle (λ k. refl)
+denied_idle p q client window (Unexpanded f) g idle = idle_past p q [] g idle (λ k. refl)
 denied_idle p q client window (BadBody f) g idle = idle_past p q [] g idle (λ k. refl)
+denied_idle p q client window (NotLocal f) g idle = idle_past p q [] g idle (λ k. refl)
 denied_idle p q client window (Refused r) g idle = idle_past p q [] g idle (λ k. refl)
 denied_idle p q client window (Short left bound) g idle = idle_past_refusal p q client window bound left g idle
 denied_idle p q client window Memory g idle = idle_past p q [] g idle (λ k. refl)
+
+-- nor does what was answered, whose grant was settled
+pub answered_idle : (p q : PassesView) (client window : ℕ) (answer : LocalAnswer) → answer.seq ≡ p.made → Gains p q (calls_answered client window answer) → IsIdle p → IsIdle q
+answered_idle p q client window answer numbered gains idle =
+    idle_past p q (calls_with answer.seq) gains idle (subst (λ n. LeavesNoneOpen p (calls_with n)) (sym numbered) (λ k. none (nat_eq client k)))
+  where
+    calls_with : ℕ → List ClientCall
+    calls_with n = client_call client (reservation window answer.finished.bound) (granted answer.window) ∷ client_call client (settlement n answer.window answer.finished.bound answer.finished.charged) done ∷ []
+
+    name : ℕ
+    name = p.label.name
+
+    own : is_grant name p.made (grant name p.made answer.window answer.finished.bound) ≡ true
+    own = and_from (nat_eq name name) (nat_eq p.made p.made) (eq-eqb name name refl) (eq-eqb p.made p.made refl)
+
+    opened : Bool → List Entry
+    opened b = cond b (entry name p.made (reservation window answer.finished.bound) (granted answer.window) ∷ []) []
+
+    none : (b : Bool) → grants_past [] (cond b (entry name p.made (reservation window answer.finished.bound) (granted answer.window) ∷ cond b (entry name (p.made + 1) (settlement p.made answer.window answer.finished.bound answer.finished.charged) done ∷ []) []) (cond b (entry name (p.made + 1) (settlement p.made answer.window answer.finished.bound answer.finished.charged) done ∷ []) [])) ≡ []
+    none true = ap (λ t. cond (not t) (grant name p.made answer.window answer.finished.bound ∷ []) []) own
+    none false = refl
 
 came_anyhow : (Untouched : Type 0) (request : List ℕ) (r : Result UpstreamReply LinkFault) (dials : List Dial) → CameTo Untouched request r dials → CameTo (Unit {0}) request r dials
 came_anyhow Untouched request r [] none = (none.0, tt)
@@ -64,7 +90,17 @@ exchange_anyhow s made Untouched x (inl d) = inl record {
   untouched = tt;
   reply = d.reply;
 }
-exchange_anyhow s made Untouched x (inr f) = inr record {
+exchange_anyhow s made Untouched x (inr (inr a)) = inr (inr record {
+  client = a.client;
+  answer = a.answer;
+  is_answered = a.is_answered;
+  calls = a.calls;
+  outcome = a.outcome;
+  dials = a.dials;
+  untouched = tt;
+  reply = a.reply;
+})
+exchange_anyhow s made Untouched x (inr (inl f)) = inr (inl record {
   client = f.client;
   grant = f.grant;
   is_granted = f.is_granted;
@@ -76,7 +112,7 @@ exchange_anyhow s made Untouched x (inr f) = inr record {
   bound = f.bound;
   calls = f.calls;
   reply = f.reply;
-}
+})
 
 -- just one exchange was made
 pub made_one : (p q : PassesView) (given back : Told) (x : Exchange) (moment : ℕ) → Gains p q x.calls → x.moment ≡ moment → Tick given.readings moment back.readings

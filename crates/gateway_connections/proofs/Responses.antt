@@ -13,11 +13,11 @@ use Rattle.upstream_link.specs.Exchanges.{CameTo}
 use Rattle.upstream_link.specs.Replies.{ReplyOf}
 use Rattle.upstream_link.specs.RequestBytes.{request_bytes}
 use Rattle.gateway_core.specs.declared.beginning.Denial.{Denial}
-use Rattle.gateway_core.specs.declared.beginning.Denial.TheVariants.{UnknownKey, BadBody, Refused, Short, Memory}
+use Rattle.gateway_core.specs.declared.beginning.Denial.TheVariants.{UnknownKey, Unexpanded, BadBody, Refused, NotLocal, Short, Memory}
 use Rattle.gateway_core.specs.declared.finishing.Finished.{Finished}
 use Rattle.gateway_core.specs.declared.grant.Grant.{Grant}
 use Rattle.gateway_core.specs.Rules.{Rules, window_of}
-use Rattle.gateway_core.specs.Requests.{IsPricedAt}
+use Rattle.gateway_core.specs.Requests.{IsPricedAt, IsPromisedFor, IsLocalAt}
 use Rattle.gateway_core.specs.declared.beginning.Begun.TheVariants.{Denied}
 use Rattle.gateway_core.specs.Begins.{IsDenied, IsUnfit, calls_begun}
 use Rattle.gateway_core.specs.Grants.{promise_of}
@@ -27,13 +27,15 @@ use Rattle.gateway_core.specs.Finishes.{finished_as, IsUnanswered, IsStarved, Is
 use Rattle.gateway_core.specs.Messages.{denial_text, no_memory_text}
 use Rattle.gateway_connections.specs.declared.reply.Reply.{Reply}
 use Rattle.gateway_connections.specs.Replies.{Tells, IsDenialReply, finished_reply}
-use Rattle.gateway_connections.specs.Exchanges.{Service, Exchange, WasForwarded, outcome_of}
-use Rattle.gateway_connections.specs.Measured.{WasExchanged, WasShort, Brought, WasBrought, IsDue, WasGiven, WasGivenOr500, WasDueAndGiven}
+use Rattle.gateway_connections.specs.Exchanges.{Service, Exchange, WasForwarded, WasAnswered, outcome_of}
+use Rattle.gateway_connections.specs.Measured.{WasExchanged, WasShort, Brought, WasBrought, IsDue, WasGiven, WasGivenOr500, WasDueAndGiven, WasAnsweredHere}
 
 -- A body is unfit or has a price; what is granted is answered as its reply is measured; and bytes begin with one reply.
 pub record OneResponse : Type 0 where
   pub priced : (rules : Rules) (body reply : List ℕ) (metered : Metered) → IsMeasuredFor rules body reply metered → (bound : Cost) × IsPricedAt rules body bound
   pub priced_or_unfit : (rules : Rules) (body : List ℕ) (bound : Cost) (denial : Denial) → denial ≢ Memory → IsPricedAt rules body bound → IsUnfit rules body denial → ⊥
+  pub priced_or_local : (rules : Rules) (body : List ℕ) (bound cost : Cost) → IsPricedAt rules body bound → IsLocalAt rules body cost → ⊥
+  pub granted : (rules : Rules) (body : List ℕ) (g : Grant) → IsPromisedFor rules body (promise_of g) → IsPricedAt rules body g.ticket.bound
   pub finished : (rules : Rules) → HasNamedTypes rules → MeasuredIsAnswered rules
   pub no_fault : (bytes : List ℕ) (ended : Bool) (reply : UpstreamReply) (f : LinkFault) → ReplyOf (Ok reply) bytes ended → ReplyOf (Err f) bytes ended → f ≡ link.Memory
   pub one : (bytes : List ℕ) (ended : Bool) (a b : UpstreamReply) → ReplyOf (Ok a) bytes ended → ReplyOf (Ok b) bytes ended
@@ -95,8 +97,10 @@ starved g f (inr none) = none
 denied_due : OneResponse → (s : Service) (x : Exchange) (metered : Metered) (client : ℕ) (denial : Denial) → IsDenied s.rules x.ask.key x.ask.body.items client denial
     → x.calls ≡ calls_begun client (window_of s.rules x.moment) (Denied denial) → IsDenialReply denial x.reply → IsDue s x metered → x.reply.status ≡ 500
 denied_due laws s x metered client UnknownKey denied calls reply due = absurd (none-some due.client (sym denied ∙ due.known))
+denied_due laws s x metered client (Unexpanded fault) denied calls reply due = absurd (fit laws s x metered due (Unexpanded fault) (λ e. cc e) denied.1)
 denied_due laws s x metered client (BadBody fault) denied calls reply due = absurd (fit laws s x metered due (BadBody fault) (λ e. cc e) denied.1)
 denied_due laws s x metered client (Refused refusal) denied calls reply due = absurd (fit laws s x metered due (Refused refusal) (λ e. cc e) denied.1)
+denied_due laws s x metered client (NotLocal fault) denied calls reply due = absurd (fit laws s x metered due (NotLocal fault) (λ e. cc e) denied.1)
 denied_due laws s x metered client (Short left bound) denied calls reply due = absurd (due.covered (client, bound, left, calls))
 denied_due laws s x metered client Memory denied calls reply due = denied_500 x no_memory_text reply
 
@@ -122,9 +126,22 @@ forwarded laws s made x f reply metered named brought measured = elim (by_dials 
       ]
 ]
 
+-- what was answered by the gateway has a cost
+local_at : (s : Service) (made : ℕ) (x : Exchange) (a : WasAnswered s made (Unit {0}) x) → IsLocalAt s.rules x.ask.body.items a.is_answered.answer.cost
+local_at s made x a = (a.is_answered.answer, a.is_answered.answered, refl)
+
+-- and is answered with 200
+answered_200 : (s : Service) (made : ℕ) (x : Exchange) → WasAnswered s made (Unit {0}) x → x.reply.status ≡ 200
+answered_200 s made x a = status_of x a.answer.finished a.reply ∙ ap (λ (g : Finished). g.status) a.is_answered.finished
+
+-- a body to which a response is due has a price
+price : OneResponse → (s : Service) (x : Exchange) (metered : Metered) → IsDue s x metered → (bound : Cost) × IsPricedAt s.rules x.ask.body.items bound
+price laws s x metered due = laws.priced s.rules x.ask.body.items due.reply.body.items metered due.measured
+
 pub given_where_due : OneResponse → (s : Service) (x : Exchange) (metered : Metered) → HasNamedTypes s.rules → WasExchanged s x → IsDue s x metered → WasGivenOr500 s x metered
 given_where_due laws s x metered named (made, inl d) due = inr (denied_due laws s x metered d.client d.denial d.denied d.calls d.reply due)
-given_where_due laws s x metered named (made, inr f) due = forwarded laws s made x f due.reply metered named due.brought due.measured
+given_where_due laws s x metered named (made, inr (inr a)) due = absurd (laws.priced_or_local s.rules x.ask.body.items (price laws s x metered due).0 a.is_answered.answer.cost (price laws s x metered due).1 (local_at s made x a))
+given_where_due laws s x metered named (made, inr (inl f)) due = forwarded laws s made x f due.reply metered named due.brought due.measured
 
 -- ---- where a response was given
 
@@ -141,8 +158,10 @@ record IsNoDenials (wanted : ℕ) : Type 0 where
 
 no_denial : (wanted : ℕ) (denial : Denial) (r : Reply) → IsNoDenials wanted → IsDenialReply denial r → r.status ≡ wanted → ⊥
 no_denial wanted UnknownKey r others told is = tells_other 401 wanted (denial_text UnknownKey) r others.at_401 others.at_500 told is
+no_denial wanted (Unexpanded fault) r others told is = tells_other 400 wanted (denial_text (Unexpanded fault)) r others.at_400 others.at_500 told is
 no_denial wanted (BadBody fault) r others told is = tells_other 400 wanted (denial_text (BadBody fault)) r others.at_400 others.at_500 told is
 no_denial wanted (Refused refusal) r others told is = tells_other 400 wanted (denial_text (Refused refusal)) r others.at_400 others.at_500 told is
+no_denial wanted (NotLocal fault) r others told is = tells_other 400 wanted (denial_text (NotLocal fault)) r others.at_400 others.at_500 told is
 no_denial wanted (Short left bound) r others told is = tells_other 429 wanted (denial_text (Short left bound)) r others.at_429 others.at_500 told is
 no_denial wanted Memory r others told is = tells_other 500 wanted (denial_text Memory) r others.at_500 others.at_500 told is
 
@@ -195,9 +214,10 @@ given_due s made x f (r, is, (metered, measured, answered)) =
       given_by s made x f metered answered,
     )
 
-pub due_where_given : (s : Service) (x : Exchange) → WasExchanged s x → x.reply.status ≡ 200 → WasDueAndGiven s x
+pub due_where_given : (s : Service) (x : Exchange) → WasExchanged s x → x.reply.status ≡ 200 → WasDueAndGiven s x ⊎ WasAnsweredHere s x
 due_where_given s x (made, inl d) at = absurd (no_denial 200 d.denial x.reply no_200 d.reply at)
-due_where_given s x (made, inr f) at = given_due s made x f (measured_at f.grant f.asked f.finished f.is_finished (sym (status_of x f.finished f.reply) ∙ at))
+due_where_given s x (made, inr (inr a)) at = inr (made, a)
+due_where_given s x (made, inr (inl f)) at = inl (given_due s made x f (measured_at f.grant f.asked f.finished f.is_finished (sym (status_of x f.finished f.reply) ∙ at)))
 
 -- ---- not both
 
@@ -209,11 +229,10 @@ same_body : (r : UpstreamReply) (body : List ℕ) (asked : Result UpstreamReply 
 same_body r body asked is (inl memory) = let e : ◌≡◌ {A = Result UpstreamReply LinkFault} (Ok r) (Err link.Memory) = sym is ∙ memory in absurd (cc e)
 same_body r body asked is (inr (q, is_too, same)) = ap (body_or r) (sym is ∙ is_too) ∙ same
 
--- a reply that was brought is measured where it was answered with 200
-measured_for : OneResponse → (s : Service) (x : Exchange) (reply : UpstreamReply) → WasExchanged s x → WasBrought reply x → x.reply.status ≡ 200
+-- a reply that was brought is measured where it was forwarded and answered with 200
+measured_for : OneResponse → (s : Service) (made : ℕ) (x : Exchange) (reply : UpstreamReply) → WasForwarded s made (Unit {0}) x → WasBrought reply x → x.reply.status ≡ 200
     → (metered : Metered) × IsMeasuredFor s.rules x.ask.body.items reply.body.items metered
-measured_for laws s x reply (made, inl d) brought at = absurd (no_denial 200 d.denial x.reply no_200 d.reply at)
-measured_for laws s x reply (made, inr f) brought at =
+measured_for laws s made x reply f brought at =
     let got = measured_at f.grant f.asked f.finished f.is_finished (sym (status_of x f.finished f.reply) ∙ at) in
     let own : IsMeasuredFor s.rules x.ask.body.items got.0.body.items got.2.0 = (promise_of f.grant, f.is_granted.promised, got.2.1) in
     (got.2.0, subst (λ l. IsMeasuredFor s.rules x.ask.body.items l got.2.0) (same_body got.0 reply.body.items f.asked got.1 (by_dials laws (Unit {0}) _ f.asked x.dials reply f.came_to brought)) own)
@@ -222,10 +241,24 @@ given_status : (s : Service) (x : Exchange) (metered : Metered) → WasGivenOr50
 given_status s x metered (inl given) at = let e : 200 ≡ 502 = sym (ap (λ (r : Reply). r.status) given.replied) ∙ at in omega (arith, e)
 given_status s x metered (inr none) at = let e : 500 ≡ 502 = sym none ∙ at in omega (arith, e)
 
-pub not_both : OneResponse → (s : Service) (x y : Exchange) (reply : UpstreamReply) → HasNamedTypes s.rules → WasExchanged s x → WasExchanged s y → x.ask.body.items ≡ y.ask.body.items
-    → WasBrought reply x → WasBrought reply y → x.reply.status ≡ 200 → y.reply.status ≡ 502 → ⊥
-not_both laws s x y reply named of_x (made, inl d) same brought brought_too at at_too = no_denial 502 d.denial y.reply no_502 d.reply at_too
-not_both laws s x y reply named of_x (made, inr f) same brought brought_too at at_too =
-    let measured = measured_for laws s x reply of_x brought at in
+-- what is replied with 502 was forwarded
+forwarded_at : (s : Service) (y : Exchange) → WasExchanged s y → y.reply.status ≡ 502 → (made : ℕ) × WasForwarded s made (Unit {0}) y
+forwarded_at s y (made, inl d) at = absurd (no_denial 502 d.denial y.reply no_502 d.reply at)
+forwarded_at s y (made, inr (inl f)) at = (made, f)
+forwarded_at s y (made, inr (inr a)) at = let e : 200 ≡ 502 = sym (answered_200 s made y a) ∙ at in absurd (omega (arith, e))
+
+not_both_at : OneResponse → (s : Service) (made : ℕ) (x y : Exchange) (reply : UpstreamReply) → HasNamedTypes s.rules → WasExchanged s x → WasForwarded s made (Unit {0}) y
+    → x.ask.body.items ≡ y.ask.body.items → WasBrought reply x → WasBrought reply y → x.reply.status ≡ 200 → y.reply.status ≡ 502 → ⊥
+not_both_at laws s made x y reply named (other, inl d) f same brought brought_too at at_too = no_denial 200 d.denial x.reply no_200 d.reply at
+not_both_at laws s made x y reply named (other, inr (inl g)) f same brought brought_too at at_too =
+    let measured = measured_for laws s other x reply g brought at in
     given_status s y measured.0
     (forwarded laws s made y f reply measured.0 named brought_too (subst (λ b. IsMeasuredFor s.rules b reply.body.items measured.0) same measured.1)) at_too
+not_both_at laws s made x y reply named (other, inr (inr a)) f same brought brought_too at at_too =
+    laws.priced_or_local s.rules y.ask.body.items f.grant.ticket.bound a.is_answered.answer.cost (laws.granted s.rules y.ask.body.items f.grant f.is_granted.promised)
+    (subst (λ b. IsLocalAt s.rules b a.is_answered.answer.cost) same (local_at s other x a))
+
+pub not_both : OneResponse → (s : Service) (x y : Exchange) (reply : UpstreamReply) → HasNamedTypes s.rules → WasExchanged s x → WasExchanged s y → x.ask.body.items ≡ y.ask.body.items
+    → WasBrought reply x → WasBrought reply y → x.reply.status ≡ 200 → y.reply.status ≡ 502 → ⊥
+not_both laws s x y reply named of_x of_y same brought brought_too at at_too =
+    let f = forwarded_at s y of_y at_too in not_both_at laws s f.0 x y reply named of_x f.1 same brought brought_too at at_too

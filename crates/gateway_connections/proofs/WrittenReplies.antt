@@ -1,5 +1,5 @@
 -- The body that is written.
-use Rattle.std.proofs.Common.{◌≡◌, ℕ, List, [], ◌∷◌, ◌++◌, length, ap, subst, refl, sym, ◌∙◌, arith, Bool, true, false, Option, Result, nat_eq}
+use Rattle.std.proofs.Common.{◌≡◌, ℕ, List, [], ◌∷◌, length, ap, subst, refl, ◌∙◌, arith, Bool, true, false, Option, Result}
 use Rattle.std.specs.Prelude.{OnErr, ◌==◌}
 use Rattle.std.proofs.lemmas.Bool.Decides.{nat_tests}
 use Rattle.outside.specs.Contents.{AppendsFront}

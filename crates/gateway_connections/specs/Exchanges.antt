@@ -13,6 +13,7 @@ use Rattle.upstream_link.specs.Exchanges.{CameTo}
 use Rattle.upstream_link.specs.RequestBytes.{request_bytes}
 use Rattle.gateway_core.specs.declared.beginning.Denial.{Denial}
 use Rattle.gateway_core.specs.declared.beginning.Begun.TheVariants.{Denied}
+use Rattle.gateway_core.specs.declared.beginning.LocalAnswer.{LocalAnswer}
 use Rattle.gateway_core.specs.declared.grant.Grant.{Grant}
 use Rattle.gateway_core.specs.declared.gate.Gate.{Gate}
 use Rattle.gateway_core.specs.declared.finishing.Outcome.{Outcome}
@@ -20,7 +21,7 @@ use Rattle.gateway_core.specs.declared.finishing.Outcome.TheVariants.{Reply as R
 use Rattle.gateway_core.specs.declared.finishing.Finished.{Finished}
 use Rattle.gateway_core.specs.Rules.{Rules, window_of}
 use Rattle.gateway_core.specs.Gates.{rules_of}
-use Rattle.gateway_core.specs.Begins.{IsDenied, IsGranted, calls_begun}
+use Rattle.gateway_core.specs.Begins.{IsDenied, IsGranted, IsAnswered, calls_begun, calls_answered}
 use Rattle.gateway_core.specs.Finishes.{IsFinished, settling}
 use Rattle.gateway_connections.specs.declared.reply.Reply.{Reply}
 use Rattle.gateway_connections.specs.Replies.{IsDenialReply, finished_reply}
@@ -76,9 +77,21 @@ pub record WasForwarded (s : Service) (made : ℕ) (untouched : Type 0) (x : Exc
       ∷ settling grant.ticket finished.charged ∷ []
   pub reply : x.reply ≡ finished_reply finished
 
+-- It was answered by the gateway, from what it knows of its schema: what the answer costs was reserved and settled, and nobody was
+-- dialled.
+pub record WasAnswered (s : Service) (made : ℕ) (Untouched : Type 0) (x : Exchange) : Type 0 where
+  pub client : ℕ
+  pub answer : LocalAnswer
+  pub is_answered : IsAnswered s.rules x.ask.key x.ask.body.items client made answer
+  pub calls : x.calls ≡ calls_answered client (window_of s.rules x.moment) answer
+  pub outcome : x.outcome ≡ None
+  pub dials : x.dials ≡ []
+  pub untouched : Untouched
+  pub reply : x.reply ≡ finished_reply answer.finished
+
 -- How an exchange goes after so many calls. `untouched` says that the wire is as it was.
 abbrev pub IsExchange : Service → ℕ → Type 0 → Exchange → Type 0
-IsExchange s made untouched x = WasDenied s untouched x ⊎ WasForwarded s made untouched x
+IsExchange s made untouched x = WasDenied s untouched x ⊎ WasForwarded s made untouched x ⊎ WasAnswered s made untouched x
 
 -- ---- faults of the upstream
 

@@ -13,7 +13,7 @@ pub use Rattle.gateway_core.specs.Measures.{Metered}
 use Rattle.gateway_core.specs.Measures.{IsMeasuredFor}
 use Rattle.gateway_core.specs.Finishes.{settling}
 use Rattle.gateway_connections.specs.Replies.{reply_as}
-use Rattle.gateway_connections.specs.Exchanges.{Service, Exchange, IsExchange}
+use Rattle.gateway_connections.specs.Exchanges.{Service, Exchange, WasAnswered, IsExchange}
 
 -- it went so, behind some calls
 abbrev pub WasExchanged : Service → Exchange → Type 0
@@ -55,6 +55,10 @@ pub record WasGiven (s : Service) (x : Exchange) (metered : Metered) : Type 0 wh
 -- It was given, or memory was wanting.
 abbrev pub WasGivenOr500 : Service → Exchange → Metered → Type 0
 WasGivenOr500 s x metered = WasGiven s x metered ⊎ (x.reply.status ≡ 500)
+
+-- The gateway answered it itself, behind some calls.
+abbrev pub WasAnsweredHere : Service → Exchange → Type 0
+WasAnsweredHere s x = (made : ℕ) × WasAnswered s made ⊤ x
 
 -- A response was due, its reply was brought by one dial, and it was given.
 abbrev pub WasDueAndGiven : Service → Exchange → Type 0

@@ -3,7 +3,7 @@ use Rattle.std.specs.Prelude.{◌≡◌, ℕ, ◌<◌, Bool, false, List, [], �
 use Rattle.std.specs.Io.KnownBytes.{Appends, IsAtEnd}
 use Rattle.account_shared.specs.Views.{PassesView}
 use Rattle.account_shared.specs.Gains.{ClientCall, Gains}
-use Rattle.outside.specs.Dials.{Dial, LoggedBy}
+use Rattle.outside.specs.Dials.{LoggedBy}
 use Rattle.outside.specs.Faults.{RoseBy}
 use Rattle.outside.specs.Taken.{Took}
 use Rattle.outside.specs.Ticks.{Ticks}

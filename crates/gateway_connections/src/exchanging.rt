@@ -6,7 +6,7 @@ ghost use Rattle.gateway_core.specs.Grants.{IsOpenGrant};
 ghost use Rattle.gateway_connections.specs.Replies.{IsWritable};
 ghost use Rattle.gateway_connections.specs.Exchanges.{Forwards, Replies, outcome_of, service_of, telling};
 
-use crate::reply::{Reply, denial_reply};
+use crate::reply::{Reply, answered_reply, denial_reply};
 use account_shared::Passes;
 use gateway_core::{Begun, Gate, Grant, Outcome, begin, finish};
 use http_front::Ask;
@@ -79,6 +79,7 @@ pub fn exchange<R: Wait, W: Wire>(
 {
     match begin(gate, alloc, rt, passes, ask.key.as_str(), &ask.body, moment) {
         Begun::Granted(grant) => forward(gate, alloc, rt, passes, wire, grant),
+        Begun::Answered(answer) => answered_reply(answer.finished),
         Begun::Denied(denial) => denial_reply(alloc, &denial),
     }
 }

@@ -5,12 +5,14 @@ ghost use Rattle.std.specs.Io.KnownBytes.{Appends};
 ghost use Rattle.outside.specs.Contents.{AppendsFront};
 ghost use Rattle.outside.specs.Faults.{Rose};
 ghost use Rattle.http_front.specs.ReplyBytes.{status_text, AreCosts};
+ghost use Rattle.cost_num.specs.Within.{Within};
+ghost use Rattle.gateway_core.specs.Rules.{greatest};
 ghost use Rattle.gateway_core.specs.Begins.{HasCostsWithin};
 ghost use Rattle.gateway_core.specs.Messages.{message_body, no_memory_text};
-ghost use Rattle.gateway_connections.specs.Replies.{reply_as, bytes_with, Tells, IsTold, IsWritable, IsDenialReply, IsFaultReply, fault_status, fault_message, written};
+ghost use Rattle.gateway_connections.specs.Replies.{reply_as, bytes_with, Tells, IsTold, IsWritable, IsDenialReply, finished_reply, IsFaultReply, fault_status, fault_message, written};
 
 use cost_num::Cost;
-use gateway_core::{Denial, denial_message, denial_status, message_body};
+use gateway_core::{Denial, Finished, denial_message, denial_status, message_body};
 use gql_base::Text;
 use http_front::{Answer, FrontFault, write_reply};
 use outside::{Sink, WriteFault};
@@ -64,6 +66,21 @@ pub(crate) fn denial_reply(alloc: Global, denial: &Denial) -> Reply
     ensures writable { IsWritable result }
 {
     told(alloc, denial_status(denial), denial_message(alloc, denial))
+}
+
+/// The reply to what the gateway answers itself.
+pub(crate) fn answered_reply(finished: Finished) -> Reply
+    requires status { finished.status ≡ 200 }
+    requires bound { Within greatest finished.bound }
+    requires charged { Within greatest finished.charged }
+    ensures reply { result ≡ finished_reply finished }
+    ensures writable { IsWritable result }
+{
+    Reply {
+        status: finished.status,
+        costs: Some((finished.bound, finished.charged)),
+        body: finished.body,
+    }
 }
 
 // The status of a fault.

@@ -9,14 +9,14 @@ use Rattle.cost_num.specs.Within.{Within}
 use Rattle.account_core.specs.declared.Account.{Account}
 use Rattle.account_core.specs.declared.Limit.{Limit}
 use Rattle.account_core.specs.Costs.{nothing, together, remaining}
-use Rattle.account_core.specs.Machine.{State, reservation, short, Entry, entry, account_of, used_of, used_in, standing_window, room, surplus, carried_into, IsReplied}
+use Rattle.account_core.specs.Machine.{State, reservation, short, Entry, entry, account_of, used_of, used_in, standing_window, room, surplus, IsReplied}
 use Rattle.account_core.specs.History.{state_after, IsLegal}
 use Rattle.account_core.specs.Numbers.{FitsCap, KeepsLimit}
 use Rattle.account_core.proofs.Histories.{legal-front}
 use Rattle.account_core.proofs.Callers.{numbers_within}
 use Rattle.account_cells.specs.Views.{View, no_view}
 use Rattle.account_shared.specs.Views.{PassesView, AccountsView, Belongs, limit_of, client_at, account_seen}
-use Rattle.account_shared.specs.Gains.{SeenBy, GoesOn, Gains, client_call, entries_for}
+use Rattle.account_shared.specs.Gains.{SeenBy, GoesOn, Gains, client_call}
 use Rattle.client_files.specs.declared.client.Client.{Client}
 use Rattle.client_files.specs.ClientFiles.{MayBeNamed, MayBeServed}
 use Rattle.gateway_core.specs.declared.gate.Gate.{Gate}

@@ -2,6 +2,7 @@ pub mod ToldMessages
 pub mod PlanCovers
 pub mod ExaminedBodies
 pub mod BegunRequests
+pub mod PaidAnswers
 pub mod CappedAccounts
 pub mod OneOutcome
 pub mod OneAnswer

@@ -117,7 +117,7 @@ one_unanswered bound Memory a b is is_too = absurd is
 -- ---- by what was granted
 
 named_by : OneReading → (rules : Rules) (body : List ℕ) (g : Grant) → TypesDiffer rules.schema → IsPromisedFor rules body (promise_of g) → HoldsNamed g.plan
-named_by laws rules body g differ (asked, is_request, (document, is_document, promised)) =
+named_by laws rules body g differ (asked, is_request, (document, is_document, (goes, promised))) =
     let planned = promised.is_accepted.is_planned in
     let tree = plan_tree (request_of rules asked document) planned.prepared in
     record {

@@ -1,5 +1,5 @@
 -- A reply to the operation of a body is measured in one way, or has one first fault, however often the body is read.
-use Rattle.std.proofs.Common.{◌≡◌, ◌<◌, inl, inr, ◌∙◌, ℕ, List, map, true, false, Some, refl, sym, ap, subst, arith}
+use Rattle.std.proofs.Common.{◌≡◌, ◌<◌, inl, inr, ◌∙◌, ℕ, List, Option, map, true, false, Some, refl, sym, ap, subst, arith}
 use Rattle.std.specs.Prelude.{option_map}
 use Rattle.std.proofs.lemmas.Bool.{cases_lt}
 use Rattle.std.proofs.lemmas.Option.{none-some, same_Some}
@@ -15,7 +15,9 @@ use Rattle.plan_model.specs.SelectedFields.{holds}
 use Rattle.plan_table.specs.declared.table.Plan.{Plan}
 use Rattle.plan_table.specs.TableBounds.{HoldsSound}
 use Rattle.typename_rewrite.specs.AddedNames.{names_of_document, is_taken, alias_with, IsAlias}
-use Rattle.request_bodies.specs.Bodies.{RequestData as Asked, IsRequest}
+use Rattle.request_bodies.specs.Bodies.{RequestData as Asked}
+use Rattle.trusted_documents.specs.Listings.{Listing}
+use Rattle.trusted_documents.specs.Requests.{IsRequestBy}
 use Rattle.acceptance.specs.Requests.{RequestData, Prepared, plan_tree}
 use Rattle.acceptance.specs.AskAlike.{AskAlike}
 use Rattle.response_meter.specs.declared.metered.Metered.{Metered}
@@ -25,7 +27,7 @@ use Rattle.response_meter.specs.Reply.{ReplyReads, IsResponseOrNone, first_reply
 use Rattle.response_meter.specs.Metered.{TypesDiffer, name_in, first_fault_in, IsMetered}
 use Rattle.gateway_core.specs.declared.promise.Promise.{Promise}
 use Rattle.gateway_core.specs.Rules.{Rules}
-use Rattle.gateway_core.specs.Requests.{request_of, IsPromised, IsPromisedFor}
+use Rattle.gateway_core.specs.Requests.{request_of, GoesUpstream, IsPromised, IsPromisedFor}
 use Rattle.gateway_core.specs.Grants.{promise_of}
 use Rattle.gateway_core.specs.PlanBounds.{IsMeasuredBy, IsFaultyBy}
 use Rattle.gateway_core.specs.Measures.{IsMeasuredFor, IsFaultyFor, MeasuredIsAnswered}
@@ -34,7 +36,7 @@ use Rattle.gateway_core.proofs.OneAnswer.{OneReading, told, first_told, metered_
 
 -- A body is read in one way, requests that ask the same have one plan, and a reply to it is read in one way.
 pub record OneMeasure : Type 0 where
-  pub one_asked : (body : List ℕ) (asked other : Asked) → IsRequest body asked → IsRequest body other → asked ≡ other
+  pub one_asked : (list : Option Listing) (body : List ℕ) (asked other : Asked) → IsRequestBy list body asked → IsRequestBy list body other → asked ≡ other
   pub trees : (text : List ℕ) (document other : Document) → IsDocumentOf text document → IsDocumentOf text other → map definition_tree document.definitions.items ≡ map definition_tree other.definitions.items
   pub offsets : (text : List ℕ) (document other : Document) → IsDocumentOf text document → IsDocumentOf text other → map operation_offset document.definitions.items ≡ map operation_offset other.definitions.items
   pub one_plan : (r q : RequestData) (p : Prepared r) (other : Prepared q) → AskAlike r q → plan_tree r p ≡ plan_tree q other
@@ -96,8 +98,8 @@ AsksFor rules P asked = (document : Document) × IsDocumentOf asked.query docume
 
 both : OneMeasure → (rules : Rules) → TypesDiffer rules.schema → (body : List ℕ) (p q : Promise) → IsPromisedFor rules body p → IsPromisedFor rules body q
     → (tree : PlanTree) × AreAlike p q tree
-both laws rules differ body p q (asked, is, (document, read, of_p)) (asked_too, is_too, asks) =
-    let moved : AsksFor rules (λ r. IsPromised r q) asked = subst (AsksFor rules (λ r. IsPromised r q)) (laws.one_asked body asked_too asked is_too is) asks in
+both laws rules differ body p q (asked, is, (document, read, (goes, of_p))) (asked_too, is_too, asks) =
+    let moved : AsksFor rules (λ r. GoesUpstream rules r × IsPromised r q) asked = subst (AsksFor rules (λ r. GoesUpstream rules r × IsPromised r q)) (laws.one_asked rules.trusted body asked_too asked is_too is) asks in
     alike_of laws rules differ (request_of rules asked document) (request_of rules asked moved.0) p q record {
       schema = refl;
       weights = refl;
@@ -105,7 +107,7 @@ both laws rules differ body p q (asked, is, (document, read, of_p)) (asked_too, 
       given = refl;
       trees = laws.trees asked.query document moved.0 read moved.1;
       offsets = laws.offsets asked.query document moved.0 read moved.1;
-    } (of_p, refl) moved.2
+    } (of_p, refl) moved.2.1
 
 -- ---- a reply by either of them
 

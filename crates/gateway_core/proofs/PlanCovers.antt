@@ -1,5 +1,5 @@
 -- What is accepted covers its replies: whatever is measured of one is within the bound.
-use Rattle.std.proofs.Common.{◌≡◌, ◌≤◌, ◌↔◌, ℕ, List, Bool, Option, None, Some, sym, subst, arith}
+use Rattle.std.proofs.Common.{◌≡◌, ◌≤◌, ◌↔◌, ℕ, Bool, Option, None, Some, sym, subst, arith}
 use Rattle.cost_num.specs.declared.TheConstants.{CAP}
 use Rattle.cost_num.specs.declared.Cost.{Cost}
 use Rattle.serde_json.specs.Data.{Data}

@@ -13,7 +13,24 @@ use Rattle.client_files.specs.contracts.client.Client.{the_row as client_row}
 use Rattle.client_files.specs.contracts.client.ClientNamed.TheImpl.{ghosts as names}
 use Rattle.gql_base.proofs.names.owned_index.Indexed.TheSendSync as indexed
 use Rattle.gateway_core.proofs.gate.Settings.TheSendSync as settings
+use Rattle.std.specs.contracts.option.Option as option
+use Rattle.serde_json.proofs.value.Value.TheLaws.TheKnot.{send-Value, sync-Value}
+use Rattle.trusted_documents.specs.contracts.listing.Trusted as trusted
+use Rattle.local_introspection.specs.contracts.facts.Facts as facts
+use Rattle.local_introspection.proofs.SharedFacts.{facts_send, facts_sync}
 use Rattle.gateway_core.specs.contracts.gate.Gate.{the_field, the_type, the_row}
+
+trusted_send : IsSend (option.the_field trusted.the_row).row
+trusted_send = search (sendable, crosses, maps_cross, send-Value) depth 40 fits 20000
+
+trusted_sync : IsSync (option.the_field trusted.the_row).row
+trusted_sync = search (sendable, crosses, maps_cross, sync-Value) depth 40 fits 20000
+
+facts_sent : IsSend (option.the_field facts.the_row).row
+facts_sent = search (sendable, crosses, maps_cross, facts_send) depth 40 fits 20000
+
+facts_shared : IsSync (option.the_field facts.the_row).row
+facts_shared = search (sendable, crosses, maps_cross, facts_sync) depth 40 fits 20000
 
 schema_send : IsSend (schema.the_field).row
 schema_send = search (sendable, crosses, maps_cross, send-Shape, send-Coerced) depth 40 fits 20000
@@ -29,8 +46,8 @@ weights_sync = search (sendable, crosses, maps_cross, sync-Shape) depth 40 fits 
 
 pub gate_send : IsSend the_row
 gate_send = recorded_send (the_field).row _ _ (the_type).to_one (struct_send (shape the_type)
-    (schema_send, (weights_send, (indexed.the_field_send client_row names client.the_send, (settings.the_field_send, (accounts.the_send, tt))))))
+    (trusted_send, (facts_sent, (schema_send, (weights_send, (indexed.the_field_send client_row names client.the_send, (settings.the_field_send, (accounts.the_send, tt))))))))
 
 pub gate_sync : IsSync the_row
 gate_sync = recorded_sync (the_field).row _ _ (the_type).to_one (struct_sync (shape the_type)
-    (schema_sync, (weights_sync, (indexed.the_field_sync client_row names client.the_sync, (settings.the_field_sync, (accounts.the_sync, tt))))))
+    (trusted_sync, (facts_shared, (schema_sync, (weights_sync, (indexed.the_field_sync client_row names client.the_sync, (settings.the_field_sync, (accounts.the_sync, tt))))))))

@@ -10,5 +10,6 @@ pub mod Begins
 pub mod Messages
 pub mod Finishes
 pub mod Measures
--- What serves proofs: that facts are propositions.
+-- What serves proofs: what a body was found to ask for, and that facts are propositions.
+pub mod Examined
 pub mod Propositions

@@ -1,7 +1,6 @@
 -- The statuses and messages of what is answered without a response.
 use Rattle.std.specs.Prelude.{ℕ, List, [], ◌∷◌, ◌++◌, None, codes}
 use Rattle.std.specs.Fmt.{decimal}
-use Rattle.cost_num.specs.declared.Cost.{Cost}
 use Rattle.cost_num.specs.CostText.{cost_text}
 use Rattle.response_model.specs.Errors.{pathless}
 use Rattle.response_model.specs.ResponseText.{response_text}
@@ -10,10 +9,12 @@ use Rattle.response_meter.specs.declared.fault.MeterFault.TheVariants as meter
 use Rattle.response_meter.specs.Faults.{why_name}
 use Rattle.upstream_link.specs.declared.fault.LinkFault.{LinkFault}
 use Rattle.upstream_link.specs.declared.fault.LinkFault.TheVariants as link
+use Rattle.trusted_documents.specs.FaultTexts.{expand_fault_text}
 use Rattle.request_bodies.specs.FaultTexts.{fault_text}
 use Rattle.acceptance.specs.Texts.{refusal_text}
+use Rattle.local_introspection.specs.LocalTexts.{local_text}
 use Rattle.gateway_core.specs.declared.beginning.Denial.{Denial}
-use Rattle.gateway_core.specs.declared.beginning.Denial.TheVariants.{UnknownKey, BadBody, Refused, Short, Memory}
+use Rattle.gateway_core.specs.declared.beginning.Denial.TheVariants.{UnknownKey, Unexpanded, BadBody, Refused, NotLocal, Short, Memory}
 
 -- the body that tells a message: a response with one error and no data
 abbrev pub message_body : List ℕ → List ℕ
@@ -26,15 +27,19 @@ no_memory_text = codes "NO_MEMORY"
 
 abbrev pub denial_status : Denial → ℕ
 denial_status UnknownKey = 401
+denial_status (Unexpanded fault) = 400
 denial_status (BadBody fault) = 400
 denial_status (Refused refusal) = 400
+denial_status (NotLocal fault) = 400
 denial_status (Short left bound) = 429
 denial_status Memory = 500
 
 abbrev pub denial_text : Denial → List ℕ
 denial_text UnknownKey = codes "UNKNOWN_KEY"
+denial_text (Unexpanded fault) = codes "REFUSED " ++ expand_fault_text fault
 denial_text (BadBody fault) = codes "REFUSED " ++ fault_text fault
 denial_text (Refused refusal) = codes "REFUSED " ++ refusal_text refusal
+denial_text (NotLocal fault) = codes "REFUSED " ++ local_text fault
 denial_text (Short left bound) = codes "OVER_BUDGET left " ++ (cost_text left ++ (codes " bound " ++ cost_text bound))
 denial_text Memory = no_memory_text
 

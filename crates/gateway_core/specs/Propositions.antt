@@ -1,5 +1,5 @@
 -- Of what a gate keeps there is one proof each.
-use Rattle.std.proofs.Common.{◌≡◌, ℕ, Bool, true, false, List, [], ◌∷◌, refl, ap}
+use Rattle.std.proofs.Common.{◌≡◌, ℕ, Bool, false, List, [], ◌∷◌, refl, ap}
 use Rattle.std.specs.Coded.{Coded, code_by, coded_list, coded×, coded_ℕ, coded_bool, codes}
 use denote.Struct.Props.{≡_prop}
 use Rattle.schema_rules.specs.declared.kind.Kind.{Kind}

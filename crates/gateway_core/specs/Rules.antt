@@ -1,5 +1,7 @@
 -- By what a gate decides.
-use Rattle.std.specs.Prelude.{◌≡◌, ℕ, ◌/◌, List, Option}
+use Rattle.std.specs.Prelude.{◌≡◌, ℕ, ◌/◌, List, Option, None}
+use Rattle.trusted_documents.specs.Listings.{Listing}
+use Rattle.local_introspection.specs.declared.facts.Facts.{Facts}
 use Rattle.cost_num.specs.declared.TheConstants.{CAP}
 use Rattle.cost_num.specs.declared.Cost.{Cost}
 use Rattle.cost_num.specs.Within.{Within}
@@ -12,15 +14,18 @@ use Rattle.account_core.specs.Costs.{cost}
 use Rattle.account_core.specs.declared.Account.{Account}
 use Rattle.account_core.specs.declared.Limit.{Limit}
 
--- A schema with its weights, the clients, and how many seconds a window has.
+-- The list by which bodies are expanded and what introspection is answered by, if there are any; a schema with its weights, the
+-- clients, and how many seconds a window has.
 pub record Rules : Type 0 where
+  pub trusted : Option Listing
+  pub facts : Option Facts
   pub schema : SchemaData
   pub weights : WeightsData
   pub clients : List Client
   pub seconds : ℕ
 
 abbrev pub rules_with : SchemaData → WeightsData → List Client → ℕ → Rules
-rules_with schema weights clients seconds = record { schema = schema; weights = weights; clients = clients; seconds = seconds }
+rules_with schema weights clients seconds = record { trusted = None; facts = None; schema = schema; weights = weights; clients = clients; seconds = seconds }
 
 -- the weights are those of the schema, and leaves of the schema can be filled
 abbrev pub HasWeights : SchemaData → WeightsData → Type 0

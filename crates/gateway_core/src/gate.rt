@@ -1,6 +1,6 @@
 //! The gate: by what it decides, and the accounts of its clients.
 
-ghost use Rattle.std.specs.Prelude.{◌≡◌, ◌<◌, ℕ, map, length, IfOk, IfSome, OnOk, OnErr};
+ghost use Rattle.std.specs.Prelude.{◌≡◌, ◌<◌, ℕ, map, length, IfOk, IfSome, OnOk, OnErr, Some};
 ghost use Rattle.schema_model.specs.SchemaViews.{schema_data};
 ghost use Rattle.plan_model.specs.Sound.{CanBeFilled};
 ghost use Rattle.cost_directives.specs.Weights.{weights_of};
@@ -15,9 +15,11 @@ use account_shared::{Accounts, Passes};
 use client_files::Client;
 use cost_directives::Weights;
 use gql_base::{Indexed, Text};
+use local_introspection::Facts;
 use schema_model::Schema;
 use std::alloc::{AllocError, Global};
 use std::sync::Wait;
+use trusted_documents::Trusted;
 
 /// How long windows are, and where requests are forwarded to.
 #[derive(Debug, Drop)]
@@ -30,9 +32,12 @@ pub struct Settings {
     pub target: Text,
 }
 
-/// The schema with its weights, the clients, and an account for each.
+/// The schema with its weights, the clients, and an account for each. Beside them the list by which bodies are expanded, and what is
+/// known of the schema, if there are any.
 #[derive(Drop)]
 pub struct Gate {
+    pub(crate) trusted: Option<Trusted>,
+    pub(crate) facts: Option<Facts>,
     pub(crate) schema: Schema,
     pub(crate) weights: Weights,
     pub(crate) clients: Indexed<Client>,
@@ -46,6 +51,7 @@ pub struct Gate {
 
 impl Gate {
     ghost use Rattle.gateway_core.specs.Gates.{rules_of};
+    ghost use Rattle.trusted_documents.specs.Listings.{listing_of};
 
     /// The place among the clients of the one with this key.
     pub fn client(&self, key: &str) -> Option<u32>
@@ -55,6 +61,60 @@ impl Gate {
         match self.clients.position(key) {
             Some(at) => Some(at as u32),
             None => None,
+        }
+    }
+
+    /// The gate, with a list by which bodies are expanded before they are read. It takes no memory, and passes of the gate are
+    /// passes of the result.
+    pub fn with_trusted(self, trusted: Trusted) -> Gate
+        ensures rules { rules_of result ≡ record (rules_of self) { trusted = Some (listing_of trusted) } }
+        ensures settings { result.settings ≡ self.settings }
+        ensures accounts { result.accounts ≡ self.accounts }
+    {
+        let Gate {
+            trusted: _,
+            facts,
+            schema,
+            weights,
+            clients,
+            settings,
+            accounts,
+        } = self;
+        Gate {
+            trusted: Some(trusted),
+            facts,
+            schema,
+            weights,
+            clients,
+            settings,
+            accounts,
+        }
+    }
+
+    /// The gate, with what is known of its schema, by which operations that ask for it are answered. It takes no memory, and passes
+    /// of the gate are passes of the result.
+    pub fn with_facts(self, facts: Facts) -> Gate
+        ensures rules { rules_of result ≡ record (rules_of self) { facts = Some facts } }
+        ensures settings { result.settings ≡ self.settings }
+        ensures accounts { result.accounts ≡ self.accounts }
+    {
+        let Gate {
+            facts: _,
+            trusted,
+            schema,
+            weights,
+            clients,
+            settings,
+            accounts,
+        } = self;
+        Gate {
+            facts: Some(facts),
+            trusted,
+            schema,
+            weights,
+            clients,
+            settings,
+            accounts,
         }
     }
 

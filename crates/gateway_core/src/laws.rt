@@ -12,31 +12,37 @@ ghost use Rattle.gateway_core.specs.declared.grant.Grant.{Grant as GrantType};
 ghost use Rattle.gateway_core.specs.declared.promise.Promise.{Promise as PromiseType};
 ghost use Rattle.gateway_core.specs.Rules.{Rules, HasWeights};
 ghost use Rattle.gateway_core.specs.Requests.{IsPricedAt, IsPromisedFor};
-ghost use Rattle.gateway_core.specs.Begins.{IsUnfit};
+ghost use Rattle.gateway_core.specs.Begins.{IsUnfit, HasOneAnswer};
 ghost use Rattle.gateway_core.specs.PlanBounds.{IsMeasuredBy};
 ghost use Rattle.gateway_core.specs.Measures.{HasNamedTypes, IsMeasuredFor, IsFaultyFor, MeasuredIsAnswered};
 ghost use Rattle.gateway_core.specs.Finishes.{HasReplyFault, IsConcluded, IsGrantedBy};
 
+use crate::own_answers::alike_local_requests_have_one_verdict;
 use acceptance::{
     a_request_has_one_verdict, alike_requests_are_answered_alike, alike_requests_have_one_verdict,
 };
 use document_reader::{a_text_is_a_document_or_has_one_fault, a_text_is_one_document};
+use operation_class::laws::equal_trees_have_one_class;
 use plan_model::laws::operations_planned_well;
-use request_bodies::a_body_is_one_request_or_has_one_fault;
 use response_meter::laws::{fault_or_reading, named_tables, one_reply};
 use response_model::laws::greatest_is_bound;
+use trusted_documents::a_body_is_one_request_by_a_list;
 
-/// By the rules of a gate a body has one price, or is unfit for one reason, and not both; a promise for it is at its price. For
-/// want of memory nothing is said of a body. The weights are those of the schema, as those of a gate are.
+/// By the rules of a gate a body has one price, or one answer of the gateway at one cost, or is unfit for one reason, and no two of
+/// these; a promise for it is at its price. For want of memory nothing is said of a body. The weights are those of the schema, as
+/// those of a gate are.
 pub fn a_body_comes_to_one_thing()
     ensures promised { (rules : Rules) (body : List ℕ) (promise : PromiseType) → IsPromisedFor rules body promise → IsPricedAt rules body promise.bound }
     ensures one_price { (rules : Rules) (body : List ℕ) (bound cost : CostType) → HasWeights rules.schema rules.weights → IsPricedAt rules body bound → IsPricedAt rules body cost → bound ≡ cost }
     ensures not_both { (rules : Rules) (body : List ℕ) (bound : CostType) (denial : DenialType) → denial ≢ NoMemory → IsPricedAt rules body bound → IsUnfit rules body denial → ⊥ }
     ensures one_reason { (rules : Rules) (body : List ℕ) (denial other : DenialType) → denial ≢ NoMemory → other ≢ NoMemory → IsUnfit rules body denial → IsUnfit rules body other → denial ≡ other }
+    ensures local { (rules : Rules) (body : List ℕ) → HasOneAnswer rules body }
 {
-    a_body_is_one_request_or_has_one_fault();
+    a_body_is_one_request_by_a_list();
     a_text_is_one_document();
     a_text_is_a_document_or_has_one_fault();
+    equal_trees_have_one_class();
+    alike_local_requests_have_one_verdict();
     a_request_has_one_verdict();
     alike_requests_are_answered_alike();
     alike_requests_have_one_verdict();
@@ -66,7 +72,7 @@ pub fn a_reply_to_a_body_has_one_measure()
     ensures not_both { (rules : Rules) (body reply : List ℕ) (a : Metered) (b : MeterFault) → HasNamedTypes rules → IsMeasuredFor rules body reply a → IsFaultyFor rules body reply b → ⊥ }
     ensures finished { (rules : Rules) → HasNamedTypes rules → MeasuredIsAnswered rules }
 {
-    a_body_is_one_request_or_has_one_fault();
+    a_body_is_one_request_by_a_list();
     a_text_is_one_document();
     alike_requests_are_answered_alike();
     fault_or_reading();

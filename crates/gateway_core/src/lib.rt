@@ -3,17 +3,19 @@
 #![tactic(auto)]
 
 mod beginning;
+mod examining;
 mod finishing;
 mod gate;
 mod grant;
 mod laws;
 mod making;
 mod messages;
+mod own_answers;
 mod promise;
 mod sharing;
 mod totals;
 
-pub use beginning::{Begun, Denial, begin};
+pub use beginning::{Begun, Denial, LocalAnswer, begin};
 pub use finishing::{Finished, Outcome, finish};
 pub use gate::{Gate, Settings};
 pub use grant::Grant;

@@ -62,6 +62,8 @@ impl Gate {
         let clients = index_owned(alloc, clients)?;
         let (accounts, passes) = Accounts::make(alloc, limits)?;
         let gate = Gate {
+            trusted: None,
+            facts: None,
             schema,
             weights,
             clients,
@@ -83,6 +85,8 @@ pub fn close<R: Wait>(gate: Gate, rt: &R, passes: Passes) -> Totals
     ensures closed { (k : ℕ) → k < length passes.clients → ClosesTo (client_at passes k) (account_seen (client_at passes k)) }
 {
     let Gate {
+        trusted: _,
+        facts: _,
         schema: _,
         weights: _,
         clients,

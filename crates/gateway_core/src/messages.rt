@@ -12,10 +12,12 @@ use crate::beginning::Denial;
 use acceptance::refusal_text;
 use cost_num::{Cost, cost_bytes};
 use gql_base::Text;
+use local_introspection::local_text;
 use request_bodies::fault_text;
 use response_meter::{MeterFault, Why, why_name};
 use response_model::write_error_response;
 use std::alloc::{AllocError, Global};
+use trusted_documents::expand_fault_text;
 use upstream_link::LinkFault;
 
 /// The body that tells a message: a response with one error and no data (GraphQL October 2021, 7.1).
@@ -54,8 +56,10 @@ pub fn denial_status(denial: &Denial) -> u16
 {
     match denial {
         Denial::UnknownKey => 401,
+        Denial::Unexpanded(_) => 400,
         Denial::BadBody(_) => 400,
         Denial::Refused(_) => 400,
+        Denial::NotLocal(_) => 400,
         Denial::Short { left: _, bound: _ } => 429,
         Denial::Memory => 500,
     }
@@ -92,9 +96,14 @@ pub fn denial_message(alloc: Global, denial: &Denial) -> Result<Text, AllocError
 {
     match denial {
         Denial::UnknownKey => Text::copy_of(alloc, "UNKNOWN_KEY"),
+        Denial::Unexpanded(fault) => refused(alloc, expand_fault_text(*fault)),
         Denial::BadBody(fault) => refused(alloc, fault_text(*fault)),
         Denial::Refused(refusal) => {
             let text = refusal_text(alloc, refusal)?;
+            refused(alloc, text.as_str())
+        }
+        Denial::NotLocal(fault) => {
+            let text = local_text(alloc, fault)?;
             refused(alloc, text.as_str())
         }
         Denial::Short { left, bound } => over_budget(alloc, *left, *bound),

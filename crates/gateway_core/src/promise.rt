@@ -1,30 +1,21 @@
-//! What the body of a request comes to.
+//! What is promised for an operation that the upstream answers.
 
 ghost use Rattle.std.specs.Prelude.{◌≡◌, IfOk, IfErr};
-ghost use Rattle.serde_json.specs.View.{view};
-ghost use Rattle.request_bodies.specs.Bodies.{request_data as asked_data, IsRequest};
-ghost use Rattle.document_reader.specs.DocumentAnswers.{IsDocumentOf};
 ghost use Rattle.acceptance.specs.Requests.{request_data, IsCheckFor};
 ghost use Rattle.acceptance.specs.Bounds.{IsAccepted};
-ghost use Rattle.acceptance.specs.Refusals.{IsUnread, IsRefusedFor};
+ghost use Rattle.acceptance.specs.Refusals.{IsRefusedFor};
 ghost use Rattle.acceptance.specs.Keys.{HasEachKeyOnce};
-ghost use Rattle.gateway_core.specs.Rules.{Rules, HasWeights};
-ghost use Rattle.gateway_core.specs.Gates.{rules_of};
+ghost use Rattle.gateway_core.specs.Rules.{HasWeights};
 ghost use Rattle.gateway_core.specs.PlanBounds.{Covers};
-ghost use Rattle.gateway_core.specs.Requests.{request_of, IsPromised, IsPromisedFor};
-ghost use Rattle.gateway_core.specs.Begins.{IsUnfit, TellsFault, IfRefusal};
+ghost use Rattle.gateway_core.specs.Requests.{IsPromised};
+ghost use Rattle.gateway_core.specs.Begins.{TellsFault, IfRefusal};
 
 use crate::beginning::Denial;
-use crate::gate::Gate;
-use acceptance::{
-    AcceptFault, Accepted, Request, accept, read, read_values_have_each_key_once, sent_for,
-};
+use acceptance::{AcceptFault, Accepted, Request, accept, sent_for};
 use cost_num::Cost;
-use document_reader::Document;
 use gql_base::Text;
 use plan_model::laws::operations_planned_well;
 use plan_table::Plan;
-use request_bodies::{BodyFault, Request as Asked, read_request, variables_are_an_object};
 use response_model::laws::greatest_is_bound;
 use std::alloc::Global;
 
@@ -41,53 +32,12 @@ pub(crate) struct Promise<'g> {
 }
 
 // The fault of a stage, told as a denial.
-fn denied(fault: AcceptFault) -> Denial
+pub(crate) fn denied(fault: AcceptFault) -> Denial
     ensures { TellsFault fault result }
 {
     match fault {
         AcceptFault::Refused(refusal) => Denial::Refused(refusal),
         AcceptFault::Memory => Denial::Memory,
-    }
-}
-
-// The request that a body is.
-fn asked_in(alloc: Global, body: &[u8]) -> Result<Asked, Denial>
-    ensures asked { IfOk result (λ asked. IsRequest body.now (asked_data asked)) }
-    ensures unfit { IfErr result (λ denial. (rules : Rules) → IsUnfit rules body.now denial) }
-{
-    match read_request(alloc, body) {
-        Ok(asked) => Ok(asked),
-        Err(BodyFault::Memory) => Err(Denial::Memory),
-        Err(fault) => Err(Denial::BadBody(fault)),
-    }
-}
-
-// The document that its query is.
-fn document_in(alloc: Global, asked: &Asked) -> Result<Document, Denial>
-    ensures document { IfOk result (IsDocumentOf asked.now.query) }
-    ensures refused { IfErr result (λ denial. IfRefusal denial (IsUnread asked.now.query)) }
-{
-    match read(alloc, asked.query.as_str()) {
-        Ok(document) => Ok(document),
-        Err(fault) => Err(denied(fault)),
-    }
-}
-
-// What is asked of the schema.
-fn request_of<'g, 'r>(gate: &'g Gate, asked: &'r Asked, document: &'r Document) -> Request<'g, 'r>
-    ensures data { request_data result ≡ request_of (rules_of gate.now) (asked_data asked.now) document.now }
-    ensures weighed { HasWeights (rules_of gate.now).schema (rules_of gate.now).weights }
-{
-    let name = match &asked.name {
-        Some(name) => Some(name.as_str()),
-        None => None,
-    };
-    Request {
-        schema: &gate.schema,
-        weights: &gate.weights,
-        document,
-        name,
-        given: &asked.variables,
     }
 }
 
@@ -117,8 +67,8 @@ fn sent<'g>(
     }
 }
 
-// What a request comes to.
-fn promised<'g>(alloc: Global, request: &Request<'g, '_>) -> Result<Promise<'g>, Denial>
+/// What a request comes to.
+pub(crate) fn promised<'g>(alloc: Global, request: &Request<'g, '_>) -> Result<Promise<'g>, Denial>
     requires weighed { HasWeights (request_data request.now).schema (request_data request.now).weights }
     requires once { HasEachKeyOnce (request_data request.now).given }
     ensures promised { IfOk result (IsPromised (request_data request.now)) }
@@ -131,39 +81,4 @@ fn promised<'g>(alloc: Global, request: &Request<'g, '_>) -> Result<Promise<'g>,
         Ok(accepted) => sent(alloc, request, accepted),
         Err(fault) => Err(denied(fault)),
     }
-}
-
-// What a body comes to that is this request with this document.
-fn promised_for<'g>(
-    gate: &'g Gate,
-    alloc: Global,
-    asked: &Asked,
-    document: &Document,
-) -> Result<Promise<'g>, Denial>
-    requires once { HasEachKeyOnce (view asked.now.variables) }
-    ensures promised { IfOk result (IsPromised (request_of (rules_of gate.now) (asked_data asked.now) document.now)) }
-    ensures covered { IfOk result (λ p. Covers p.plan p.bound) }
-    ensures refused { IfErr result (λ denial. IfRefusal denial (IsRefusedFor (request_of (rules_of gate.now) (asked_data asked.now) document.now))) }
-{
-    let request = request_of(gate, asked, document);
-    promised(alloc, &request)
-}
-
-/// Examines a body: what is promised for it, or why it is unfit. All memory that a beginning needs is taken here.
-pub(crate) fn examine<'g>(gate: &'g Gate, alloc: Global, body: &[u8]) -> Result<Promise<'g>, Denial>
-    ensures promised { IfOk result (IsPromisedFor (rules_of gate.now) body.now) }
-    ensures covered { IfOk result (λ p. Covers p.plan p.bound) }
-    ensures unfit { IfErr result (IsUnfit (rules_of gate.now) body.now) }
-{
-    variables_are_an_object();
-    read_values_have_each_key_once();
-    let asked = match asked_in(alloc, body) {
-        Ok(asked) => asked,
-        Err(denial) => return Err(denial),
-    };
-    let document = match document_in(alloc, &asked) {
-        Ok(document) => document,
-        Err(denial) => return Err(denial),
-    };
-    promised_for(gate, alloc, &asked, &document)
 }

@@ -1,20 +1,18 @@
 -- A replay through the first passes to fresh accounts.
-use Rattle.std.proofs.Common.{◌≡◌, ℕ, ◌<◌, ◌≤◌, List, [], ◌∷◌, ◌++◌, refl, sym, ap, ◌∙◌, subst, arith, length, map, get_or}
+use Rattle.std.proofs.Common.{◌≡◌, ℕ, List, [], ◌∷◌, ◌++◌, refl, sym, ap, ◌∙◌, subst, arith, length, get_or}
 use Prim.Native.Nat.{suc}
-use Rattle.std.proofs.lemmas.List.{length-append, length-map, get_or-map}
+use Rattle.std.proofs.lemmas.List.{length-append}
 use Rattle.account_core.specs.declared.Limit.{Limit}
 use Rattle.account_core.specs.History.{IsLegal}
-use Rattle.account_cells.specs.Views.{View, no_view, no_limit, first_view}
-use Rattle.account_core.specs.Sums.{open_grants}
-use Rattle.account_shared.specs.Views.{PassesView, client_at, first_label, IsIdle}
-use Rattle.account_shared.specs.Gains.{ClientCall, entries_for, Gains, GoesOn}
-use Rattle.client_files.specs.declared.client.Client.{Client}
+use Rattle.account_cells.specs.Views.{View, first_view}
+use Rattle.account_shared.specs.Views.{PassesView, client_at}
+use Rattle.account_shared.specs.Gains.{ClientCall, entries_for, GoesOn}
 use Rattle.replay_scripts.specs.Steps.{StepData}
-use Rattle.replay_scripts.specs.Scripts.{AreStepLines, IsScript}
+use Rattle.replay_scripts.specs.Scripts.{AreStepLines}
 use Rattle.gateway_core.specs.Rules.{Rules, client_limit}
 pub use Rattle.gateway_core.proofs.FreshAccounts.{fresh_at, fresh_count, fresh_idle}
 use Rattle.gateway_replay.specs.declared.replayed.Replayed.{Replayed}
-use Rattle.gateway_replay.specs.Replays.{all_calls, IsReportOf, Replays, AreFresh, ReplaysFresh, IsOverFresh}
+use Rattle.gateway_replay.specs.Replays.{all_calls, IsReportOf, Replays, AreFresh, IsOverFresh}
 
 no_entry_is_legal : (limit : Limit) → IsLegal limit []
 no_entry_is_legal limit front rest e is = absurd (omega (arith, ap length is, length-append front (e ∷ rest)))

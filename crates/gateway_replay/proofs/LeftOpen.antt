@@ -1,8 +1,8 @@
 -- What is left open at the end is settled.
-use Rattle.std.proofs.Common.{◌≡◌, ℕ, ◌+◌, ◌<◌, ◌≤◌, List, [], ◌∷◌, ◌++◌, Bool, true, false, refl, sym, ap, ◌∙◌, subst, arith, length, map, append_assoc, append-nil}
+use Rattle.std.proofs.Common.{◌≡◌, ◌<◌, ◌≤◌, List, [], ◌∷◌, ◌++◌, Bool, true, sym, ap, ◌∙◌, subst, arith, length, map, append_assoc, append-nil}
 use Rattle.std.proofs.lemmas.List.{map_push, length-append, length-map}
 use Rattle.account_shared.specs.Views.{PassesView}
-use Rattle.account_shared.specs.Gains.{ClientCall, Gains}
+use Rattle.account_shared.specs.Gains.{Gains}
 use Rattle.gateway_core.specs.Grants.{IsOpenGrant}
 use Rattle.gateway_replay.specs.declared.opened.Open.{Open}
 use Rattle.gateway_replay.specs.declared.replayed.Replayed.{Replayed}

@@ -1,11 +1,10 @@
 -- A report grows by lines.
-use Rattle.std.proofs.Common.{◌≡◌, ℕ, ◌+◌, ◌<◌, ◌≤◌, ◌^◌, List, [], ◌∷◌, ◌++◌, Bool, true, false, cond, refl, sym, ap, ◌∙◌, subst, arith, length, map, min, append_assoc, append-nil}
-use Rattle.std.specs.Prelude.{string_bytes, flat_map, count_by}
+use Rattle.std.proofs.Common.{◌≡◌, ℕ, ◌+◌, ◌<◌, ◌≤◌, List, [], ◌∷◌, ◌++◌, Bool, cond, refl, sym, ap, ◌∙◌, subst, arith, length, map, min, append_assoc, append-nil}
 use Rattle.std.proofs.lemmas.List.{map_push, flat_map_more}
 use Rattle.std.proofs.lemmas.List.Sums.{sum_by_push, count_by-le-length}
 use Rattle.cost_num.specs.declared.Cost.{Cost}
 use Rattle.cost_num.specs.Within.{Within}
-use Rattle.account_core.specs.Costs.{together, smaller, nothing, cost}
+use Rattle.account_core.specs.Costs.{together, smaller, cost}
 use Rattle.gateway_core.specs.Rules.{greatest}
 use Rattle.gateway_replay.specs.declared.told.Told.{Told}
 use Rattle.gateway_replay.specs.declared.replayed.Replayed.{Replayed}

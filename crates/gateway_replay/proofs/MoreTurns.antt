@@ -10,7 +10,7 @@ use Rattle.replay_scripts.specs.declared.step.Step.{Step}
 use Rattle.gateway_core.specs.Rules.{Rules}
 use Rattle.gateway_replay.specs.declared.replayed.Replayed.{Replayed}
 use Rattle.gateway_replay.specs.Turns.{OpenRequest, ComesTo, Turn, step_of, calls_of, opens_past, Runs, opens_after, abandoning}
-use Rattle.gateway_replay.specs.Lines.{Line, line_for, id_of, line_of_turn, line_of_abandoned, Reports}
+use Rattle.gateway_replay.specs.Lines.{line_for, id_of, line_of_turn, line_of_abandoned, Reports}
 use Rattle.gateway_replay.specs.Replays.{all_calls, Replays, Stops, Called}
 use Rattle.gateway_replay.specs.Stretches.{HasRoom, AddsLine, AddsLines, TakesStep, RunsTo}
 use Rattle.gateway_replay.proofs.MoreLines.{adds_one, has_room}

@@ -1,5 +1,5 @@
 -- Which grants are open in passes, as calls are made through them.
-use Rattle.std.proofs.Common.{◌≡◌, ℕ, ◌+◌, ◌<◌, ◌&&◌, List, [], ◌∷◌, ◌++◌, Bool, true, false, cond, not, nat_eq, refl, sym, ap, ◌∙◌, subst, arith, Option, Some, None, length, append-nil}
+use Rattle.std.proofs.Common.{◌≡◌, ℕ, ◌+◌, ◌<◌, ◌&&◌, List, [], ◌∷◌, ◌++◌, Bool, true, false, cond, not, nat_eq, refl, sym, ap, ◌∙◌, subst, arith, Some, length, append-nil}
 use Rattle.std.specs.Prelude.{bytes_eq}
 use Rattle.std.specs.List.{AllByRecursion, filter}
 use Rattle.std.proofs.lemmas.Bool.{eq-eqb, eqb-true, ne_eqb, and_from, cond-true, cond-false}
@@ -7,8 +7,10 @@ use Rattle.std.proofs.lemmas.Option.{none-some, same_Some}
 use Rattle.cost_num.specs.declared.Cost.{Cost}
 use Rattle.account_core.specs.Machine.{Grant, grant, open_grant, is_grant, Call, CallReply, reservation, settlement, granted, short, done, Entry, entry}
 use Rattle.account_shared.specs.Views.{PassesView, IsOpen, open_at}
-use Rattle.account_shared.specs.Gains.{ClientCall, client_call, Gains, grants_past, grants_past_call}
-use Rattle.gateway_replay.specs.Turns.{OpenRequest, open_by, opens_without, abandoning}
+use Rattle.account_shared.specs.Gains.{ClientCall, client_call, entries_for, Gains, grants_past, grants_past_call}
+use Rattle.gateway_core.specs.declared.beginning.LocalAnswer.{LocalAnswer}
+use Rattle.gateway_core.specs.Begins.{calls_answered}
+use Rattle.gateway_replay.specs.Turns.{OpenRequest, open_by, opens_without}
 use Rattle.gateway_replay.specs.Stretches.{grants_at, IsBefore, IsBehind, AreRising, JustOpen}
 
 -- ---- what holds of each request of a list
@@ -177,6 +179,44 @@ just_granted p q opens r window g seq j =
     by_client : (b : Bool) (gs hs : List Grant) → gs ≡ hs → cond b (gs ++ grant p.label.name p.made r.grant.ticket.window r.grant.ticket.bound ∷ []) gs ≡ hs ++ cond b (grant_of p.label.name r ∷ []) []
     by_client true gs hs is = λ i. is i ++ grant p.label.name (sym seq i) r.grant.ticket.window r.grant.ticket.bound ∷ []
     by_client false gs hs is = is ∙ sym (append-nil hs)
+
+-- a grant that is opened behind all others and closed leaves these
+kept_last : (opens : List OpenRequest) (name number client window : ℕ) (bound : Cost) → AllByRecursion (IsBefore number) opens
+    → kept_from name number (grants_at name client opens ++ grant name number window bound ∷ []) ≡ grants_at name client opens
+kept_last [] name number client window bound h =
+    ap (λ t. cond (not t) (grant name number window bound ∷ []) []) (and_from (nat_eq name name) (nat_eq number number) (eq-eqb name name refl) (eq-eqb number number refl))
+kept_last (r ∷ rs) name number client window bound h = by_client (nat_eq r.grant.ticket.client client) (kept_last rs name number client window bound h.1)
+  where
+    rest : List Grant
+    rest = grants_at name client rs
+
+    more : List Grant
+    more = rest ++ grant name number window bound ∷ []
+
+    by_client : (b : Bool) → kept_from name number more ≡ rest
+        → kept_from name number (cond b (grant_of name r ∷ rest) rest ++ grant name number window bound ∷ []) ≡ cond b (grant_of name r ∷ rest) rest
+    by_client true is = ap (λ t. cond (not t) (grant_of name r ∷ kept_from name number more) (kept_from name number more)) (another name number (grant_of name r) (ne_eqb r.grant.ticket.seq number (λ e. omega arith)))
+        ∙ ap (λ l. grant_of name r ∷ l) is
+    by_client false is = is
+
+-- what was answered leaves no grant open
+pub just_both : (p q : PassesView) (opens : List OpenRequest) (client window : ℕ) (a : LocalAnswer) → a.seq ≡ p.made → Gains p q (calls_answered client window a) → JustOpen p opens → JustOpen q opens
+just_both p q opens client window a numbered g j =
+    just_after p q (calls_answered client window a) opens g (before_more opens p.made 2 j.before) j.rising
+    (λ k. (g.clients k).grants ∙ subst (λ n. grants_past (open_at p k) (entries_for k p.label.name p.made (calls_with n)) ≡ grants_at p.label.name k opens) (sym numbered) (by_client k (nat_eq client k)))
+  where
+    calls_with : ℕ → List ClientCall
+    calls_with n = client_call client (reservation window a.finished.bound) (granted a.window) ∷ client_call client (settlement n a.window a.finished.bound a.finished.charged) done ∷ []
+
+    opened : Entry
+    opened = entry p.label.name p.made (reservation window a.finished.bound) (granted a.window)
+
+    closed : Entry
+    closed = entry p.label.name (p.made + 1) (settlement p.made a.window a.finished.bound a.finished.charged) done
+
+    by_client : (k : ℕ) (b : Bool) → grants_past (open_at p k) (cond b (opened ∷ cond b (closed ∷ []) []) (cond b (closed ∷ []) [])) ≡ grants_at p.label.name k opens
+    by_client k true = ap (λ gs. kept_from p.label.name p.made (gs ++ grant p.label.name p.made a.window a.finished.bound ∷ [])) (j.open_are k) ∙ kept_last opens p.label.name p.made k a.window a.finished.bound j.before
+    by_client k false = j.open_are k
 
 pub just_settled : (p q : PassesView) (xs ys : List OpenRequest) (r : OpenRequest) (charged : Cost)
     → Gains p q (client_call r.grant.ticket.client (settlement r.grant.ticket.seq r.grant.ticket.window r.grant.ticket.bound charged) done ∷ []) → JustOpen p (xs ++ r ∷ ys) → JustOpen q (xs ++ ys)

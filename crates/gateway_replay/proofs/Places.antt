@@ -1,5 +1,5 @@
 -- The open request of an id, and its place.
-use Rattle.std.proofs.Common.{◌≡◌, ℕ, ◌+◌, ◌<◌, List, [], ◌∷◌, ◌++◌, Bool, true, false, cond, refl, sym, ap, ◌∙◌, subst, arith, Option, Some, None, length, map, get_or}
+use Rattle.std.proofs.Common.{◌≡◌, ℕ, ◌+◌, ◌<◌, List, [], ◌∷◌, Bool, true, false, cond, refl, sym, ap, ◌∙◌, subst, arith, Some, None, length, get_or}
 use Prim.Native.Nat.{zero, suc}
 use Rattle.std.specs.Prelude.{bytes_eq, position, remove}
 use Rattle.std.specs.List.{position_from}
@@ -8,7 +8,7 @@ use Rattle.std.proofs.lemmas.Option.{none-some}
 use Rattle.std.proofs.lemmas.List.Quantifiers.{position-Some}
 use Rattle.std.proofs.lemmas.Iterator.Adapters.{position_from-zero}
 use Rattle.gateway_replay.specs.declared.opened.Open.{Open}
-use Rattle.gateway_replay.specs.Turns.{OpenRequest, open_by, opens_without}
+use Rattle.gateway_replay.specs.Turns.{open_by, opens_without}
 use Rattle.gateway_replay.specs.Stretches.{request_of, requests_of}
 
 abbrev pub has_id : List ℕ → Open → Bool

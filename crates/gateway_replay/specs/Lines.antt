@@ -1,18 +1,17 @@
 -- The lines of a replay, and what they add up to.
-use Rattle.std.specs.Prelude.{◌≡◌, ℕ, Bool, true, false, List, [], ◌∷◌, ◌++◌, map, length, count_by, flat_map, codes, string_bytes}
+use Rattle.std.specs.Prelude.{◌≡◌, ℕ, Bool, true, false, List, [], ◌∷◌, ◌++◌, map, count_by, flat_map, codes, string_bytes}
 use Rattle.std.specs.Fmt.{decimal}
 use Rattle.cost_num.specs.declared.Cost.{Cost}
 use Rattle.cost_num.specs.CostText.{cost_text}
 use Rattle.account_core.specs.Costs.{nothing, together, smaller}
 use Rattle.replay_scripts.specs.Steps.{StepData, begins, ends, spaced}
 use Rattle.gateway_core.specs.declared.beginning.Begun.TheVariants as begun
-use Rattle.gateway_core.specs.declared.beginning.Denial.{Denial}
 use Rattle.gateway_core.specs.declared.beginning.Denial.TheVariants as denial
 use Rattle.gateway_core.specs.declared.finishing.Finished.{Finished as Answer}
 use Rattle.gateway_core.specs.Rules.{greatest}
 use Rattle.gateway_core.specs.Messages.{denial_status, denial_text}
 use Rattle.gateway_replay.specs.declared.told.Told.{Told}
-use Rattle.gateway_replay.specs.declared.told.Told.TheVariants.{Granted, Denied, Finished, NotOpen, Abandoned}
+use Rattle.gateway_replay.specs.declared.told.Told.TheVariants.{Granted, Answered, Denied, Finished, NotOpen, Abandoned}
 use Rattle.gateway_replay.specs.declared.replayed.Replayed.{Replayed}
 use Rattle.gateway_replay.specs.Turns.{OpenRequest, How, begun_as, no_room, finished_with, not_open, Turn, opens_after}
 
@@ -28,6 +27,7 @@ line_for id told = record { id = id; told = told }
 
 abbrev pub told_of : How → Told
 told_of (begun_as client (begun.Granted g)) = Granted g.ticket.bound
+told_of (begun_as client (begun.Answered a)) = Answered a.finished
 told_of (begun_as client (begun.Denied why)) = Denied why
 told_of no_room = Denied denial.Memory
 told_of (finished_with request answer) = Finished answer
@@ -50,10 +50,15 @@ all_lines turns = map line_of_turn turns ++ map line_of_abandoned (opens_after [
 
 -- ---- how it is written
 
+-- the status of an answer, what is charged for it, and its body
+abbrev pub finished_text : Answer → List ℕ
+finished_text answer = spaced (decimal answer.status) (codes "charged " ++ spaced (cost_text answer.charged) answer.body)
+
 abbrev pub told_text : Told → List ℕ
 told_text (Granted bound) = codes "granted " ++ cost_text bound
 told_text (Denied why) = spaced (decimal (denial_status why)) (denial_text why)
-told_text (Finished answer) = spaced (decimal answer.status) (codes "charged " ++ spaced (cost_text answer.charged) answer.body)
+told_text (Answered answer) = finished_text answer
+told_text (Finished answer) = finished_text answer
 told_text NotOpen = codes "not open"
 told_text (Abandoned bound) = codes "abandoned charged " ++ cost_text bound
 
@@ -65,6 +70,7 @@ line_text line = spaced line.id (told_text line.told) ++ (10 ∷ [])
 
 abbrev pub is_granted : Told → Bool
 is_granted (Granted bound) = true
+is_granted (Answered answer) = true
 is_granted other = false
 
 abbrev pub is_short : Told → Bool
@@ -79,6 +85,7 @@ is_refused other = false
 
 -- what is charged by a line
 abbrev pub charge_of : Told → Cost
+charge_of (Answered answer) = answer.charged
 charge_of (Finished answer) = answer.charged
 charge_of (Abandoned bound) = bound
 charge_of other = nothing

@@ -14,7 +14,7 @@ use Rattle.gateway_core.specs.Rules.{Rules, greatest}
 use Rattle.gateway_core.specs.Begins.{HasCostsWithin}
 use Rattle.gateway_replay.specs.declared.opened.Open.{Open}
 use Rattle.gateway_replay.specs.declared.told.Told.{Told}
-use Rattle.gateway_replay.specs.declared.told.Told.TheVariants.{Granted, Denied, Finished, NotOpen, Abandoned}
+use Rattle.gateway_replay.specs.declared.told.Told.TheVariants.{Granted, Answered, Denied, Finished, NotOpen, Abandoned}
 use Rattle.gateway_replay.specs.declared.replayed.Replayed.{Replayed}
 use Rattle.gateway_replay.specs.Turns.{OpenRequest, open_request, How, ComesTo, calls_of_step, opens_past_step, Turn, step_of, calls_of, Runs, opens_after, abandoning}
 use Rattle.gateway_replay.specs.Lines.{Line, line_for, id_of, told_of, line_text, is_granted, is_short, is_refused, charge_of, line_of_turn, line_of_abandoned, Reports}
@@ -46,6 +46,7 @@ IsOutcome _ _ = ⊥
 -- the costs that are told are within the cap
 abbrev pub HasCosts : Told → Type 0
 HasCosts (Granted bound) = Within greatest bound
+HasCosts (Answered answer) = Within greatest answer.charged
 HasCosts (Denied why) = HasCostsWithin why
 HasCosts (Finished answer) = Within greatest answer.charged
 HasCosts NotOpen = ⊤

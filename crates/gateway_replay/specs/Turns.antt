@@ -1,10 +1,10 @@
 -- What the steps of a script come to, one after the other.
-use Rattle.std.specs.Prelude.{◌≡◌, ◌⊎◌, ℕ, ◌+◌, if◌then◌else◌, Bool, List, [], ◌∷◌, ◌++◌, length, Option, Some, None, find, bytes_eq, ⊤}
+use Rattle.std.specs.Prelude.{◌≡◌, ◌⊎◌, ℕ, ◌+◌, if◌then◌else◌, List, [], ◌∷◌, ◌++◌, length, Option, Some, None, find, bytes_eq, ⊤}
 use Rattle.account_shared.specs.Gains.{ClientCall}
 use Rattle.replay_scripts.specs.Steps.{StepData, begins, ends, ReturnedData, reply, down, failed}
 use Rattle.upstream_link.specs.declared.fault.LinkFault.TheVariants.{Down, Failed}
 use Rattle.gateway_core.specs.declared.beginning.Begun.{Begun}
-use Rattle.gateway_core.specs.declared.beginning.Begun.TheVariants.{Granted, Denied}
+use Rattle.gateway_core.specs.declared.beginning.Begun.TheVariants.{Granted}
 use Rattle.gateway_core.specs.declared.finishing.Finished.{Finished}
 use Rattle.gateway_core.specs.Rules.{Rules, window_of}
 use Rattle.gateway_core.specs.declared.grant.Grant.{Grant}
@@ -59,7 +59,7 @@ calls_of_step rules _ _ = []
 
 abbrev pub opens_begun : List OpenRequest → List ℕ → Begun → List OpenRequest
 opens_begun opens id (Granted g) = opens ++ (open_request id g ∷ [])
-opens_begun opens id (Denied denial) = opens
+opens_begun opens id other = opens
 
 -- the requests that are open after a step: what is granted comes last, and what is finished is open no more
 abbrev pub opens_past_step : List OpenRequest → StepData → How → List OpenRequest

@@ -20,7 +20,7 @@ pub struct Replayed {
     pub lines: String,
     /// How many steps the script has.
     pub steps: u64,
-    /// How many of its requests were granted.
+    /// How many of its requests were granted, those that the gateway answered itself among them.
     pub granted: u64,
     /// How many were denied because their client's account was short.
     pub short: u64,
@@ -70,6 +70,10 @@ pub(crate) fn count(told: &Told, report: &mut Replayed)
 {
     match told {
         Told::Granted { bound: _ } => report.granted += 1,
+        Told::Answered(finished) => {
+            report.granted += 1;
+            report.charged = charged_too(report.charged, finished.charged);
+        }
         Told::Denied(Denial::Short { left: _, bound: _ }) => report.short += 1,
         Told::Denied(_) => report.refused += 1,
         Told::Finished(finished) => {

@@ -55,7 +55,7 @@ fn take_step<'g, 's, R: Wait>(
     ensures belong { Belongs passes.new gate.now.accounts }
     ensures just { JustOpen passes.new (requests_of opens.new.items) }
     ensures count { length opens.new.items ≤ length opens.old.items + 1 }
-    ensures few { passes.new.made ≤ passes.old.made + 1 }
+    ensures few { passes.new.made ≤ passes.old.made + 2 }
     ensures told { result ≡ true → told ≡ true }
     ensures step { told ≡ true → TakesStep (rules_of gate.now) passes.old (requests_of opens.old.items) (step_data step.now) report.old passes.new (requests_of opens.new.items) report.new result }
     ensures kept { told ≡ false → requests_of opens.new.items ≡ requests_of opens.old.items }

@@ -44,6 +44,7 @@ fn begin_step<'g, 's, R: Wait>(
             opens.push_reserved(Open { id, grant });
             Told::Granted { bound }
         }
+        Begun::Answered(answer) => Told::Answered(answer.finished),
         Begun::Denied(denial) => Told::Denied(denial),
     }
 }

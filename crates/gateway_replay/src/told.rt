@@ -8,6 +8,8 @@ use gateway_core::{Denial, Finished};
 pub(crate) enum Told {
     /// It was granted at this bound.
     Granted { bound: Cost },
+    /// The gateway answered it itself.
+    Answered(Finished),
     /// It was denied.
     Denied(Denial),
     /// It was finished.

@@ -67,7 +67,9 @@ fn write_told(alloc: Global, told: &Told, into: &mut String) -> Result<(), Alloc
     match told {
         Told::Granted { bound } => write_cost(alloc, "granted ", *bound, into),
         Told::Denied(denial) => write_denial(alloc, denial, into),
-        Told::Finished(finished) => write_finished(alloc, finished, into),
+        Told::Answered(finished) | Told::Finished(finished) => write_finished(
+            alloc, finished, into,
+        ),
         Told::NotOpen => into.push_str("not open"),
         Told::Abandoned { bound } => write_cost(alloc, "abandoned charged ", *bound, into),
     }

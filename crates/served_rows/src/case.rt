@@ -131,6 +131,12 @@ pub(crate) struct Case<'a> {
     pub(crate) form: Form,
     /// The text of the client file.
     pub(crate) clients: &'a str,
+    /// The text of the list of trusted documents, if there is one.
+    pub(crate) trusted: Option<&'a str>,
+    /// Whether only the documents of the list may be asked.
+    pub(crate) trusted_only: bool,
+    /// Whether the gate knows its schema.
+    pub(crate) knows_schema: bool,
     pub(crate) doors: Vec<PlannedDoor<'a>>,
     /// How many bytes the reply has for which two connections wait.
     pub(crate) bytes: usize,

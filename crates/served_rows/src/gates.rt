@@ -15,16 +15,23 @@ use client_files::{Clients, read_clients};
 use cost_directives::Weights;
 use gateway_core::{Gate, Settings};
 use gql_base::Text;
+use local_introspection::Facts;
 use plan_model::laws::built_schemas_can_be_filled;
 use schema_model::Schema;
 use schema_reader::read_schema_text;
 use std::alloc::Global;
+use trusted_documents::read_trusted;
 
-/// The texts of a schema file and of a client file.
+/// The texts of a schema file and of a client file, and of a list of trusted documents, if there is one.
 #[derive(Clone, Copy)]
 pub(crate) struct Rules<'a> {
     pub(crate) schema: &'a str,
     pub(crate) clients: &'a str,
+    pub(crate) trusted: Option<&'a str>,
+    /// Whether only the documents of the list may be asked.
+    pub(crate) trusted_only: bool,
+    /// Whether the gate knows its schema.
+    pub(crate) knows_schema: bool,
 }
 
 /// The size of lists that declare none.
@@ -71,6 +78,36 @@ fn settings_of(alloc: Global, window_seconds: u32) -> Result<Settings, RowFault>
     })
 }
 
+fn facts_in(alloc: Global, text: &str) -> Result<Facts, RowFault> {
+    let Ok(text) = read_schema_text(alloc, text) else {
+        return Err(RowFault::Wrong("the schema file is no schema text"));
+    };
+    Ok(Facts::make(alloc, text)?)
+}
+
+// The gate with the list of the rules, if they have one.
+fn with_list(alloc: Global, gate: Gate, rules: Rules<'_>) -> Result<Gate, RowFault>
+    ensures { IfOk result (λ listed. listed.accounts ≡ gate.accounts) }
+{
+    let Some(text) = rules.trusted else {
+        return Ok(gate);
+    };
+    match read_trusted(alloc, text, rules.trusted_only) {
+        Ok(trusted) => Ok(gate.with_trusted(trusted)),
+        Err(_) => Err(RowFault::Wrong("the list of trusted documents is refused")),
+    }
+}
+
+// The gate with what is known of its schema, where the rules say so.
+fn with_schema(alloc: Global, gate: Gate, rules: Rules<'_>) -> Result<Gate, RowFault>
+    ensures { IfOk result (λ knowing. knowing.accounts ≡ gate.accounts) }
+{
+    if !rules.knows_schema {
+        return Ok(gate);
+    }
+    Ok(gate.with_facts(facts_in(alloc, rules.schema)?))
+}
+
 /// A gate by these rules, and the first passes to its fresh accounts.
 pub(crate) fn gate_of(alloc: Global, rules: Rules<'_>) -> Result<(Gate, Passes), RowFault>
     ensures belong { IfOk result (λ made. Belongs made.1 made.0.accounts) }
@@ -85,5 +122,7 @@ pub(crate) fn gate_of(alloc: Global, rules: Rules<'_>) -> Result<(Gate, Passes),
         clients,
     } = clients_in(alloc, rules.clients)?;
     let settings = settings_of(alloc, window_seconds)?;
-    Ok(Gate::make(alloc, schema, weights, clients, settings)?)
+    let (gate, passes) = Gate::make(alloc, schema, weights, clients, settings)?;
+    let gate = with_list(alloc, gate, rules)?;
+    Ok((with_schema(alloc, gate, rules)?, passes))
 }

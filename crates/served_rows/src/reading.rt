@@ -108,6 +108,9 @@ fn read_word<'a>(
     let (key, value) = word.split_once('=').unwrap_or((word, ""));
     match key {
         "clients" => to.clients = texts.find(value)?,
+        "trusted" => to.trusted = Some(texts.find(value)?),
+        "trusted_only" => to.trusted_only = true,
+        "knows_schema" => to.knows_schema = true,
         "bytes" => to.bytes = number_in(value)? as usize,
         "door" => to.doors.push(door_of(alloc))?,
         _ => {
@@ -129,9 +132,13 @@ pub(crate) fn read_case<'a>(
 ) -> Result<Case<'a>, RowFault> {
     let mut words = row.split_whitespace();
     let form = form_in(words.next().unwrap_or(""))?;
+    let trusted = None;
     let mut case = Case {
         form,
         clients: "",
+        trusted,
+        trusted_only: false,
+        knows_schema: false,
         doors: Vec::new(alloc),
         bytes: 0,
     };

@@ -22,6 +22,9 @@ fn run<R: Threads + Wait + Sync>(
     let rules = Rules {
         schema,
         clients: case.clients,
+        trusted: case.trusted,
+        trusted_only: case.trusted_only,
+        knows_schema: case.knows_schema,
     };
     let Some(door) = case.doors.first() else {
         return Err(RowFault::Wrong("no door was begun"));

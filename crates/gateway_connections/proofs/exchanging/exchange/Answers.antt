@@ -1,4 +1,4 @@
-use Rattle.std.proofs.Common.{◌≡◌, ◌∷◌, [], inl, inr, refl, subst, arith, Some, None}
+use Rattle.std.proofs.Common.{◌∷◌, [], inl, inr, refl, subst, arith, Some, None}
 use Rattle.account_core.specs.Machine.{reservation, granted}
 use Rattle.account_shared.specs.Gains.{client_call}
 use Rattle.account_shared.proofs.Idle.{idle_past_ticket}
@@ -8,10 +8,10 @@ use Rattle.outside.proofs.Rises.{rose_by_none}
 use Rattle.gateway_core.specs.declared.beginning.Begun.TheVariants.{Denied}
 use Rattle.gateway_core.specs.Rules.{window_of}
 use Rattle.gateway_core.specs.Gates.{rules_of}
-use Rattle.gateway_core.specs.Begins.{IsDenied, IsGranted, calls_begun}
+use Rattle.gateway_core.specs.Begins.{IsDenied, IsGranted, IsAnswered, calls_begun, calls_answered}
 use Rattle.gateway_core.specs.Finishes.{settling}
 use Rattle.gateway_connections.specs.Exchanges.{outcome_of}
-use Rattle.gateway_connections.proofs.OneExchange.{denied_idle}
+use Rattle.gateway_connections.proofs.OneExchange.{denied_idle, answered_idle}
 use Rattle.gateway_connections.proofs.exchanging.exchange.Goals as goal
 
 pub returns-in-Granted-clause-idle : goal.returns-in-Granted-clause-idle
@@ -37,7 +37,7 @@ returns-in-Granted-clause-replied g c =
       at = refl;
       replied = refl;
       exchanges = record {
-        is_exchange = inr record {
+        is_exchange = inr (inl record {
           client = begun.0;
           grant = c.in-Granted.grant;
           is_granted = subst (λ key. IsGranted rules key c.args.ask.now.body.items begun.0 c.args.passes.now.made c.in-Granted.grant) c.as_str.ensures
@@ -50,7 +50,7 @@ returns-in-Granted-clause-replied g c =
           bound = f.bound;
           calls = refl;
           reply = f.replied;
-        };
+        });
         gains = gained_then c.args.passes.now c.begin.new.passes c.forward.new.passes first second begun.2 f.gains;
         logged = f.logged;
         downs = f.downs;
@@ -84,6 +84,46 @@ returns-in-Denied-clause-replied g c =
           untouched = refl;
           reply = c.denial_reply.ensures.reply;
         };
+        gains = begun.2;
+        logged = inl (logged_none (g.W.Wire.log c.args.wire.now));
+        downs = rose_by_none (g.W.Wire.dial_faults c.args.wire.now) (g.W.Wire.dial_faults c.args.wire.now) (omega arith);
+        failures = rose_by_none (g.W.Wire.faults c.args.wire.now) (g.W.Wire.faults c.args.wire.now) (omega arith);
+      };
+    }
+
+pub answered_reply-requires : goal.answered_reply-requires
+answered_reply-requires g c = record {
+  status = c.in-Answered.ensures.given.0;
+  bound = c.in-Answered.ensures.given.1;
+  charged = c.in-Answered.ensures.given.2;
+}
+
+pub returns-in-Answered-clause-idle : goal.returns-in-Answered-clause-idle
+returns-in-Answered-clause-idle g c =
+    let begun = c.in-Answered.ensures.begun in
+    answered_idle c.args.passes.now c.begin.new.passes begun.0 (window_of (rules_of c.args.gate.now) c.args.moment) c.in-Answered.answer begun.1.numbered begun.2
+
+pub returns-in-Answered-clause-replied : goal.returns-in-Answered-clause-replied
+returns-in-Answered-clause-replied g c =
+    let begun = c.in-Answered.ensures.begun in
+    let answer = c.in-Answered.answer in
+    record {
+      exchange = record { ask = c.args.ask.now; moment = c.args.moment; calls = calls_answered begun.0 (window_of (rules_of c.args.gate.now) c.args.moment) answer; outcome = None; dials = []; reply = c.answered_reply.result };
+      asked = refl;
+      at = refl;
+      replied = refl;
+      exchanges = record {
+        is_exchange = inr (inr record {
+          client = begun.0;
+          answer = answer;
+          is_answered = subst (λ key. IsAnswered (rules_of c.args.gate.now) key c.args.ask.now.body.items begun.0 c.args.passes.now.made answer) c.as_str.ensures
+              (subst (λ body. IsAnswered (rules_of c.args.gate.now) c.as_str.result.now body begun.0 c.args.passes.now.made answer) c.deref.ensures.value begun.1);
+          calls = refl;
+          outcome = refl;
+          dials = refl;
+          untouched = refl;
+          reply = c.answered_reply.ensures.reply;
+        });
         gains = begun.2;
         logged = inl (logged_none (g.W.Wire.log c.args.wire.now));
         downs = rose_by_none (g.W.Wire.dial_faults c.args.wire.now) (g.W.Wire.dial_faults c.args.wire.now) (omega arith);

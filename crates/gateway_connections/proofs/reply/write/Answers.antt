@@ -1,4 +1,4 @@
-use Rattle.std.proofs.Common.{◌≡◌, ◌∙◌, sym, ap}
+use Rattle.std.proofs.Common.{◌∙◌, sym, ap}
 use Rattle.gateway_connections.specs.Replies.{bytes_with, written}
 use Rattle.gateway_connections.proofs.WrittenReplies.{with_body, without_body, front_as}
 use Rattle.gateway_connections.proofs.reply.write.Goals as goal

@@ -1,4 +1,4 @@
-use Rattle.std.proofs.Common.{◌≡◌, ◌+◌, ◌*◌, ◌∙◌, [], refl, arith, Some, None}
+use Rattle.std.proofs.Common.{◌∙◌, [], arith, Some, None}
 use Rattle.doors.specs.Visits.{Told}
 use Rattle.gateway_connections.specs.Exchanges.{service_of}
 use Rattle.gateway_connections.specs.Serving.{Turns}

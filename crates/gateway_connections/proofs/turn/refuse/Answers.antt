@@ -1,4 +1,4 @@
-use Rattle.std.proofs.Common.{◌≡◌, ◌+◌, ◌∙◌, inl, refl, subst, None, arith}
+use Rattle.std.proofs.Common.{inl, subst, None, arith}
 use Rattle.gateway_connections.specs.Replies.{IsFaultReply}
 use Rattle.gateway_connections.proofs.Going.{appended_none}
 use Rattle.gateway_connections.proofs.turn.refuse.Goals as goal

@@ -1,4 +1,4 @@
-use Rattle.std.proofs.Common.{◌≡◌, ◌++◌, ◌∷◌, [], refl, sym, subst, Some, None, List, ℕ}
+use Rattle.std.proofs.Common.{◌++◌, ◌∷◌, [], refl, sym, subst}
 use Rattle.http_front.specs.Asks.{IsAsk}
 use Rattle.http_front.specs.declared.front.Ask.{Ask}
 use Rattle.gateway_connections.specs.declared.ending.ConnectionEnd.TheVariants as ending

@@ -1,5 +1,5 @@
 -- The message is that of the fault.
-use Rattle.std.proofs.Common.{subst, sym}
+use Rattle.std.proofs.Common.{subst}
 use Rattle.gateway_core.specs.Messages.{message_body, link_status, link_text}
 use Rattle.gateway_core.specs.Finishes.{finished_as, link_charge, IsTold}
 use Rattle.gateway_core.proofs.ToldMessages.{told_as, within_told, charge_within, unanswered_as}

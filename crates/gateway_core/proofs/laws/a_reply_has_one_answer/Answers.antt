@@ -1,5 +1,5 @@
 -- What is granted holds a plan whose types have different names, and a reply to such a plan is read in one way.
-use Rattle.gateway_core.proofs.OneAnswer.{OneReading, measured_once, faulty_once, measured_or_faulty, answered_once}
+use Rattle.gateway_core.proofs.OneAnswer.{measured_once, faulty_once, measured_or_faulty, answered_once}
 use Rattle.gateway_core.proofs.laws.a_reply_has_one_answer.Goals as goal
 
 pub returns-clause-one_measure : goal.returns-clause-one_measure

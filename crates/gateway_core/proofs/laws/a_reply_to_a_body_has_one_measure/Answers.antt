@@ -1,10 +1,10 @@
 -- A body is read in one way, and a reply to it too.
-use Rattle.gateway_core.proofs.OneMeasure.{OneMeasure, measured_once, faulty_once, measured_or_faulty, answered}
+use Rattle.gateway_core.proofs.OneMeasure.{measured_once, faulty_once, measured_or_faulty, answered}
 use Rattle.gateway_core.proofs.laws.a_reply_to_a_body_has_one_measure.Goals as goal
 
 pub returns-clause-measure : goal.returns-clause-measure
 returns-clause-measure c rules body reply a b differ = measured_once (record {
-  one_asked = c.a_body_is_one_request_or_has_one_fault.ensures.one_request;
+  one_asked = c.a_body_is_one_request_by_a_list.ensures.one_request;
   trees = c.a_text_is_one_document.ensures.texts;
   offsets = c.a_text_is_one_document.ensures.places;
   one_plan = c.alike_requests_are_answered_alike.ensures.one_plan;
@@ -17,7 +17,7 @@ returns-clause-measure c rules body reply a b differ = measured_once (record {
 
 pub returns-clause-fault : goal.returns-clause-fault
 returns-clause-fault c rules body reply a b differ = faulty_once (record {
-  one_asked = c.a_body_is_one_request_or_has_one_fault.ensures.one_request;
+  one_asked = c.a_body_is_one_request_by_a_list.ensures.one_request;
   trees = c.a_text_is_one_document.ensures.texts;
   offsets = c.a_text_is_one_document.ensures.places;
   one_plan = c.alike_requests_are_answered_alike.ensures.one_plan;
@@ -30,7 +30,7 @@ returns-clause-fault c rules body reply a b differ = faulty_once (record {
 
 pub returns-clause-not_both : goal.returns-clause-not_both
 returns-clause-not_both c rules body reply a b differ = measured_or_faulty (record {
-  one_asked = c.a_body_is_one_request_or_has_one_fault.ensures.one_request;
+  one_asked = c.a_body_is_one_request_by_a_list.ensures.one_request;
   trees = c.a_text_is_one_document.ensures.texts;
   offsets = c.a_text_is_one_document.ensures.places;
   one_plan = c.alike_requests_are_answered_alike.ensures.one_plan;
@@ -43,7 +43,7 @@ returns-clause-not_both c rules body reply a b differ = measured_or_faulty (reco
 
 pub returns-clause-finished : goal.returns-clause-finished
 returns-clause-finished c = answered record {
-  one_asked = c.a_body_is_one_request_or_has_one_fault.ensures.one_request;
+  one_asked = c.a_body_is_one_request_by_a_list.ensures.one_request;
   trees = c.a_text_is_one_document.ensures.texts;
   offsets = c.a_text_is_one_document.ensures.places;
   one_plan = c.alike_requests_are_answered_alike.ensures.one_plan;

@@ -1,4 +1,4 @@
-use Rattle.std.proofs.Common.{◌≡◌, [], sym, ap, subst, map}
+use Rattle.std.proofs.Common.{sym, ap, subst}
 use Rattle.std.specs.Vec.Iter.{into_iter_items}
 use Rattle.gateway_replay.specs.Stretches.{request_of, requests_of, JustOpen}
 use Rattle.gateway_replay.proofs.LeftOpen.{abandons_none, abandons_more, few_made}

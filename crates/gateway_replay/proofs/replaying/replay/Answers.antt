@@ -1,4 +1,4 @@
-use Rattle.std.proofs.Common.{◌≡◌, ◌+◌, ◌≤◌, [], sym, ap, ◌∙◌, subst, arith, map, take, length}
+use Rattle.std.proofs.Common.{◌≤◌, sym, ◌∙◌, subst, arith, map, length}
 use Rattle.std.proofs.lemmas.List.{take_all, length-map}
 use Rattle.replay_scripts.specs.Steps.{step_data}
 use Rattle.gateway_core.specs.Gates.{rules_of}

@@ -1,8 +1,8 @@
-use Rattle.std.proofs.Common.{◌≡◌, ◌∷◌, [], ◌++◌, refl, sym, ap, ◌∙◌, map, subst}
+use Rattle.std.proofs.Common.{◌∷◌, [], ◌++◌, refl, ap, ◌∙◌, subst}
 use Rattle.gateway_core.specs.Gates.{rules_of}
 use Rattle.gateway_core.specs.Begins.{IsBegun}
 use Rattle.std.proofs.lemmas.List.{map_push}
-use Rattle.gateway_core.specs.declared.beginning.Begun.TheVariants.{Granted, Denied}
+use Rattle.gateway_core.specs.declared.beginning.Begun.TheVariants.{Granted, Answered, Denied}
 use Rattle.gateway_replay.specs.declared.opened.Open.{Open}
 use Rattle.gateway_replay.specs.Turns.{begun_as}
 use Rattle.gateway_replay.specs.Stretches.{request_of, requests_of}
@@ -27,6 +27,17 @@ returns-in-Denied-clause-taken g c =
     record {
       how = begun_as begun.0 (Denied c.in-Denied.denial);
       comes = subst (λ body. IsBegun (rules_of c.args.gate.now) c.args.key.now body begun.0 c.args.passes.now.made (Denied c.in-Denied.denial)) c.as_bytes.ensures.value begun.1;
+      calls = begun.2;
+      left_are = ap requests_of c.reserve.ensures.items;
+      told_is = refl;
+    }
+
+pub returns-in-Answered-clause-taken : goal.returns-in-Answered-clause-taken
+returns-in-Answered-clause-taken g c =
+    let begun = c.in-Answered.ensures.begun in
+    record {
+      how = begun_as begun.0 (Answered c.in-Answered.answer);
+      comes = subst (λ body. IsBegun (rules_of c.args.gate.now) c.args.key.now body begun.0 c.args.passes.now.made (Answered c.in-Answered.answer)) c.as_bytes.ensures.value begun.1;
       calls = begun.2;
       left_are = ap requests_of c.reserve.ensures.items;
       told_is = refl;

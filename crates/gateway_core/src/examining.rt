@@ -1,0 +1,123 @@
+//! What the body of a request comes to.
+
+ghost use Rattle.std.specs.Prelude.{◌≡◌, IfOk, IfErr};
+ghost use Rattle.serde_json.specs.View.{view};
+ghost use Rattle.request_bodies.specs.Bodies.{request_data as asked_data};
+ghost use Rattle.trusted_documents.specs.Requests.{IsRequestBy};
+ghost use Rattle.document_reader.specs.DocumentAnswers.{IsDocumentOf};
+ghost use Rattle.acceptance.specs.Requests.{request_data};
+ghost use Rattle.acceptance.specs.Refusals.{IsUnread};
+ghost use Rattle.acceptance.specs.Keys.{HasEachKeyOnce};
+ghost use Rattle.gateway_core.specs.Rules.{HasWeights};
+ghost use Rattle.gateway_core.specs.Gates.{rules_of};
+ghost use Rattle.gateway_core.specs.Requests.{request_of};
+ghost use Rattle.gateway_core.specs.Begins.{IsUnfit, IfRefusal};
+ghost use Rattle.gateway_core.specs.Examined.{IsFound, IsFoundFor, IsUnfitFor, IsPayable};
+
+use crate::beginning::Denial;
+use crate::gate::Gate;
+use crate::own_answers::own_answer;
+use crate::promise::{Promise, denied, promised};
+use acceptance::{Request, read, read_values_have_each_key_once};
+use document_reader::Document;
+use local_introspection::Local;
+use request_bodies::Request as Asked;
+use std::alloc::Global;
+use trusted_documents::{Unread, read_request_by, variables_are_the_clients};
+
+/// An operation that is to be reserved for.
+#[derive(Drop)]
+pub(crate) enum Examined<'g> {
+    /// It may be forwarded.
+    Upstream(Promise<'g>),
+    /// The gateway answers it so.
+    Local(Local),
+}
+
+// The request that a body is.
+fn asked_in(gate: &Gate, alloc: Global, body: &[u8]) -> Result<Asked, Denial>
+    ensures asked { IfOk result (λ asked. IsRequestBy (rules_of gate.now).trusted body.now (asked_data asked)) }
+    ensures unfit { IfErr result (IsUnfit (rules_of gate.now) body.now) }
+{
+    match read_request_by(alloc, gate.trusted.as_ref(), body) {
+        Ok(asked) => Ok(asked),
+        Err(Unread::Memory) => Err(Denial::Memory),
+        Err(Unread::Unexpanded(fault)) => Err(Denial::Unexpanded(fault)),
+        Err(Unread::BadBody(fault)) => Err(Denial::BadBody(fault)),
+    }
+}
+
+// The document that its query is.
+fn document_in(alloc: Global, asked: &Asked) -> Result<Document, Denial>
+    ensures document { IfOk result (IsDocumentOf asked.now.query) }
+    ensures refused { IfErr result (λ denial. IfRefusal denial (IsUnread asked.now.query)) }
+{
+    match read(alloc, asked.query.as_str()) {
+        Ok(document) => Ok(document),
+        Err(fault) => Err(denied(fault)),
+    }
+}
+
+// What is asked of the schema.
+fn request_of<'g, 'r>(gate: &'g Gate, asked: &'r Asked, document: &'r Document) -> Request<'g, 'r>
+    ensures data { request_data result ≡ request_of (rules_of gate.now) (asked_data asked.now) document.now }
+    ensures weighed { HasWeights (rules_of gate.now).schema (rules_of gate.now).weights }
+{
+    let name = match &asked.name {
+        Some(name) => Some(name.as_str()),
+        None => None,
+    };
+    Request {
+        schema: &gate.schema,
+        weights: &gate.weights,
+        document,
+        name,
+        given: &asked.variables,
+    }
+}
+
+// What a body comes to that is this request with this document.
+fn found_for<'g>(
+    gate: &'g Gate,
+    alloc: Global,
+    asked: &Asked,
+    document: &Document,
+) -> Result<Examined<'g>, Denial>
+    requires once { HasEachKeyOnce (view asked.now.variables) }
+    ensures found { IfOk result (IsFoundFor (rules_of gate.now) (request_of (rules_of gate.now) (asked_data asked.now) document.now)) }
+    ensures payable { IfOk result IsPayable }
+    ensures unfit { IfErr result (IsUnfitFor (rules_of gate.now) (request_of (rules_of gate.now) (asked_data asked.now) document.now)) }
+{
+    let request = request_of(gate, asked, document);
+    match own_answer(gate, alloc, &request) {
+        Ok(Some(answer)) => Ok(Examined::Local(answer)),
+        Ok(None) => match promised(alloc, &request) {
+            Ok(promise) => Ok(Examined::Upstream(promise)),
+            Err(denial) => Err(denial),
+        },
+        Err(denial) => Err(denial),
+    }
+}
+
+/// Examines a body: what is promised for it or answered, or why it is unfit. All memory that a beginning needs is taken here.
+pub(crate) fn examine<'g>(
+    gate: &'g Gate,
+    alloc: Global,
+    body: &[u8],
+) -> Result<Examined<'g>, Denial>
+    ensures found { IfOk result (IsFound (rules_of gate.now) body.now) }
+    ensures payable { IfOk result IsPayable }
+    ensures unfit { IfErr result (IsUnfit (rules_of gate.now) body.now) }
+{
+    variables_are_the_clients();
+    read_values_have_each_key_once();
+    let asked = match asked_in(gate, alloc, body) {
+        Ok(asked) => asked,
+        Err(denial) => return Err(denial),
+    };
+    let document = match document_in(alloc, &asked) {
+        Ok(document) => document,
+        Err(denial) => return Err(denial),
+    };
+    found_for(gate, alloc, &asked, &document)
+}
