@@ -45,7 +45,7 @@ impl Client {
         }
     }
 
-    /// A stream whose reads and writes don't wait; none where the system refuses that.
+    /// A stream whose reads and writes don't wait, of a client that takes turns with others; none where the system refuses that.
     pub(crate) fn ready(stream: TcpStream) -> Option<Client> {
         if stream.set_nonblocking(true).is_err() {
             return None;
@@ -126,25 +126,24 @@ impl Client {
         self.rests.load(Ordering::SeqCst)
     }
 
-    // Says whether it does.
-    fn set_rests(&self, rests: bool) {
-        self.rests.store(rests, Ordering::SeqCst);
-    }
-
     /// Begins a further turn, in which nothing was read.
     pub(crate) fn begin(&self) {
-        self.set_rests(false);
+        self.rests.store(false, Ordering::SeqCst);
     }
 
     /// Says that no reply follows, and drops what the client still sends, so that closing the stream then doesn't take
     /// back the last reply: a stream that is closed with bytes unread is reset. It is closed by the caller.
     pub(crate) fn take_leave<R: rt::Clock>(&self, rt: &R) {
-        if self.stream.shutdown(Shutdown::Write).is_err() || self.set_waits(true).is_err() {
+        if let Ok(now) = rt.monotonic() {
+            self.take_leave_since(rt, now);
+        }
+    }
+
+    /// The same in the time that is left of leaves which began then. Once it is over, what was sent so far is dropped and nothing waited for.
+    pub(crate) fn take_leave_since<R: rt::Clock>(&self, rt: &R, begun: Duration) {
+        if self.stream.shutdown(Shutdown::Write).is_err() {
             return;
         }
-        let Ok(begun) = rt.monotonic() else {
-            return;
-        };
         let mut piece = [0u8; PIECE_BYTES];
         let mut left = LINGER_BYTES;
         for _ in 0..LINGER_BYTES {
@@ -156,14 +155,14 @@ impl Client {
         }
     }
 
-    // How many bytes one read dropped; none where the end was met, the time is over, or the read failed.
+    // How many bytes one read dropped; none where the end was met, the time is over and nothing is there, or the read failed.
     fn dropped<R: rt::Clock>(&self, rt: &R, begun: Duration, piece: &mut [u8]) -> Option<usize> {
         let passed = rt.monotonic().ok()?.saturating_sub(begun);
         let left = Duration::from_secs(LINGER_SECONDS).saturating_sub(passed);
-        if left.is_zero() {
-            return None;
+        self.set_waits(!left.is_zero()).ok()?;
+        if !left.is_zero() {
+            let _ = self.stream.set_read_timeout(Some(left));
         }
-        let _ = self.stream.set_read_timeout(Some(left));
         match (&self.stream).read(piece) {
             Ok(0) => None,
             Ok(count) => Some(count),
@@ -177,8 +176,8 @@ impl Client {
 #[derive(Drop)]
 pub struct ClientReader {
     client: Arc<Client, Global>,
-    /// In a turn, how many bytes of the request at hand weren't read so far. Without a number the stream is read as it
-    /// comes, to its end.
+    /// In a turn, how many bytes of its request weren't read so far. Without a number the stream is read as it comes, to
+    /// its end.
     left: Option<usize>,
 }
 
@@ -188,26 +187,13 @@ impl ClientReader {
         ClientReader { client, left }
     }
 
-    // Where the request at hand was read whole, looks for the next one. It is none where the turn is over.
-    fn at_next(&mut self) -> bool {
-        if self.left != Some(0) {
-            return true;
+    // Whether the request at hand was read whole. The turn is over then, and the client may go on in a further one.
+    fn is_over(&self) -> bool {
+        let is_over = self.left == Some(0);
+        if is_over {
+            self.client.rests.store(true, Ordering::SeqCst);
         }
-        match self.client.look() {
-            Look::Request(length) => {
-                self.left = Some(length);
-                true
-            }
-            Look::Other => {
-                self.left = None;
-                true
-            }
-            Look::Part | Look::Nothing => {
-                self.client.set_rests(true);
-                false
-            }
-            Look::Over => false,
-        }
+        is_over
     }
 }
 
@@ -215,7 +201,7 @@ impl Read for ClientReader {
     fn read(&mut self, buf: &mut [u8]) -> io::Result<usize>
         ensures { ReadsAtMost result buf.new }
     {
-        if !self.at_next() {
+        if self.is_over() {
             return Ok(0);
         }
         let Some(left) = self.left else {

@@ -2,9 +2,8 @@
 
 use crate::client::Client;
 use crate::ending::Ending;
-use crate::hall::Guest;
 use crate::listening::{Accepted, accept, pause};
-use crate::room::Place;
+use crate::room::{Called, Place};
 use mio::unix::SourceFd;
 use mio::{Events, Interest, Poll, Token};
 use std::alloc::Global;
@@ -16,16 +15,6 @@ use std::{io, rt};
 
 // How long one wait for a client takes at most, where the end may be asked for, in milliseconds.
 const WAIT_MILLISECONDS: u64 = 500;
-
-/// A client that came in.
-#[derive(Drop)]
-pub(crate) struct Entry {
-    pub(crate) client: Arc<Client, Global>,
-    /// In a turn, how long its first request is, where that is known.
-    pub(crate) left: Option<usize>,
-    // Its number in the waiting room.
-    number: usize,
-}
 
 /// Where the clients of a door come in.
 #[derive(Drop)]
@@ -101,13 +90,14 @@ fn next_stream<R: rt::Clock>(rt: &R, listener: &TcpListener) -> Option<TcpStream
 }
 
 // A client for all that it sends.
-fn for_all(alloc: Global, stream: TcpStream, patience: Duration) -> Option<Entry> {
+fn for_all(alloc: Global, stream: TcpStream, patience: Duration) -> Option<Called> {
     let client = Client::waiting(stream);
     client.set_up(patience);
-    Some(Entry {
+    Some(Called {
         client: Arc::new(alloc, client).ok()?,
         left: None,
         number: 0,
+        is_closed: false,
     })
 }
 
@@ -118,37 +108,31 @@ impl Entrance {
         rt: &R,
         alloc: Global,
         patience: Duration,
-    ) -> Option<Entry> {
+    ) -> Option<Called> {
         match self {
             Entrance::Listener(listener) => for_all(alloc, next_stream(rt, listener)?, patience),
             Entrance::Watched(watch) => for_all(alloc, watch.next(rt)?, patience),
             Entrance::Room(place) => {
                 let called = place.next(rt)?;
                 called.client.begin();
-                Some(Entry {
-                    client: called.client,
-                    left: called.left,
-                    number: called.number,
-                })
+                Some(called)
             }
         }
     }
 
     /// Takes back a client that was given. One that may go on goes back into the waiting room; else its connection is
     /// closed.
-    pub(crate) fn take_back<R: rt::Clock + rt::Files>(&self, rt: &R, entry: Entry) {
+    pub(crate) fn take_back<R: rt::Clock + rt::Files>(&self, rt: &R, called: Called) {
         match self {
-            Entrance::Room(place) if entry.client.rests() => {
-                let since = rt.monotonic().unwrap_or(Duration::ZERO);
-                if !place.room.is_ending(rt) {
-                    place.room.take_back(Guest {
-                        number: entry.number,
-                        client: entry.client,
-                        since,
-                    });
+            Entrance::Room(place) => {
+                if called.client.rests() && !place.room.is_ending(rt) {
+                    place.room.take_back(rt, called);
+                    return;
                 }
+                place.room.forget(called.number);
+                called.client.take_leave(rt);
             }
-            _ => entry.client.take_leave(rt),
+            _ => called.client.take_leave(rt),
         }
     }
 }

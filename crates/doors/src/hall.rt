@@ -1,15 +1,11 @@
 //! Those who wait in a waiting room.
 
 use crate::client::Client;
-use crate::listening::{Accepted, accept};
 use crate::looking::Look;
 use lru::LruCache;
-use mio::unix::SourceFd;
-use mio::{Interest, Registry, Token};
 use std::alloc::{AllocError, Global};
-use std::collections::VecDeque;
-use std::net::TcpListener;
 use std::sync::Arc;
+use std::sync::atomic::{AtomicUsize, Ordering};
 use std::time::Duration;
 
 /// How long a client may stay in the waiting room without a request, in seconds.
@@ -18,84 +14,194 @@ pub const IDLE_SECONDS: u64 = 75;
 /// How long the beginning of a request may stay there, from its first byte, in seconds.
 pub const BEGUN_SECONDS: u64 = 10;
 
+// How many are called before the system is asked again whom to tell of.
+const CALLS: u32 = 64;
+
+// How long they are called before that, in milliseconds.
+const CALL_MILLISECONDS: u64 = 50;
+
 // How long fewer clients may wait where the system lacked descriptors, in seconds.
 const SHORT_SECONDS: u64 = 60;
 
-// How many clients are accepted one after the other before those are looked at who are there.
-const ACCEPTS: u32 = 64;
-
-/// A client in the room, by the number that it has there, and since when it waits.
+/// A client in the room, by the number that it has there, and since when it waits: for a request, or for the rest of one.
 #[derive(Drop)]
 pub(crate) struct Guest {
     pub(crate) number: usize,
     pub(crate) client: Arc<Client, Global>,
     pub(crate) since: Duration,
+    pub(crate) has_begun: bool,
+    /// Whether nothing follows what it sent.
+    pub(crate) is_closed: bool,
 }
 
-/// A client that has a request, and how long it is where that is known.
-#[derive(Drop)]
-pub(crate) struct Called {
+/// That the system told of the one with this number, and whether nothing follows what it sent.
+#[derive(Clone, Copy, Drop)]
+pub(crate) struct Told {
     pub(crate) number: usize,
-    pub(crate) client: Arc<Client, Global>,
-    pub(crate) left: Option<usize>,
+    pub(crate) is_closed: bool,
 }
 
-/// What came of taking in those who call.
-#[derive(Clone, Copy, Drop, PartialEq, Eq)]
-pub(crate) enum Arrivals {
-    /// All who called were taken in.
-    All,
-    /// More may call.
-    More,
-    /// The system lacks descriptors or memory. That passes.
-    Shortage,
-    /// The listener failed.
-    Failed,
+/// One that a door has, and what the system told of it since.
+#[derive(Clone, Copy, Drop)]
+struct Away {
+    number: usize,
+    is_told: bool,
+    is_closed: bool,
 }
 
-/// All who wait: those without a request, those with a part of one, and those with a whole one.
+/// All who wait: those without a request, those with a part of one, and those that are to be looked at, as the system told of them.
 #[derive(Drop)]
 pub(crate) struct Hall {
     idle: LruCache<usize, Guest>,
     begun: LruCache<usize, Guest>,
-    called: VecDeque<Called>,
-    next: usize,
+    told: LruCache<usize, Guest>,
+    // How many are to be looked at.
+    count: Arc<AtomicUsize, Global>,
+    // How many were called since the system was asked whom to tell of, and when that was.
+    calls: u32,
+    asked_at: Duration,
+    away: Vec<Away>,
     most: usize,
     // How many may wait at this time, and when the system last lacked descriptors.
     room: usize,
     short_at: Duration,
     // How many are let go where the system lacks descriptors.
     spare: usize,
-    // How long a read or a write in a turn may wait.
-    patience: Duration,
-    alloc: Global,
 }
 
 impl Hall {
     /// Nobody waits. So many may wait at most, and so many are let go where the system lacks descriptors.
-    pub(crate) fn new(
-        alloc: Global,
-        most: u32,
-        spare: u32,
-        patience: Duration,
-    ) -> Result<Hall, AllocError> {
+    pub(crate) fn new(alloc: Global, most: u32, spare: u32) -> Result<Hall, AllocError> {
         Ok(Hall {
             idle: LruCache::unbounded(alloc)?,
             begun: LruCache::unbounded(alloc)?,
-            called: VecDeque::new(alloc),
-            next: 1,
+            told: LruCache::unbounded(alloc)?,
+            count: Arc::new(alloc, AtomicUsize::new(0))?,
+            calls: 0,
+            asked_at: Duration::ZERO,
+            away: Vec::new(alloc),
             most: most as usize,
             room: most as usize,
             short_at: Duration::ZERO,
             spare: spare as usize,
-            patience,
-            alloc,
         })
     }
 
-    /// The one that has had a request for longest.
-    pub(crate) fn call(&mut self) -> Option<Called> {
-        self.called.pop_front()
+    /// Where it stands how many are to be looked at.
+    pub(crate) fn count(&self) -> Result<Arc<AtomicUsize, Global>, AllocError> {
+        Ok(Arc::try_clone(&self.count)?)
+    }
+
+    // Says how many are to be looked at.
+    fn count_anew(&self) {
+        self.count.store(self.told.len(), Ordering::SeqCst);
+    }
+
+    /// The system told of one, which stands behind those then that are to be looked at. One that still lacks the rest of a request stays
+    /// where it is, so that its time runs on.
+    pub(crate) fn tell(&mut self, told: Told) {
+        if let Some(guest) = self.idle.pop(&told.number) {
+            self.line_up(guest, told.is_closed);
+        } else if let Some(guest) = self.begun.peek(&told.number) {
+            if told.is_closed || !is_part(&guest.client) {
+                self.line_up_begun(told);
+            }
+        } else if let Some(guest) = self.told.peek_mut(&told.number) {
+            guest.is_closed = guest.is_closed || told.is_closed;
+        } else {
+            self.note(told);
+        }
+    }
+
+    // Lets one stand behind those that are to be looked at. Where there is no memory for that, its connection is closed.
+    fn line_up(&mut self, mut guest: Guest, is_closed: bool) {
+        guest.is_closed = guest.is_closed || is_closed;
+        let _ = self.told.put(guest.number, guest);
+        self.count_anew();
+    }
+
+    // The same of one that has sent a part of a request.
+    fn line_up_begun(&mut self, told: Told) {
+        if let Some(guest) = self.begun.pop(&told.number) {
+            self.line_up(guest, told.is_closed);
+        }
+    }
+
+    /// At this time the system was asked whom to tell of.
+    pub(crate) fn renew(&mut self, now: Duration) {
+        self.calls = 0;
+        self.asked_at = now;
+    }
+
+    /// Whether so many were called since, or for so long, that the system is to be asked again.
+    pub(crate) fn is_to_ask(&self, now: Duration) -> bool {
+        let passed = now.saturating_sub(self.asked_at);
+        CALLS <= self.calls || Duration::from_millis(CALL_MILLISECONDS) <= passed
+    }
+
+    /// The first of those that are to be looked at. It is the door's then, until it is taken back or forgotten.
+    pub(crate) fn call(&mut self) -> Option<Guest> {
+        self.calls = self.calls.saturating_add(1);
+        let (number, guest) = self.told.pop_lru()?;
+        self.count_anew();
+        let _ = self.away.push(Away {
+            number,
+            is_told: false,
+            is_closed: false,
+        });
+        Some(guest)
+    }
+
+    /// One of those that are to be looked at or have sent a part of a request, who leaves; none where nobody has sent anything.
+    pub(crate) fn dismiss(&mut self) -> Option<Guest> {
+        if let Some((_, guest)) = self.told.pop_lru() {
+            self.count_anew();
+            return Some(guest);
+        }
+        let (_, guest) = self.begun.pop_lru()?;
+        Some(guest)
+    }
+
+    // Notes that the system told of one that a door has.
+    fn note(&mut self, told: Told) {
+        for away in &mut self.away {
+            if away.number == told.number {
+                away.is_told = true;
+                away.is_closed = told.is_closed;
+            }
+        }
+    }
+
+    /// Forgets one that a door had, and gives what the system told of it meanwhile.
+    pub(crate) fn forget(&mut self, number: usize) -> Option<Told> {
+        let at = self.away.iter().position(|away| away.number == number)?;
+        let away = self.away.swap_remove(at);
+        if !away.is_told {
+            return None;
+        }
+        Some(Told {
+            number,
+            is_closed: away.is_closed,
+        })
+    }
+
+    /// Takes one back that a door had. It is to be looked at where some of a request may be there, or the system told of it meanwhile.
+    pub(crate) fn take_back(&mut self, guest: Guest, may_have_begun: bool) {
+        match self.forget(guest.number) {
+            Some(told) => self.line_up(guest, told.is_closed),
+            None if may_have_begun => self.line_up(guest, false),
+            None => self.take_in(guest),
+        }
+    }
+
+    /// Takes one in. Where there is no memory for that, its connection is closed.
+    pub(crate) fn take_in(&mut self, guest: Guest) {
+        if guest.has_begun {
+            let _ = self.begun.put(guest.number, guest);
+        } else {
+            let _ = self.idle.put(guest.number, guest);
+        }
+        self.keep(self.room);
     }
 
     // How many wait for a request or the rest of one.
@@ -103,24 +209,13 @@ impl Hall {
         self.idle.len().saturating_add(self.begun.len())
     }
 
-    // Lets the one go that has waited longest without a request, or else with a part of one.
-    fn let_go(&mut self) {
-        if self.idle.pop_lru().is_none() {
-            let _ = self.begun.pop_lru();
-        }
-    }
-
-    // Lets so many go that no more than this number wait.
+    // Lets so many go that no more than this number wait: first those who have waited longest without a request.
     fn keep(&mut self, most: usize) {
         for _ in 0..self.waiting().saturating_sub(most) {
-            self.let_go();
+            if self.idle.pop_lru().is_none() {
+                let _ = self.begun.pop_lru();
+            }
         }
-    }
-
-    /// Takes one in who has no request so far. Where there is no memory for that, its connection is closed.
-    pub(crate) fn take_in(&mut self, guest: Guest) {
-        let _ = self.idle.put(guest.number, guest);
-        self.keep(self.room);
     }
 
     /// Lets those go that have waited too long, and as many wait again as may, once no shortage came for a while.
@@ -128,129 +223,35 @@ impl Hall {
         if Duration::from_secs(SHORT_SECONDS) <= now.saturating_sub(self.short_at) {
             self.room = self.most;
         }
-        for _ in 0..self.idle.len() {
-            if !is_over(&self.idle, now, IDLE_SECONDS) {
-                break;
-            }
-            let _ = self.idle.pop_lru();
-        }
-        for _ in 0..self.begun.len() {
-            if !is_over(&self.begun, now, BEGUN_SECONDS) {
-                break;
-            }
-            let _ = self.begun.pop_lru();
-        }
+        let_go(&mut self.idle, now, IDLE_SECONDS);
+        let_go(&mut self.begun, now, BEGUN_SECONDS);
     }
 
-    /// Looks at what the one with this number sent, if it waits. One that sent nothing and hung up is let go; with a part
-    /// of a request and no more to come, it is for the doors to say so.
-    pub(crate) fn look_at(&mut self, number: usize, is_closed: bool, now: Duration) {
-        match self.seen(number) {
-            Look::Nothing => {}
-            Look::Part if !is_closed => self.begin(number, now),
-            Look::Request(length) => self.has_request(number, Some(length)),
-            Look::Part | Look::Other => self.has_request(number, None),
-            Look::Over => {
-                let _ = self.take_out(number);
-            }
-        }
-    }
-
-    // What the one with this number sent; nothing where it doesn't wait.
-    fn seen(&self, number: usize) -> Look {
-        if let Some(guest) = self.idle.peek(&number) {
-            return guest.client.look();
-        }
-        match self.begun.peek(&number) {
-            Some(guest) => guest.client.look(),
-            None => Look::Nothing,
-        }
-    }
-
-    fn take_out(&mut self, number: usize) -> Option<Guest> {
-        match self.idle.pop(&number) {
-            Some(guest) => Some(guest),
-            None => self.begun.pop(&number),
-        }
-    }
-
-    // It has a request, whole or without more to come.
-    fn has_request(&mut self, number: usize, left: Option<usize>) {
-        if let Some(guest) = self.take_out(number) {
-            let client = guest.client;
-            let _ = self.called.push_back(Called {
-                number,
-                client,
-                left,
-            });
-        }
-    }
-
-    // It has the first bytes of a request. From now on its time runs.
-    fn begin(&mut self, number: usize, now: Duration) {
-        if let Some(mut guest) = self.idle.pop(&number) {
-            guest.since = now;
-            let _ = self.begun.put(number, guest);
-        }
-    }
-
-    /// Takes in those who call, so many of them at most.
-    pub(crate) fn accept(
-        &mut self,
-        listener: &TcpListener,
-        registry: &Registry,
-        now: Duration,
-    ) -> Arrivals {
-        for _ in 0..ACCEPTS {
-            match accept(listener) {
-                Accepted::Client(stream) => {
-                    if let Some(client) = Client::ready(stream) {
-                        self.enter(client, registry, now);
-                    }
-                }
-                Accepted::Nobody => return Arrivals::All,
-                Accepted::Shortage => {
-                    self.make_room(now);
-                    return Arrivals::Shortage;
-                }
-                Accepted::Failed => return Arrivals::Failed,
-            }
-        }
-        Arrivals::More
-    }
-
-    // For a while so many fewer may wait that the doors find descriptors for their calls.
-    fn make_room(&mut self, now: Duration) {
+    /// For a while so many fewer may wait that the doors find descriptors for their calls.
+    pub(crate) fn make_room(&mut self, now: Duration) {
         let fewer = self.waiting().saturating_sub(self.spare);
         self.room = self.room.min(fewer.max(self.spare));
         self.short_at = now;
         self.keep(self.room);
     }
+}
 
-    // Takes a client in that has just called. Where the system or the memory refuses that, its connection is closed.
-    fn enter(&mut self, client: Client, registry: &Registry, now: Duration) {
-        client.set_up(self.patience);
-        let number = self.next;
-        self.next = self.next.wrapping_add(1).max(1);
-        let fd = client.fd();
-        let watched = registry.register(&mut SourceFd(&fd), Token(number), Interest::READABLE);
-        if watched.is_err() {
-            return;
-        }
-        if let Ok(client) = Arc::new(self.alloc, client) {
-            self.take_in(Guest {
-                number,
-                client,
-                since: now,
-            });
-        }
+// Whether a client has sent a part of a request.
+fn is_part(client: &Client) -> bool {
+    match client.look() {
+        Look::Part => true,
+        _ => false,
     }
 }
 
-// Whether the one that has waited longest has done so for so many seconds.
-fn is_over(guests: &LruCache<usize, Guest>, now: Duration, seconds: u64) -> bool {
-    match guests.peek_lru() {
-        Some((_, guest)) => Duration::from_secs(seconds) <= now.saturating_sub(guest.since),
-        None => false,
+// Lets those go that have waited for so many seconds.
+fn let_go(guests: &mut LruCache<usize, Guest>, now: Duration, seconds: u64) {
+    for _ in 0..guests.len() {
+        match guests.peek_lru() {
+            Some((_, guest)) if Duration::from_secs(seconds) <= now.saturating_sub(guest.since) =>
+                {}
+            _ => return,
+        }
+        let _ = guests.pop_lru();
     }
 }

@@ -11,11 +11,14 @@ use std::net::TcpStream;
 /// How many bytes a look sees at most: as many as the longest head has.
 pub const LOOK_BYTES: usize = 16_384;
 
+// How many bytes a look sees at first: as many as most requests have.
+const SHORT_BYTES: usize = 2_048;
+
 // The longest body that a client may send. What is longer is refused by its head.
 const BODY_BYTES: u64 = 262_144;
 
 /// What stands at the front of what a client sent.
-#[derive(Clone, Copy, Drop)]
+#[derive(Clone, Copy, Drop, PartialEq, Eq)]
 pub(crate) enum Look {
     /// Nothing so far.
     Nothing,
@@ -66,14 +69,22 @@ fn so_far(seen: usize, length: usize) -> Look {
     }
 }
 
+// Looks at so much as fits of what a client sent. None where that is full.
+fn peeked_in(stream: &TcpStream, front: &mut [u8]) -> Option<Look> {
+    let mut headers = [EMPTY_HEADER_SPAN; 64];
+    match stream.peek(front) {
+        Ok(0) => Some(Look::Over),
+        Ok(count) if front.len() <= count && count < LOOK_BYTES => None,
+        Ok(count) => Some(look_at(&front[..count], &mut headers)),
+        Err(error) if error.kind() == ErrorKind::WouldBlock => Some(Look::Nothing),
+        Err(_) => Some(Look::Over),
+    }
+}
+
 /// Looks at what a client sent, on a stream whose reads don't wait.
 pub(crate) fn peeked(stream: &TcpStream) -> Look {
-    let mut front = [0u8; LOOK_BYTES];
-    let mut headers = [EMPTY_HEADER_SPAN; 64];
-    match stream.peek(&mut front) {
-        Ok(0) => Look::Over,
-        Ok(count) => look_at(&front[..count], &mut headers),
-        Err(error) if error.kind() == ErrorKind::WouldBlock => Look::Nothing,
-        Err(_) => Look::Over,
+    match peeked_in(stream, &mut [0u8; SHORT_BYTES]) {
+        Some(look) => look,
+        None => peeked_in(stream, &mut [0u8; LOOK_BYTES]).unwrap_or(Look::Other),
     }
 }

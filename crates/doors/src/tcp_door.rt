@@ -5,7 +5,8 @@ ghost use Rattle.std.specs.Prelude.{◌≡◌, None, true, false, is_some};
 use crate::client::{ClientReader, ClientWriter};
 use crate::conn::Conn;
 use crate::door::{Door, DoorFault};
-use crate::entrance::{Entrance, Entry};
+use crate::entrance::Entrance;
+use crate::room::Called;
 use outside::{StdSink, StdSource, SystemClock, TcpWire};
 use std::alloc::Global;
 use std::net::{Net, TcpListener, TcpStream};
@@ -32,7 +33,7 @@ pub struct TcpDoor<
     upstream: String,
     patience: Duration,
     /// The client, while a connection is out.
-    client: Option<Entry>,
+    client: Option<Called>,
     to_come: u32,
     faults: u64,
 }
@@ -66,9 +67,9 @@ impl<
     }
 
     // A connection of this client.
-    fn connect(&self, entry: &Entry) -> Option<TcpConn<R>> {
-        let reader = ClientReader::new(Arc::try_clone(&entry.client).ok()?, entry.left);
-        let writer = ClientWriter::new(Arc::try_clone(&entry.client).ok()?);
+    fn connect(&self, called: &Called) -> Option<TcpConn<R>> {
+        let reader = ClientReader::new(Arc::try_clone(&called.client).ok()?, called.left);
+        let writer = ClientWriter::new(Arc::try_clone(&called.client).ok()?);
         Some(Conn {
             source: StdSource::new(reader),
             sink: StdSink::new(writer),
@@ -78,14 +79,14 @@ impl<
     }
 
     // The next client, and the connection to it.
-    fn next(&mut self) -> Option<(Entry, TcpConn<R>)>
+    fn next(&mut self) -> Option<(Called, TcpConn<R>)>
         ensures client { self.new.client ≡ self.old.client }
         ensures to_come { self.new.to_come ≡ self.old.to_come }
         ensures faults { self.new.faults ≡ self.old.faults }
     {
-        let entry = self.entrance.next(&self.rt, self.alloc, self.patience)?;
-        let conn = self.connect(&entry)?;
-        Some((entry, conn))
+        let called = self.entrance.next(&self.rt, self.alloc, self.patience)?;
+        let conn = self.connect(&called)?;
+        Some((called, conn))
     }
 }
 
@@ -120,8 +121,8 @@ impl<
             return Ok(None);
         }
         match self.next() {
-            Some((entry, conn)) => {
-                self.client = Some(entry);
+            Some((called, conn)) => {
+                self.client = Some(called);
                 self.to_come -= 1;
                 Ok(Some(conn))
             }
@@ -139,8 +140,8 @@ impl<
         ensures count { self.new.faults ≡ self.old.faults }
     {
         drop(conn);
-        if let Some(entry) = self.client.take() {
-            self.entrance.take_back(&self.rt, entry);
+        if let Some(called) = self.client.take() {
+            self.entrance.take_back(&self.rt, called);
         }
     }
 }

@@ -154,8 +154,8 @@ fn entrances<R: Net<Listener = TcpListener, Stream = TcpStream>>(
     match waiting {
         Some(most) => {
             let spare = words.workers.saturating_mul(2);
-            let hall = Hall::new(alloc, most, spare, patience)?;
-            let places = places(rt, alloc, listener, ending, hall, words.workers)?;
+            let hall = Hall::new(alloc, most, spare)?;
+            let places = places(rt, alloc, listener, ending, hall, patience, words.workers)?;
             for place in places {
                 entrances.push(Entrance::Room(place))?;
             }

@@ -2,10 +2,11 @@
 #![tactic(auto)]
 
 mod ending;
+mod entering;
 mod words;
 
-use doors::TcpDoors;
 use ending::{end, end_for};
+use entering::doors_for;
 use gateway_run::WordsFault;
 pub use gateway_run::run;
 use outside::{StdFiles, StdSink};
@@ -22,10 +23,16 @@ fn main(rt: HostRuntime) -> ExitCode {
     let Ok(for_doors) = rt.clone() else {
         return end_for(WordsFault::Memory, &mut out, &mut err);
     };
+    let words = match words_given(&rt, alloc) {
+        Ok(words) => words,
+        Err(fault) => return end_for(fault, &mut out, &mut err),
+    };
+    let mut doors = match doors_for(for_doors, alloc, &words) {
+        Ok(doors) => doors,
+        Err(fault) => return end_for(fault, &mut out, &mut err),
+    };
     let mut files = StdFiles::new(for_files);
-    let mut doors = TcpDoors::new(for_doors, alloc);
-    let words = words_given(&rt, alloc);
     end(
-        &rt, alloc, words, &mut files, &mut doors, &mut out, &mut err,
+        &rt, alloc, &words, &mut files, &mut doors, &mut out, &mut err,
     )
 }

@@ -52,7 +52,7 @@ pub record Toured {D : Type 0} (t : DoorMembers D) (s : Service) (accounts : Acc
   pub faults : faults_in ws ≡ faults_of tours
   pub counted : AllByRecursion IsCounted ws
 
-toured : {D : Type 0} (t : DoorMembers D) (s : Service) (accounts : AccountsView) (most : ℕ) (vs ws : List (Worker D)) → most ≤ 1000000 → AllByRecursion (Waits t accounts) vs → Beside (Worked t s accounts most) vs ws
+toured : {D : Type 0} (t : DoorMembers D) (s : Service) (accounts : AccountsView) (most : ℕ) (vs ws : List (Worker D)) → most ≤ 4294967295 → AllByRecursion (Waits t accounts) vs → Beside (Worked t s accounts most) vs ws
     → Toured t s accounts most vs ws
 unfolding AreTours Went connections_of replies_of faults_of connections_in answers_in faults_in
 toured t s accounts most [] [] few wait worked =
@@ -85,7 +85,7 @@ toured t s accounts most (v ∷ vs) (w ∷ ws) few wait worked =
       counted = ((omega (arith, did.connections, wait.0.none.0, one.few, few), omega (arith, did.few, wait.0.none.1, one.few, few)), rest.counted);
     }
 
-pub all_toured : {D : Type 0} (t : DoorMembers D) (s : Service) (accounts : AccountsView) (most : ℕ) (vs ws : List (Worker D)) → most ≤ 1000000 → AllByRecursion (Waits t accounts) vs → length ws ≡ length vs
+pub all_toured : {D : Type 0} (t : DoorMembers D) (s : Service) (accounts : AccountsView) (most : ℕ) (vs ws : List (Worker D)) → most ≤ 4294967295 → AllByRecursion (Waits t accounts) vs → length ws ≡ length vs
     → ((k : ℕ) (d : Worker D) → k < length vs → Worked t s accounts most (slice_index_or vs k d) (slice_index_or ws k d)) → Toured t s accounts most vs ws
 all_toured t s accounts most vs ws few wait count worked = toured t s accounts most vs ws few wait (beside_places (Worked t s accounts most) vs ws count worked)
 

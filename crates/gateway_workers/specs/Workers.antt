@@ -75,7 +75,7 @@ passes_of ws = map (λ w. w.passes) ws
 
 -- counts that a worker can have
 abbrev pub IsCounted : {D : Type 0} → Worker D → Type 0
-IsCounted w = (w.connections ≤ 1000000) × (w.replies ≤ 1000000000)
+IsCounted w = (w.connections ≤ 4294967295) × (w.replies ≤ 4294967295000)
 
 abbrev pub IsNewWorker : {D : Type 0} → Worker D → Type 0
 IsNewWorker w = (w.connections ≡ 0) × (w.replies ≡ 0) × (w.failed ≡ false)

@@ -13,14 +13,14 @@ use std::alloc::Global;
 use std::sync::Wait;
 
 /// How many connections a worker serves at most.
-pub const CONNECTION_LIMIT: u32 = 1_000_000;
+pub const CONNECTION_LIMIT: u32 = 4_294_967_295;
 
 // Serves one connection of the door, if it gives one.
 fn serve_one<D: Door, R: Wait>(gate: &Gate, alloc: Global, rt: &R, worker: &mut Worker<D>) -> Next
     requires belong { Belongs worker.old.passes gate.now.accounts }
     requires idle { IsIdle worker.old.passes }
     requires free { D.out worker.old.door ≡ false }
-    requires few { worker.old.connections < 1000000 }
+    requires few { worker.old.connections < 4294967295 }
     requires counted { worker.old.replies ≤ 1000 * worker.old.connections }
     requires made { worker.old.passes.made ≤ 2000 * worker.old.connections }
     ensures { TurnIs (members D.out D.to_come D.faults D.visits) (service_of gate.now) gate.now.accounts worker.old worker.new result }

@@ -11,8 +11,8 @@ workers-preserved g c =
     let f = faults_step c.args.workers.now c.workers.worker-index c.worker-item.result c.workers-test.true c.worker-item.is in
     let counted = c.requires.counted c.workers.worker-index c.worker-item.result c.workers-test.true in
     let here : get_or c.args.workers.now c.workers.worker-index c.worker-item.result ≡ c.worker-item.result = sym c.worker-item.is in
-    let few : c.worker-item.result.connections ≤ 1000000 = subst (λ (w : Worker _). w.connections ≤ 1000000) here counted.0 in
-    let most : c.worker-item.result.replies ≤ 1000000000 = subst (λ (w : Worker _). w.replies ≤ 1000000000) here counted.1 in
+    let few : c.worker-item.result.connections ≤ 4294967295 = subst (λ (w : Worker _). w.connections ≤ 4294967295) here counted.0 in
+    let most : c.worker-item.result.replies ≤ 4294967295000 = subst (λ (w : Worker _). w.replies ≤ 4294967295000) here counted.1 in
     (omega (arith, i.0, n, c.from.ensures), omega (arith, i.1, x), omega (arith, i.2, f, c.one_if.ensures.one), omega (arith, i.3, few, c.from.ensures), omega (arith, i.4, most), omega (arith, i.5, c.one_if.ensures.most))
 
 pub returns-clause-connections : goal.returns-clause-connections

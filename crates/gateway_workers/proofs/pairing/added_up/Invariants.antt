@@ -8,4 +8,4 @@ invariant-workers g l =
     (l.sum.connections + connections_in (drop l.worker-index l.workers) ≡ connections_in l.workers)
     × (l.sum.exchanges + answers_in (drop l.worker-index l.workers) ≡ answers_in l.workers)
     × (l.sum.faults + faults_in (drop l.worker-index l.workers) ≡ faults_in l.workers)
-    × (l.sum.connections ≤ 1000000 * l.worker-index) × (l.sum.exchanges ≤ 1000000000 * l.worker-index) × (l.sum.faults ≤ l.worker-index)
+    × (l.sum.connections ≤ 4294967295 * l.worker-index) × (l.sum.exchanges ≤ 4294967295000 * l.worker-index) × (l.sum.faults ≤ l.worker-index)
