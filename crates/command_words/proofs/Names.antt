@@ -1,8 +1,8 @@
 -- Words whose first names a command.
 use Rattle.std.proofs.Common.{◌≡◌, ◌∙◌, sym, ap, refl, ℕ, List, codes, slice_index, arith}
 use Rattle.command_words.specs.declared.command.Command.{Command}
-use Rattle.command_words.specs.declared.command.Command.TheVariants.{Help, Version, Check, Price, Worst, Forward, Meter, Replay, Serve, Exercise, Migrate}
-use Rattle.command_words.specs.Words.{AsksCheck, AsksPrice, AsksWorst, AsksForward, AsksMeter, AsksReplay, AsksServe, AsksExercise, AsksMigrate, AsksAfter}
+use Rattle.command_words.specs.declared.command.Command.TheVariants.{Help, Version, Check, Price, Introspect, Worst, Forward, Meter, Replay, Serve, Exercise, Migrate}
+use Rattle.command_words.specs.Words.{AsksCheck, AsksPrice, AsksIntrospect, AsksWorst, AsksForward, AsksMeter, AsksReplay, AsksServe, AsksExercise, AsksMigrate, AsksAfter}
 
 -- two names with different letters at a place
 apart : (a b name : List ℕ) (at x y : ℕ) → slice_index a at ≡ x → slice_index b at ≡ y → (x ≡ y → ⊥) → name ≡ a → name ≡ b → ⊥
@@ -13,6 +13,7 @@ only_check name words Help is none asks = apart (codes "check") (codes "--help")
 only_check name words Version is none asks = apart (codes "check") (codes "--version") name 0 99 45 refl refl (λ e. omega (arith, e)) is asks.0
 only_check name words (Check schema) is none asks = none asks.1
 only_check name words (Price asked) is none asks = apart (codes "check") (codes "price") name 0 99 112 refl refl (λ e. omega (arith, e)) is asks.0
+only_check name words (Introspect asked) is none asks = apart (codes "check") (codes "introspect") name 0 99 105 refl refl (λ e. omega (arith, e)) is asks.0
 only_check name words (Worst asked part) is none asks = apart (codes "check") (codes "worst") name 0 99 119 refl refl (λ e. omega (arith, e)) is asks.0
 only_check name words (Forward asked) is none asks = apart (codes "check") (codes "forward") name 0 99 102 refl refl (λ e. omega (arith, e)) is asks.0
 only_check name words (Meter asked reply) is none asks = apart (codes "check") (codes "meter") name 0 99 109 refl refl (λ e. omega (arith, e)) is asks.0
@@ -26,6 +27,7 @@ only_price name words Help is none asks = apart (codes "price") (codes "--help")
 only_price name words Version is none asks = apart (codes "price") (codes "--version") name 0 112 45 refl refl (λ e. omega (arith, e)) is asks.0
 only_price name words (Check schema) is none asks = apart (codes "price") (codes "check") name 0 112 99 refl refl (λ e. omega (arith, e)) is asks.0
 only_price name words (Price asked) is none asks = none asks.1
+only_price name words (Introspect asked) is none asks = apart (codes "price") (codes "introspect") name 0 112 105 refl refl (λ e. omega (arith, e)) is asks.0
 only_price name words (Worst asked part) is none asks = apart (codes "price") (codes "worst") name 0 112 119 refl refl (λ e. omega (arith, e)) is asks.0
 only_price name words (Forward asked) is none asks = apart (codes "price") (codes "forward") name 0 112 102 refl refl (λ e. omega (arith, e)) is asks.0
 only_price name words (Meter asked reply) is none asks = apart (codes "price") (codes "meter") name 0 112 109 refl refl (λ e. omega (arith, e)) is asks.0
@@ -34,11 +36,26 @@ only_price name words (Serve asked) is none asks = apart (codes "price") (codes 
 only_price name words (Exercise requests) is none asks = apart (codes "price") (codes "exercise") name 0 112 101 refl refl (λ e. omega (arith, e)) is asks.0
 only_price name words (Migrate clients) is none asks = apart (codes "price") (codes "migrate") name 0 112 109 refl refl (λ e. omega (arith, e)) is asks.0
 
+pub only_introspect : (name : List ℕ) (words : List (List ℕ)) (command : Command) → name ≡ codes "introspect" → (AsksIntrospect words command → ⊥) → AsksAfter name words command → ⊥
+only_introspect name words Help is none asks = apart (codes "introspect") (codes "--help") name 0 105 45 refl refl (λ e. omega (arith, e)) is asks.0
+only_introspect name words Version is none asks = apart (codes "introspect") (codes "--version") name 0 105 45 refl refl (λ e. omega (arith, e)) is asks.0
+only_introspect name words (Check schema) is none asks = apart (codes "introspect") (codes "check") name 0 105 99 refl refl (λ e. omega (arith, e)) is asks.0
+only_introspect name words (Price asked) is none asks = apart (codes "introspect") (codes "price") name 0 105 112 refl refl (λ e. omega (arith, e)) is asks.0
+only_introspect name words (Introspect asked) is none asks = none asks.1
+only_introspect name words (Worst asked part) is none asks = apart (codes "introspect") (codes "worst") name 0 105 119 refl refl (λ e. omega (arith, e)) is asks.0
+only_introspect name words (Forward asked) is none asks = apart (codes "introspect") (codes "forward") name 0 105 102 refl refl (λ e. omega (arith, e)) is asks.0
+only_introspect name words (Meter asked reply) is none asks = apart (codes "introspect") (codes "meter") name 0 105 109 refl refl (λ e. omega (arith, e)) is asks.0
+only_introspect name words (Replay asked) is none asks = apart (codes "introspect") (codes "replay") name 0 105 114 refl refl (λ e. omega (arith, e)) is asks.0
+only_introspect name words (Serve asked) is none asks = apart (codes "introspect") (codes "serve") name 0 105 115 refl refl (λ e. omega (arith, e)) is asks.0
+only_introspect name words (Exercise requests) is none asks = apart (codes "introspect") (codes "exercise") name 0 105 101 refl refl (λ e. omega (arith, e)) is asks.0
+only_introspect name words (Migrate clients) is none asks = apart (codes "introspect") (codes "migrate") name 0 105 109 refl refl (λ e. omega (arith, e)) is asks.0
+
 pub only_worst : (name : List ℕ) (words : List (List ℕ)) (command : Command) → name ≡ codes "worst" → (AsksWorst words command → ⊥) → AsksAfter name words command → ⊥
 only_worst name words Help is none asks = apart (codes "worst") (codes "--help") name 0 119 45 refl refl (λ e. omega (arith, e)) is asks.0
 only_worst name words Version is none asks = apart (codes "worst") (codes "--version") name 0 119 45 refl refl (λ e. omega (arith, e)) is asks.0
 only_worst name words (Check schema) is none asks = apart (codes "worst") (codes "check") name 0 119 99 refl refl (λ e. omega (arith, e)) is asks.0
 only_worst name words (Price asked) is none asks = apart (codes "worst") (codes "price") name 0 119 112 refl refl (λ e. omega (arith, e)) is asks.0
+only_worst name words (Introspect asked) is none asks = apart (codes "worst") (codes "introspect") name 0 119 105 refl refl (λ e. omega (arith, e)) is asks.0
 only_worst name words (Worst asked part) is none asks = none asks.1
 only_worst name words (Forward asked) is none asks = apart (codes "worst") (codes "forward") name 0 119 102 refl refl (λ e. omega (arith, e)) is asks.0
 only_worst name words (Meter asked reply) is none asks = apart (codes "worst") (codes "meter") name 0 119 109 refl refl (λ e. omega (arith, e)) is asks.0
@@ -52,6 +69,7 @@ only_forward name words Help is none asks = apart (codes "forward") (codes "--he
 only_forward name words Version is none asks = apart (codes "forward") (codes "--version") name 0 102 45 refl refl (λ e. omega (arith, e)) is asks.0
 only_forward name words (Check schema) is none asks = apart (codes "forward") (codes "check") name 0 102 99 refl refl (λ e. omega (arith, e)) is asks.0
 only_forward name words (Price asked) is none asks = apart (codes "forward") (codes "price") name 0 102 112 refl refl (λ e. omega (arith, e)) is asks.0
+only_forward name words (Introspect asked) is none asks = apart (codes "forward") (codes "introspect") name 0 102 105 refl refl (λ e. omega (arith, e)) is asks.0
 only_forward name words (Worst asked part) is none asks = apart (codes "forward") (codes "worst") name 0 102 119 refl refl (λ e. omega (arith, e)) is asks.0
 only_forward name words (Forward asked) is none asks = none asks.1
 only_forward name words (Meter asked reply) is none asks = apart (codes "forward") (codes "meter") name 0 102 109 refl refl (λ e. omega (arith, e)) is asks.0
@@ -65,6 +83,7 @@ only_meter name words Help is none asks = apart (codes "meter") (codes "--help")
 only_meter name words Version is none asks = apart (codes "meter") (codes "--version") name 0 109 45 refl refl (λ e. omega (arith, e)) is asks.0
 only_meter name words (Check schema) is none asks = apart (codes "meter") (codes "check") name 0 109 99 refl refl (λ e. omega (arith, e)) is asks.0
 only_meter name words (Price asked) is none asks = apart (codes "meter") (codes "price") name 0 109 112 refl refl (λ e. omega (arith, e)) is asks.0
+only_meter name words (Introspect asked) is none asks = apart (codes "meter") (codes "introspect") name 0 109 105 refl refl (λ e. omega (arith, e)) is asks.0
 only_meter name words (Worst asked part) is none asks = apart (codes "meter") (codes "worst") name 0 109 119 refl refl (λ e. omega (arith, e)) is asks.0
 only_meter name words (Forward asked) is none asks = apart (codes "meter") (codes "forward") name 0 109 102 refl refl (λ e. omega (arith, e)) is asks.0
 only_meter name words (Meter asked reply) is none asks = none asks.1
@@ -78,6 +97,7 @@ only_replay name words Help is none asks = apart (codes "replay") (codes "--help
 only_replay name words Version is none asks = apart (codes "replay") (codes "--version") name 0 114 45 refl refl (λ e. omega (arith, e)) is asks.0
 only_replay name words (Check schema) is none asks = apart (codes "replay") (codes "check") name 0 114 99 refl refl (λ e. omega (arith, e)) is asks.0
 only_replay name words (Price asked) is none asks = apart (codes "replay") (codes "price") name 0 114 112 refl refl (λ e. omega (arith, e)) is asks.0
+only_replay name words (Introspect asked) is none asks = apart (codes "replay") (codes "introspect") name 0 114 105 refl refl (λ e. omega (arith, e)) is asks.0
 only_replay name words (Worst asked part) is none asks = apart (codes "replay") (codes "worst") name 0 114 119 refl refl (λ e. omega (arith, e)) is asks.0
 only_replay name words (Forward asked) is none asks = apart (codes "replay") (codes "forward") name 0 114 102 refl refl (λ e. omega (arith, e)) is asks.0
 only_replay name words (Meter asked reply) is none asks = apart (codes "replay") (codes "meter") name 0 114 109 refl refl (λ e. omega (arith, e)) is asks.0
@@ -91,6 +111,7 @@ only_serve name words Help is none asks = apart (codes "serve") (codes "--help")
 only_serve name words Version is none asks = apart (codes "serve") (codes "--version") name 0 115 45 refl refl (λ e. omega (arith, e)) is asks.0
 only_serve name words (Check schema) is none asks = apart (codes "serve") (codes "check") name 0 115 99 refl refl (λ e. omega (arith, e)) is asks.0
 only_serve name words (Price asked) is none asks = apart (codes "serve") (codes "price") name 0 115 112 refl refl (λ e. omega (arith, e)) is asks.0
+only_serve name words (Introspect asked) is none asks = apart (codes "serve") (codes "introspect") name 0 115 105 refl refl (λ e. omega (arith, e)) is asks.0
 only_serve name words (Worst asked part) is none asks = apart (codes "serve") (codes "worst") name 0 115 119 refl refl (λ e. omega (arith, e)) is asks.0
 only_serve name words (Forward asked) is none asks = apart (codes "serve") (codes "forward") name 0 115 102 refl refl (λ e. omega (arith, e)) is asks.0
 only_serve name words (Meter asked reply) is none asks = apart (codes "serve") (codes "meter") name 0 115 109 refl refl (λ e. omega (arith, e)) is asks.0
@@ -104,6 +125,7 @@ only_exercise name words Help is none asks = apart (codes "exercise") (codes "--
 only_exercise name words Version is none asks = apart (codes "exercise") (codes "--version") name 0 101 45 refl refl (λ e. omega (arith, e)) is asks.0
 only_exercise name words (Check schema) is none asks = apart (codes "exercise") (codes "check") name 0 101 99 refl refl (λ e. omega (arith, e)) is asks.0
 only_exercise name words (Price asked) is none asks = apart (codes "exercise") (codes "price") name 0 101 112 refl refl (λ e. omega (arith, e)) is asks.0
+only_exercise name words (Introspect asked) is none asks = apart (codes "exercise") (codes "introspect") name 0 101 105 refl refl (λ e. omega (arith, e)) is asks.0
 only_exercise name words (Worst asked part) is none asks = apart (codes "exercise") (codes "worst") name 0 101 119 refl refl (λ e. omega (arith, e)) is asks.0
 only_exercise name words (Forward asked) is none asks = apart (codes "exercise") (codes "forward") name 0 101 102 refl refl (λ e. omega (arith, e)) is asks.0
 only_exercise name words (Meter asked reply) is none asks = apart (codes "exercise") (codes "meter") name 0 101 109 refl refl (λ e. omega (arith, e)) is asks.0
@@ -117,6 +139,7 @@ only_migrate name words Help is none asks = apart (codes "migrate") (codes "--he
 only_migrate name words Version is none asks = apart (codes "migrate") (codes "--version") name 0 109 45 refl refl (λ e. omega (arith, e)) is asks.0
 only_migrate name words (Check schema) is none asks = apart (codes "migrate") (codes "check") name 0 109 99 refl refl (λ e. omega (arith, e)) is asks.0
 only_migrate name words (Price asked) is none asks = apart (codes "migrate") (codes "price") name 0 109 112 refl refl (λ e. omega (arith, e)) is asks.0
+only_migrate name words (Introspect asked) is none asks = apart (codes "migrate") (codes "introspect") name 0 109 105 refl refl (λ e. omega (arith, e)) is asks.0
 only_migrate name words (Worst asked part) is none asks = apart (codes "migrate") (codes "worst") name 0 109 119 refl refl (λ e. omega (arith, e)) is asks.0
 only_migrate name words (Forward asked) is none asks = apart (codes "migrate") (codes "forward") name 0 109 102 refl refl (λ e. omega (arith, e)) is asks.0
 only_migrate name words (Meter asked reply) is none asks = apart (codes "migrate") (codes "meter") name 1 105 101 refl refl (λ e. omega (arith, e)) is asks.0

@@ -23,3 +23,6 @@ module _ (app made : App) (words : List (List ℕ)) (same : made ≡ app) where
 
   pub refused : (gives : Rows → Type 0) → (fault_of made words ≡ [] → ⊥) → Reads app gives words → ⊥
   refused gives faulty reads = faulty (subst (λ a. fault_of a words ≡ []) (sym same) reads.0)
+
+  pub unread : (rows : Rows) (gives : Rows → Type 0) → rows ≡ matches_of made words → (gives rows → ⊥) → Reads app gives words → ⊥
+  unread rows gives read none reads = none (subst gives (sym (read ∙ ap (λ a. matches_of a words) same)) reads.1)

@@ -2,7 +2,7 @@
 use Rattle.std.specs.Prelude.{Some, true, codes}
 use Rattle.clap.specs.Walk.{Rule, Text}
 use Rattle.clap.specs.Simple.{App, new_app, new_rule, with_rule, on_top}
-use Rattle.clap.specs.declared.builder.action.ArgAction.TheVariants.{Set}
+use Rattle.clap.specs.declared.builder.action.ArgAction.TheVariants.{Set, SetTrue}
 
 -- a word that must stand
 abbrev pub place : Text → Rule
@@ -15,6 +15,10 @@ option id = record (new_rule id) { long = Some id; action = Some Set }
 -- the same, and it must stand
 abbrev pub required_option : Text → Rule
 required_option id = record (option id) { required = true }
+
+-- `--` and this, without a value
+abbrev pub flag : Text → Rule
+flag id = record (new_rule id) { long = Some id; action = Some SetTrue }
 
 -- a command without words so far; no flag asks for help
 abbrev pub top : Text → App
@@ -36,6 +40,10 @@ with_gateway app = with_rule (with_rule (with_rule (with_rule app (place (codes 
 abbrev pub with_serving : App → App
 with_serving app = with_rule (with_rule (with_rule (with_rule app (option (codes "target"))) (option (codes "workers"))) (option (codes "connections"))) (option (codes "unsized"))
 
+-- and how it is served for weeks
+abbrev pub with_lasting : App → App
+with_lasting app = with_rule (with_rule (with_rule app (flag (codes "endless"))) (option (codes "idle"))) (option (codes "stop"))
+
 -- `check SCHEMA`
 abbrev pub check_app : App
 check_app = with_rule (top (codes "check")) (place (codes "schema"))
@@ -43,6 +51,10 @@ check_app = with_rule (top (codes "check")) (place (codes "schema"))
 -- `price SCHEMA DOCUMENT`
 abbrev pub price_app : App
 price_app = with_options (with_files (top (codes "price")))
+
+-- `introspect SCHEMA DOCUMENT`
+abbrev pub introspect_app : App
+introspect_app = with_rule (with_rule (with_files (top (codes "introspect"))) (option (codes "variables"))) (option (codes "operation"))
 
 -- `worst SCHEMA DOCUMENT PART`
 abbrev pub worst_app : App
@@ -62,7 +74,7 @@ replay_app = with_rule (with_rule (with_rule (with_rule (top (codes "replay")) (
 
 -- `serve SCHEMA CLIENTS --listen ADDR --upstream ADDR`
 abbrev pub serve_app : App
-serve_app = with_serving (with_gateway (top (codes "serve")))
+serve_app = with_lasting (with_serving (with_gateway (top (codes "serve"))))
 
 -- `exercise N`
 abbrev pub exercise_app : App

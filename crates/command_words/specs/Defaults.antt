@@ -26,3 +26,11 @@ greatest_workers = 16
 -- how many connections a worker may serve, and does
 abbrev pub greatest_connections : ℕ
 greatest_connections = 1000000
+
+-- how many it serves where there is to be no end
+abbrev pub endless_connections : ℕ
+endless_connections = 4294967295
+
+-- how many clients may wait for their next turn
+abbrev pub greatest_waiting : ℕ
+greatest_waiting = 1000000

@@ -1,18 +1,18 @@
 -- The commands, and the words that ask for them.
-use Rattle.std.specs.Prelude.{◌≡◌, ◌≤◌, ◌<◌, ⊤, ℕ, List, [], ◌∷◌, Option, None, Some, codes}
+use Rattle.std.specs.Prelude.{◌≡◌, ◌≤◌, ◌<◌, ◌⊎◌, ⊤, ℕ, List, [], ◌∷◌, Option, None, Some, codes}
 use Rattle.std.specs.Str.Parse.{IsNumeral, digits_value}
 use Rattle.clap.specs.Walk.{Row, first_of}
 use Rattle.clap.specs.Simple.{App, matches_of}
 use Rattle.clap.specs.Faults.{fault_of}
 use Rattle.command_words.specs.declared.command.Command.{Command}
-use Rattle.command_words.specs.declared.command.Command.TheVariants.{Help, Version, Check, Price, Worst, Forward, Meter, Replay, Serve, Exercise, Migrate}
+use Rattle.command_words.specs.declared.command.Command.TheVariants.{Help, Version, Check, Price, Introspect, Worst, Forward, Meter, Replay, Serve, Exercise, Migrate}
 use Rattle.command_words.specs.declared.command.Asked.{Asked}
 use Rattle.command_words.specs.declared.command.AskedReplay.{AskedReplay}
 use Rattle.command_words.specs.declared.command.AskedServe.{AskedServe}
 use Rattle.response_model.specs.declared.part.Part.{Part}
 use Rattle.response_model.specs.declared.part.Part.TheVariants.{Types, Fields}
-use Rattle.command_words.specs.Defaults.{usual_size, greatest_size, greatest_exercise, usual_target, usual_workers, greatest_workers, greatest_connections}
-use Rattle.command_words.specs.Apps.{check_app, price_app, worst_app, forward_app, meter_app, replay_app, serve_app, exercise_app, migrate_app}
+use Rattle.command_words.specs.Defaults.{usual_size, greatest_size, greatest_exercise, usual_target, usual_workers, greatest_workers, greatest_connections, endless_connections, greatest_waiting}
+use Rattle.command_words.specs.Apps.{check_app, price_app, introspect_app, worst_app, forward_app, meter_app, replay_app, serve_app, exercise_app, migrate_app}
 
 -- The text is this number, in one decimal digit or more, and it is no greater than that.
 abbrev pub IsNumber : ℕ → List ℕ → ℕ → Type 0
@@ -32,9 +32,15 @@ IsWithin least greatest usual (Some text) n = IsNumber greatest text n × (least
 abbrev pub IsWorkers : Option (List ℕ) → ℕ → Type 0
 IsWorkers given n = IsWithin 1 greatest_workers usual_workers given n
 
--- how many connections each of them serves
-abbrev pub IsConnections : Option (List ℕ) → ℕ → Type 0
-IsConnections given n = IsWithin 1 greatest_connections greatest_connections given n
+-- The flag stands.
+abbrev pub Stands : Option (List ℕ) → Type 0
+Stands flag = flag ≡ Some (codes "true")
+
+-- how many clients may wait for their next turn, where they take turns
+abbrev pub IsWaiting : Option (List ℕ) → Option ℕ → Type 0
+IsWaiting None waiting = waiting ≡ None
+IsWaiting (Some text) None = ⊥
+IsWaiting (Some text) (Some n) = IsNumber greatest_waiting text n × (1 ≤ n)
 
 -- the target of requests to the upstream
 abbrev pub IsTarget : Option (List ℕ) → List ℕ → Type 0
@@ -49,6 +55,19 @@ IsRequests (Some text) n = IsNumber greatest_exercise text n × (0 < n)
 -- the words at places and of options, by their names
 abbrev pub Rows : Type 0
 Rows = List Row
+
+-- how many connections each worker serves; without an end no number is given
+abbrev pub IsConnections : Rows → ℕ → Type 0
+IsConnections rows n =
+    (Stands (first_of (codes "endless") rows) × (first_of (codes "connections") rows ≡ None) × (n ≡ endless_connections))
+    ⊎ ((Stands (first_of (codes "endless") rows) → ⊥) × IsWithin 1 greatest_connections greatest_connections (first_of (codes "connections") rows) n)
+
+-- They give the files of this operation, and how it is asked for.
+pub record GivesOperation (rows : Rows) (asked : Asked) : Type 0 where
+  pub schema : first_of (codes "schema") rows ≡ Some asked.schema
+  pub document : first_of (codes "document") rows ≡ Some asked.document
+  pub variables : first_of (codes "variables") rows ≡ asked.variables
+  pub operation : first_of (codes "operation") rows ≡ asked.operation
 
 -- They give this operation.
 pub record GivesAsked (rows : Rows) (asked : Asked) : Type 0 where
@@ -73,7 +92,9 @@ pub record GivesAskedServe (rows : Rows) (asked : AskedServe) : Type 0 where
   pub upstream : first_of (codes "upstream") rows ≡ Some asked.upstream
   pub target : IsTarget (first_of (codes "target") rows) asked.target
   pub workers : IsWorkers (first_of (codes "workers") rows) asked.workers
-  pub connections : IsConnections (first_of (codes "connections") rows) asked.connections
+  pub connections : IsConnections rows asked.connections
+  pub waiting : IsWaiting (first_of (codes "idle") rows) asked.waiting
+  pub stop : first_of (codes "stop") rows ≡ asked.stop
   pub undeclared : IsUndeclared (first_of (codes "unsized") rows) asked.undeclared
 
 abbrev pub part_word : Part → List ℕ
@@ -101,6 +122,11 @@ GivesCheck rows other = ⊥
 abbrev pub GivesPrice : Rows → Command → Type 0
 GivesPrice rows (Price asked) = GivesAsked rows asked
 GivesPrice rows other = ⊥
+
+-- They give this operation, and no size of lists that declare none.
+abbrev pub GivesIntrospect : Rows → Command → Type 0
+GivesIntrospect rows (Introspect asked) = GivesOperation rows asked × (asked.undeclared ≡ usual_size)
+GivesIntrospect rows other = ⊥
 
 abbrev pub GivesWorst : Rows → Command → Type 0
 GivesWorst rows (Worst asked part) = GivesAsked rows asked × GivesPart rows part
@@ -136,6 +162,9 @@ AsksCheck words command = Reads check_app (λ rows. GivesCheck rows command) wor
 abbrev pub AsksPrice : List (List ℕ) → Command → Type 0
 AsksPrice words command = Reads price_app (λ rows. GivesPrice rows command) words
 
+abbrev pub AsksIntrospect : List (List ℕ) → Command → Type 0
+AsksIntrospect words command = Reads introspect_app (λ rows. GivesIntrospect rows command) words
+
 abbrev pub AsksWorst : List (List ℕ) → Command → Type 0
 AsksWorst words command = Reads worst_app (λ rows. GivesWorst rows command) words
 
@@ -163,6 +192,7 @@ AsksAfter name words Help = (name ≡ codes "--help") × (words ≡ [])
 AsksAfter name words Version = (name ≡ codes "--version") × (words ≡ [])
 AsksAfter name words (Check schema) = (name ≡ codes "check") × AsksCheck words (Check schema)
 AsksAfter name words (Price asked) = (name ≡ codes "price") × AsksPrice words (Price asked)
+AsksAfter name words (Introspect asked) = (name ≡ codes "introspect") × AsksIntrospect words (Introspect asked)
 AsksAfter name words (Worst asked part) = (name ≡ codes "worst") × AsksWorst words (Worst asked part)
 AsksAfter name words (Forward asked) = (name ≡ codes "forward") × AsksForward words (Forward asked)
 AsksAfter name words (Meter asked reply) = (name ≡ codes "meter") × AsksMeter words (Meter asked reply)
@@ -178,7 +208,7 @@ Asks (name ∷ words) command = AsksAfter name words command
 
 -- A gateway that is to be served has 1 worker or more, with 1 connection or more each, within their limits.
 abbrev pub ServesWithinLimits : Command → Type 0
-ServesWithinLimits (Serve asked) = (0 < asked.workers) × (asked.workers ≤ greatest_workers) × (0 < asked.connections) × (asked.connections ≤ greatest_connections)
+ServesWithinLimits (Serve asked) = (0 < asked.workers) × (asked.workers ≤ greatest_workers) × (0 < asked.connections) × (asked.connections ≤ endless_connections)
 ServesWithinLimits other = ⊤
 
 -- They ask for no command.

@@ -3,7 +3,7 @@
 ghost use Rattle.std.specs.Prelude.{◌≡◌, IfOk, false, codes};
 ghost use Rattle.clap.specs.Simple.{app_of, with_rule};
 ghost use Rattle.clap.specs.Walk.{rule_of};
-ghost use Rattle.command_words.specs.Apps.{with_files, with_options, with_gateway, with_serving, check_app, price_app, worst_app, forward_app, meter_app, replay_app, serve_app, exercise_app, migrate_app};
+ghost use Rattle.command_words.specs.Apps.{with_files, with_options, with_gateway, with_serving, with_lasting, check_app, price_app, introspect_app, worst_app, forward_app, meter_app, replay_app, serve_app, exercise_app, migrate_app};
 
 use clap::{Arg, ArgAction, Command};
 use std::alloc::{AllocError, Global};
@@ -33,6 +33,14 @@ fn required_option<'a>(alloc: Global, id: &'a str) -> Arg<'a>
         .long(id)
         .required(true)
         .action(ArgAction::Set)
+}
+
+// `--` and this, without a value.
+fn flag<'a>(alloc: Global, id: &'a str) -> Arg<'a>
+    ensures rule { rule_of result ≡ Rattle.command_words.specs.Apps.flag id.entry.now }
+    ensures local { result.global ≡ false }
+{
+    Arg::new(alloc, id).long(id).action(ArgAction::SetTrue)
 }
 
 // A command without words so far.
@@ -84,6 +92,17 @@ fn with_required_option<'a>(
     with(command, required_option(alloc, id))
 }
 
+// A flag beside the options of the command.
+fn with_flag<'a>(
+    alloc: Global,
+    command: Command<'a>,
+    id: &'a str,
+) -> Result<Command<'a>, AllocError>
+    ensures { IfOk result (λ c. app_of c ≡ with_rule (app_of command.entry) (Rattle.command_words.specs.Apps.flag id.entry.now)) }
+{
+    with(command, flag(alloc, id))
+}
+
 // The files of an operation.
 fn with_files<'a>(alloc: Global, command: Command<'a>) -> Result<Command<'a>, AllocError>
     ensures { IfOk result (λ c. app_of c ≡ with_files (app_of command.entry)) }
@@ -121,6 +140,15 @@ fn with_serving<'a>(alloc: Global, command: Command<'a>) -> Result<Command<'a>, 
     with_option(alloc, command, "unsized")
 }
 
+// How it is served for weeks.
+fn with_lasting<'a>(alloc: Global, command: Command<'a>) -> Result<Command<'a>, AllocError>
+    ensures { IfOk result (λ c. app_of c ≡ with_lasting (app_of command.entry)) }
+{
+    let command = with_flag(alloc, command, "endless")?;
+    let command = with_option(alloc, command, "idle")?;
+    with_option(alloc, command, "stop")
+}
+
 /// `check SCHEMA`
 pub fn check_command<'a>(alloc: Global) -> Result<Command<'a>, AllocError>
     ensures { IfOk result (λ c. app_of c ≡ check_app) }
@@ -134,6 +162,15 @@ pub fn price_command<'a>(alloc: Global) -> Result<Command<'a>, AllocError>
 {
     let command = with_files(alloc, top(alloc, "price"))?;
     with_options(alloc, command)
+}
+
+/// `introspect SCHEMA DOCUMENT`
+pub fn introspect_command<'a>(alloc: Global) -> Result<Command<'a>, AllocError>
+    ensures { IfOk result (λ c. app_of c ≡ introspect_app) }
+{
+    let command = with_files(alloc, top(alloc, "introspect"))?;
+    let command = with_option(alloc, command, "variables")?;
+    with_option(alloc, command, "operation")
 }
 
 /// `worst SCHEMA DOCUMENT PART`
@@ -177,7 +214,8 @@ pub fn serve_command<'a>(alloc: Global) -> Result<Command<'a>, AllocError>
     ensures { IfOk result (λ c. app_of c ≡ serve_app) }
 {
     let command = with_gateway(alloc, top(alloc, "serve"))?;
-    with_serving(alloc, command)
+    let command = with_serving(alloc, command)?;
+    with_lasting(alloc, command)
 }
 
 /// `exercise N`

@@ -19,6 +19,10 @@ pub const WORKERS: u32 = 4;
 pub const GREATEST_WORKERS: u32 = 16;
 /// How many connections a worker may serve, and how many it serves where no other number is given.
 pub const GREATEST_CONNECTIONS: u32 = 1_000_000;
+/// How many connections a worker serves where there is to be no end.
+pub const ENDLESS_CONNECTIONS: u32 = 4_294_967_295;
+/// How many clients may wait for their next turn.
+pub const GREATEST_WAITING: u32 = 1_000_000;
 
 /// An operation, by the names of its files and by how it is asked for.
 #[derive(Drop)]
@@ -59,6 +63,10 @@ pub struct AskedServe {
     pub workers: u32,
     /// How many connections each worker serves.
     pub connections: u32,
+    /// How many clients may wait for their next turn, where they take turns.
+    pub waiting: Option<u32>,
+    /// The file whose being there asks for the end.
+    pub stop: Option<Text>,
     /// The size of lists that declare none.
     pub undeclared: u32,
 }
@@ -74,6 +82,8 @@ pub enum Command {
     Check { schema: Text },
     /// Says what an operation costs at most.
     Price { asked: Asked },
+    /// Answers an operation from the schema itself, and says what that costs.
+    Introspect { asked: Asked },
     /// Writes a response that costs as much as any in this part of the cost.
     Worst { asked: Asked, part: Part },
     /// Writes the request that is sent on for an operation.

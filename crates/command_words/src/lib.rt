@@ -8,7 +8,8 @@ mod reading;
 mod words;
 
 pub use command::{
-    Asked, AskedReplay, AskedServe, Command, GREATEST_CONNECTIONS, GREATEST_EXERCISE,
-    GREATEST_UNSIZED, GREATEST_WORKERS, TARGET, UNDECLARED, WORKERS, WordsFault,
+    Asked, AskedReplay, AskedServe, Command, ENDLESS_CONNECTIONS, GREATEST_CONNECTIONS,
+    GREATEST_EXERCISE, GREATEST_UNSIZED, GREATEST_WAITING, GREATEST_WORKERS, TARGET, UNDECLARED,
+    WORKERS, WordsFault,
 };
 pub use reading::command_of;

@@ -5,7 +5,7 @@ use Rattle.std.specs.declared.alloc.Global.{Global}
 use Rattle.outside.specs.Faults.{Rose}
 use Rattle.command_outcomes.specs.Texts.{line}
 use Rattle.command_words.specs.declared.command.Command.{Command}
-use Rattle.command_words.specs.declared.command.Command.TheVariants.{Help, Version, Check, Price, Worst, Forward, Meter, Replay, Serve, Exercise, Migrate}
+use Rattle.command_words.specs.declared.command.Command.TheVariants.{Help, Version, Check, Price, Introspect, Worst, Forward, Meter, Replay, Serve, Exercise, Migrate}
 use Rattle.command_words.specs.declared.command.Asked.{Asked}
 use Rattle.command_words.specs.declared.command.AskedReplay.{AskedReplay}
 use Rattle.command_words.specs.declared.command.AskedServe.{AskedServe}
@@ -24,6 +24,7 @@ use Rattle.operation_commands.specs.declared.asked.AskedTexts.{AskedTexts}
 use Rattle.command_outcomes.specs.Reading.{IsNoText, HasNoText}
 use Rattle.operation_commands.specs.Asked.{HasNoVariables, HaveNoOperation, HaveNoTexts, request_in}
 use Rattle.operation_commands.specs.Price.{PriceOf}
+use Rattle.operation_commands.specs.Introspect.{IntrospectOf}
 use Rattle.operation_commands.specs.Subjects.{MeterFault, NotResponse, SizeBroken, MeterMemory, Part, Plan, PlanTree, plan_tree}
 use Rattle.operation_commands.specs.Worst.{WorstOfTree, WorstOf}
 use Rattle.operation_commands.specs.Forward.{ForwardOf}
@@ -129,6 +130,11 @@ module _ (IsName : List ℕ → Type 0) (files : FilesTold) where
   price_answer asked texts outcome (inr (inl done)) = done_answer _ outcome done.2
   price_answer asked texts outcome (inr (inr refused)) = refused_answer _ outcome refused.2
 
+  introspect_answer : (asked : Asked) (texts : AskedTexts) (outcome : Outcome) → IntrospectOf asked texts outcome → IsAnswer IsName files outcome
+  introspect_answer asked texts outcome (inl memory) = memory_answer outcome memory
+  introspect_answer asked texts outcome (inr (inl done)) = done_answer _ outcome done.2
+  introspect_answer asked texts outcome (inr (inr refused)) = refused_answer _ outcome refused.2
+
   worst_tree_answer : (part : Part) (tree : PlanTree) (outcome : Outcome) → WorstOfTree part tree outcome → IsAnswer IsName files outcome
   worst_tree_answer part tree outcome (inl memory) = memory_answer outcome memory
   worst_tree_answer part tree outcome (inr (inl done)) = done_answer _ outcome done.1
@@ -202,6 +208,8 @@ answers (Check schema) files outcome (inl stopped) = stopped_answer (IsFileOf (C
 answers (Check schema) files outcome (inr read) = check_answer (IsFileOf (Check schema)) files schema read.0 outcome read.2
 answers (Price asked) files outcome (inl none) = asked_answer asked files outcome none
 answers (Price asked) files outcome (inr read) = price_answer (IsAskedFile asked) files asked read.0 outcome read.2
+answers (Introspect asked) files outcome (inl none) = asked_answer asked files outcome none
+answers (Introspect asked) files outcome (inr read) = introspect_answer (IsAskedFile asked) files asked read.0 outcome read.2
 answers (Worst asked part) files outcome (inl none) = asked_answer asked files outcome none
 answers (Worst asked part) files outcome (inr read) = worst_answer (IsAskedFile asked) files asked part read.0 outcome read.2
 answers (Forward asked) files outcome (inl none) = asked_answer asked files outcome none
@@ -261,6 +269,7 @@ came Help files doors outcome came_to = answers Help files outcome came_to.0
 came Version files doors outcome came_to = answers Version files outcome came_to.0
 came (Check schema) files doors outcome came_to = answers (Check schema) files outcome came_to.0
 came (Price asked) files doors outcome came_to = answers (Price asked) files outcome came_to.0
+came (Introspect asked) files doors outcome came_to = answers (Introspect asked) files outcome came_to.0
 came (Worst asked part) files doors outcome came_to = answers (Worst asked part) files outcome came_to.0
 came (Forward asked) files doors outcome came_to = answers (Forward asked) files outcome came_to.0
 came (Meter asked reply) files doors outcome came_to = answers (Meter asked reply) files outcome came_to.0

@@ -18,6 +18,8 @@ pub const USAGE_TEXT: &[u8] = b"usage: tellcrock check SCHEMA
   prints how many types and fields a schema has, or which test it doesn't pass
 usage: tellcrock price SCHEMA DOCUMENT [--variables FILE] [--operation NAME] [--unsized N]
   prints the greatest type cost and the greatest field cost that a response can have
+usage: tellcrock introspect SCHEMA DOCUMENT [--variables FILE] [--operation NAME]
+  prints what the answer to an operation that asks for the schema costs, and the answer
 usage: tellcrock worst SCHEMA DOCUMENT types|fields [--variables FILE] [--operation NAME] [--unsized N]
   prints a response that costs as much as any
 usage: tellcrock forward SCHEMA DOCUMENT [--variables FILE] [--operation NAME] [--unsized N]
@@ -26,7 +28,7 @@ usage: tellcrock meter SCHEMA DOCUMENT REPLY [--variables FILE] [--operation NAM
   prints what a reply cost, and the answer for its client
 usage: tellcrock replay SCHEMA CLIENTS SCRIPT [--unsized N]
   prints what becomes of each request of a script, and of the clients' accounts
-usage: tellcrock serve SCHEMA CLIENTS --listen ADDR --upstream ADDR [--target PATH] [--workers N] [--connections N] [--unsized N]
+usage: tellcrock serve SCHEMA CLIENTS --listen ADDR --upstream ADDR [--target PATH] [--workers N] [--connections N | --endless] [--idle N] [--stop FILE] [--unsized N]
   serves clients over HTTP within their budgets, and forwards what they cover; prints the accounts at the end
 usage: tellcrock exercise N
   prints a summary of a replay of N requests of one client

@@ -13,7 +13,7 @@ pub use command_outcomes::{
     DONE, DOOR_FAILED, FILE_FAILED, NO_MEMORY, NOT_RESPONSE, REFUSED, SIZE_BROKEN, STREAM_FAILED,
     USAGE,
 };
-pub use command_words::WordsFault;
+pub use command_words::{AskedServe, Command, WordsFault, command_of};
 pub use program::{end_without_command, run};
 pub use serve_laws::served_responses_are_those_due;
 pub use status_laws::a_status_says_what_was_done;

@@ -134,7 +134,7 @@ fn serve_of<Rt: Threads + Wait + Sync, D: Doors>(
 
 /// Serves clients over HTTP, by the schema and the clients of files, until each door has given all its connections or failed.
 ///
-/// It asks that no doors run, that there are 1 to 16 workers, and that each serves at most 1,000,000 connections. All doors that
+/// It asks that no doors run, that there are 1 to 16 workers, and that each serves at most 4,294,967,295 connections. All doors that
 /// were started are stopped at the end.
 pub fn serve<Rt: Threads + Wait + Sync, F: Files, D: Doors>(
     alloc: Global,

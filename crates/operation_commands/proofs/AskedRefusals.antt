@@ -13,12 +13,12 @@ use Rattle.operation_commands.specs.declared.asking.AskedFault.{AskedFault}
 use Rattle.operation_commands.specs.declared.asking.AskedFault.TheVariants.{Refused, Memory}
 use Rattle.acceptance.specs.declared.fault.Refusal.{Refusal}
 use Rattle.command_outcomes.specs.Check.{HoldsWith, IsUnchecked}
-use Rattle.operation_commands.specs.Asked.{HoldInputs, request_in, HoldsSchema, HoldsGiven, IsUngiven, IsNoSchemaOf, IsUnreadIn, IsNoOperationOf, IsRefusalOf, IfAskedRefused}
+use Rattle.operation_commands.specs.Asked.{HoldInputs, request_in, HoldsSchema, HoldsGiven, IsUngiven, IsNoSchemaOf, IsUnreadIn, IsNoOperationOf, IsRefusalOf, IsNoInputsOf, IfAskedRefused}
 
 pub schema_held : (asked : Asked) (texts : AskedTexts) (text : List ℕ) (schema : Schema) (weights : Weights) → text ≡ texts.schema → HoldsWith text asked.undeclared schema weights → HoldsSchema asked texts
 schema_held asked texts text schema weights same held = subst (λ t. (s : Schema) × (w : Weights) × HoldsWith t asked.undeclared s w) same (schema, weights, held)
 
-pub no_schema : (asked : Asked) (texts : AskedTexts) (text : List ℕ) (fault : AskedFault) → text ≡ texts.schema → IfAskedRefused fault (IsNoSchemaOf text) → IfAskedRefused fault (IsRefusalOf asked texts)
+pub no_schema : (asked : Asked) (texts : AskedTexts) (text : List ℕ) (fault : AskedFault) → text ≡ texts.schema → IfAskedRefused fault (IsNoSchemaOf text) → IfAskedRefused fault (IsNoInputsOf asked texts)
 no_schema asked texts text (Refused (NoSchema refusal)) same refused = subst (λ t. IsUnchecked t refusal) same refused
 no_schema asked texts text (Refused NotJson) same refused = absurd refused
 no_schema asked texts text (Refused BadVariables) same refused = absurd refused
@@ -33,19 +33,27 @@ given_operation : (variables : Option (List ℕ)) (refusal : Refusal) → IsUngi
 given_operation None refusal ungiven = ungiven
 given_operation (Some text) refusal ungiven = ungiven
 
-pub not_given : (asked : Asked) (texts : AskedTexts) (fault : AskedFault) → HoldsSchema asked texts → IfAskedRefused fault (IsUngiven texts.variables) → IfAskedRefused fault (IsRefusalOf asked texts)
+pub not_given : (asked : Asked) (texts : AskedTexts) (fault : AskedFault) → HoldsSchema asked texts → IfAskedRefused fault (IsUngiven texts.variables) → IfAskedRefused fault (IsNoInputsOf asked texts)
 not_given asked texts (Refused (NoSchema refusal)) schema refused = absurd (given_schema texts.variables refusal refused)
 not_given asked texts (Refused NotJson) schema refused = (schema, refused)
 not_given asked texts (Refused BadVariables) schema refused = (schema, refused)
 not_given asked texts (Refused (NoOperation refusal)) schema refused = absurd (given_operation texts.variables refusal refused)
 not_given asked texts Memory schema refused = tt
 
-pub not_read : (asked : Asked) (texts : AskedTexts) (text : List ℕ) (fault : AskedFault) → HoldsSchema asked texts → HoldsGiven texts → text ≡ texts.document → IfAskedRefused fault (IsUnreadIn text) → IfAskedRefused fault (IsRefusalOf asked texts)
+pub not_read : (asked : Asked) (texts : AskedTexts) (text : List ℕ) (fault : AskedFault) → HoldsSchema asked texts → HoldsGiven texts → text ≡ texts.document → IfAskedRefused fault (IsUnreadIn text) → IfAskedRefused fault (IsNoInputsOf asked texts)
 not_read asked texts text (Refused (NoSchema refusal)) schema given same refused = absurd refused
 not_read asked texts text (Refused NotJson) schema given same refused = absurd refused
 not_read asked texts text (Refused BadVariables) schema given same refused = absurd refused
-not_read asked texts text (Refused (NoOperation refusal)) schema given same refused = inl (schema, given, subst (λ t. IsUnread t refusal) same refused)
+not_read asked texts text (Refused (NoOperation refusal)) schema given same refused = (schema, given, subst (λ t. IsUnread t refusal) same refused)
 not_read asked texts text Memory schema given same refused = tt
+
+-- it is a refusal then
+pub refused_for : (asked : Asked) (texts : AskedTexts) (fault : AskedFault) → IfAskedRefused fault (IsNoInputsOf asked texts) → IfAskedRefused fault (IsRefusalOf asked texts)
+refused_for asked texts (Refused (NoSchema refusal)) none = none
+refused_for asked texts (Refused NotJson) none = none
+refused_for asked texts (Refused BadVariables) none = none
+refused_for asked texts (Refused (NoOperation refusal)) none = inl none
+refused_for asked texts Memory none = tt
 
 pub not_accepted : (asked : Asked) (texts : AskedTexts) (inputs : Inputs) (r : RequestData) (fault : AskedFault) → HoldInputs asked texts inputs → r ≡ request_in asked inputs → IfAskedRefused fault (IsNoOperationOf r) → IfAskedRefused fault (IsRefusalOf asked texts)
 not_accepted asked texts inputs r (Refused (NoSchema refusal)) held same refused = absurd refused

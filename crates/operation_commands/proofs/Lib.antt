@@ -1,5 +1,6 @@
 mod AskedFiles
 mod AskedRefusals
+mod OwnRequests
 mod Measured
 mod OnePrice
 mod OneMeasure

@@ -33,17 +33,17 @@ use Rattle.operation_commands.specs.declared.asked.AskedTexts.{AskedTexts}
 use Rattle.operation_commands.specs.declared.asking.Inputs.{Inputs}
 use Rattle.command_outcomes.specs.Check.{HoldsChecked}
 use Rattle.operation_commands.specs.Asked.{HoldInputs, request_in}
-use Rattle.operation_commands.specs.Price.{HasPrice}
+use Rattle.operation_commands.specs.Price.{HasBound}
 use Rattle.operation_commands.specs.Forward.{IsSent}
 use Rattle.operation_commands.specs.Meter.{OfAccepted, HasMeasure, HasReplyFault}
 use Rattle.operation_commands.proofs.OnePrice.{OneReading, ask_alike}
 
 -- ---- what is accepted has a price
 
-pub priced : (asked : Asked) (texts : AskedTexts) (P : Plan → List ℕ → PlanTree → Type 0) → OfAccepted asked texts P → (cost : Cost) × HasPrice asked texts cost
+pub priced : (asked : Asked) (texts : AskedTexts) (P : Plan → List ℕ → PlanTree → Type 0) → OfAccepted asked texts P → (cost : Cost) × HasBound asked texts cost
 priced asked texts P (inputs, held, (plan, bound, accepted, of_schema, other)) = (bound, (inputs, held, (plan, accepted)))
 
-pub sent_priced : (asked : Asked) (texts : AskedTexts) (text : List ℕ) → IsSent asked texts text → (cost : Cost) × HasPrice asked texts cost
+pub sent_priced : (asked : Asked) (texts : AskedTexts) (text : List ℕ) → IsSent asked texts text → (cost : Cost) × HasBound asked texts cost
 sent_priced asked texts text (inputs, held, (plan, bound, accepted, other)) = (bound, (inputs, held, (plan, accepted)))
 
 -- ---- one alias

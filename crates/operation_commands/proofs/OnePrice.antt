@@ -32,7 +32,7 @@ use Rattle.operation_commands.specs.declared.asking.AskedRefusal.TheVariants.{No
 use Rattle.command_outcomes.specs.declared.checked.SchemaRefusal.{SchemaRefusal}
 use Rattle.command_outcomes.specs.Check.{HoldsChecked, HoldsWeighed, IsUnchecked}
 use Rattle.operation_commands.specs.Asked.{IsGiven, HoldInputs, request_in, IsUngiven, HoldsSchema, HoldsGiven, IsRefusalOf}
-use Rattle.operation_commands.specs.Price.{HasPrice}
+use Rattle.operation_commands.specs.Price.{HasBound}
 use Rattle.operation_commands.specs.Worst.{OfPlan}
 
 -- A text is read in one way, and two requests that ask the same are answered alike.
@@ -71,7 +71,7 @@ ask_alike reading asked texts a b held other =
     }
 
 pub one_price : OneReading → ((r q : RequestData) (plan other : Plan) (bound cost : Cost) → AskAlike r q → IsAccepted r plan bound → IsAccepted q other cost → bound ≡ cost)
-    → (asked : Asked) (texts : AskedTexts) (cost other : Cost) → HasPrice asked texts cost → HasPrice asked texts other → cost ≡ other
+    → (asked : Asked) (texts : AskedTexts) (cost other : Cost) → HasBound asked texts cost → HasBound asked texts other → cost ≡ other
 one_price reading one_bound asked texts cost other a b =
     one_bound (request_in asked a.0) (request_in asked b.0) a.2.0 b.2.0 cost other (ask_alike reading asked texts a.0 b.0 a.1 b.1) a.2.1 b.2.1
 
@@ -156,12 +156,12 @@ one_refusal only asked texts (NoOperation f) BadVariables a b = let given = give
 one_refusal only asked texts (NoOperation f) (NoOperation g) a b = ap NoOperation (same_refusal only asked texts f g a b)
 
 -- an operation with a price isn't refused
-priced_or_not : OneRefusal → (asked : Asked) (texts : AskedTexts) (cost : Cost) (refusal : Refusal) → IsRefusalOf asked texts (NoOperation refusal) → HasPrice asked texts cost → ⊥
+priced_or_not : OneRefusal → (asked : Asked) (texts : AskedTexts) (cost : Cost) (refusal : Refusal) → IsRefusalOf asked texts (NoOperation refusal) → HasBound asked texts cost → ⊥
 priced_or_not only asked texts cost refusal (inl unread) price = no_document only texts.document price.0.document refusal price.1.is_document unread.2
 priced_or_not only asked texts cost refusal (inr refused) price =
     only.accepted_or_not (request_in asked price.0) (request_in asked refused.0) price.2.0 cost refusal (ask_alike only.reading asked texts price.0 refused.0 price.1 refused.1) price.2.1 refused.2
 
-pub not_both : OneRefusal → (asked : Asked) (texts : AskedTexts) (cost : Cost) (refusal : AskedRefusal) → IsRefusalOf asked texts refusal → HasPrice asked texts cost → ⊥
+pub not_both : OneRefusal → (asked : Asked) (texts : AskedTexts) (cost : Cost) (refusal : AskedRefusal) → IsRefusalOf asked texts refusal → HasBound asked texts cost → ⊥
 not_both only asked texts cost (NoSchema refusal) refused price = no_schema only asked texts refusal (price.0.weighed.schema, price.0.weighed.weights, price.1.is_schema) refused
 not_both only asked texts cost NotJson refused price = no_json texts.variables (view price.0.given) price.1.is_given refused.1
 not_both only asked texts cost BadVariables refused price = no_object texts.variables (view price.0.given) price.1.is_given refused.1

@@ -12,6 +12,7 @@ use Rattle.cost_directives.specs.declared.weights.Weights.{Weights}
 use Rattle.cost_directives.specs.WeightViews.{weights_data}
 use Rattle.command_words.specs.declared.command.Asked.{Asked}
 use Rattle.acceptance.specs.Requests.{RequestData}
+use Rattle.acceptance.specs.declared.fault.Refusal.{Refusal}
 use Rattle.acceptance.specs.Refusals.{IsUnread, IsRefusedFor}
 use Rattle.acceptance.specs.Texts.{refusal_text}
 use Rattle.command_outcomes.specs.declared.limits.TheConstants.{SCHEMA_LIMIT, DOCUMENT_LIMIT, VARIABLES_LIMIT}
@@ -98,13 +99,22 @@ HoldsSchema asked texts = (schema : Schema) × (weights : Weights) × HoldsWith 
 abbrev pub HoldsGiven : AskedTexts → Type 0
 HoldsGiven texts = (given : Data) × IsGiven texts.variables given
 
+-- The document's text is none, for this reason, where what stands before is given.
+abbrev pub IsUnreadOf : Asked → AskedTexts → Refusal → Type 0
+IsUnreadOf asked texts refusal = HoldsSchema asked texts × HoldsGiven texts × IsUnread texts.document refusal
+
 -- The first reason in this order: of the schema, of the variables, of the document's text, of the operation.
 abbrev pub IsRefusalOf : Asked → AskedTexts → AskedRefusal → Type 0
 IsRefusalOf asked texts (NoSchema refusal) = IsUnchecked texts.schema refusal
 IsRefusalOf asked texts NotJson = HoldsSchema asked texts × IsUngiven texts.variables NotJson
 IsRefusalOf asked texts BadVariables = HoldsSchema asked texts × IsUngiven texts.variables BadVariables
-IsRefusalOf asked texts (NoOperation refusal) = (HoldsSchema asked texts × HoldsGiven texts × IsUnread texts.document refusal)
+IsRefusalOf asked texts (NoOperation refusal) = IsUnreadOf asked texts refusal
     ⊎ ((inputs : Inputs) × HoldInputs asked texts inputs × IsRefusedFor (request_in asked inputs) refusal)
+
+-- The texts hold nothing of which an operation is asked, for this reason: it is none of the operation.
+abbrev pub IsNoInputsOf : Asked → AskedTexts → AskedRefusal → Type 0
+IsNoInputsOf asked texts (NoOperation refusal) = IsUnreadOf asked texts refusal
+IsNoInputsOf asked texts other = IsRefusalOf asked texts other
 
 -- The schema's text holds none, for this reason.
 abbrev pub IsNoSchemaOf : List ℕ → AskedRefusal → Type 0

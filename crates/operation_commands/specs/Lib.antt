@@ -1,5 +1,7 @@
 pub mod Asked
+pub mod OwnAnswers
 pub mod Price
+pub mod Introspect
 pub mod Worst
 pub mod Forward
 pub mod ReplyTexts

@@ -9,7 +9,7 @@ ghost use Rattle.acceptance.specs.Texts;
 ghost use Rattle.command_outcomes.specs.Reading.{IsText};
 ghost use Rattle.command_outcomes.specs.Outcomes.{IsRefusedAs};
 ghost use Rattle.command_outcomes.specs.Check.{HoldsWith, IsUnchecked};
-ghost use Rattle.operation_commands.specs.Asked.{IsGiven, IsUngiven, IsNoSchemaOf, IsUnreadIn, HoldInputs, request_in, IsRefusalOf, IfAskedRefused, asked_text};
+ghost use Rattle.operation_commands.specs.Asked.{IsGiven, IsUngiven, IsNoSchemaOf, IsUnreadIn, HoldInputs, request_in, IsRefusalOf, IsNoInputsOf, IfAskedRefused, asked_text};
 
 use crate::asked::AskedTexts;
 use acceptance::{AcceptFault, Refusal, Request, read, refusal_text};
@@ -129,6 +129,7 @@ fn document_in(alloc: Global, text: &str) -> Result<Document, AskedFault>
 pub fn inputs_in(alloc: Global, asked: &Asked, texts: &AskedTexts) -> Result<Inputs, AskedFault>
     requires text { IsText SCHEMA_LIMIT texts.now.schema }
     ensures held { IfOk result (HoldInputs asked.now texts.now) }
+    ensures no_inputs { IfErr result (λ fault. IfAskedRefused fault (IsNoInputsOf asked.now texts.now)) }
     ensures refused { IfErr result (λ fault. IfAskedRefused fault (IsRefusalOf asked.now texts.now)) }
 {
     let weighed = match schema_of(alloc, texts.schema.as_str(), asked.undeclared) {

@@ -6,14 +6,17 @@ mod asked;
 mod asking;
 mod filling;
 mod forwarding;
+mod introspecting;
 mod meter_laws;
 mod metering;
+mod own_answers;
 mod price_laws;
 mod pricing;
 mod reply_texts;
 
 pub use filling::worst;
 pub use forwarding::forward;
+pub use introspecting::introspect;
 pub use meter_laws::{a_refused_operation_has_no_reply, a_reply_has_one_measure, one_text_is_sent};
 pub use metering::meter;
 pub use price_laws::{

@@ -8,7 +8,7 @@ ghost use Rattle.operation_commands.specs.declared.asked.AskedTexts.{AskedTexts}
 ghost use Rattle.operation_commands.specs.declared.asking.AskedRefusal.{AskedRefusal};
 ghost use Rattle.gql_base.specs.printing.OneLine.{is_one_line};
 ghost use Rattle.operation_commands.specs.Asked.{IsRefusalOf, asked_text};
-ghost use Rattle.operation_commands.specs.Price.{HasPrice};
+ghost use Rattle.operation_commands.specs.Price.{HasBound};
 ghost use Rattle.operation_commands.specs.Worst.{OfPlan};
 
 use acceptance::{
@@ -19,7 +19,7 @@ use document_reader::{a_text_is_a_document_or_has_one_fault, a_text_is_one_docum
 
 /// An operation of texts has one price and one plan at most, however often its texts are read.
 pub fn two_files_have_one_price()
-    ensures price { (asked : Asked) (texts : AskedTexts) (cost other : CostType) → HasPrice asked texts cost → HasPrice asked texts other → cost ≡ other }
+    ensures price { (asked : Asked) (texts : AskedTexts) (cost other : CostType) → HasBound asked texts cost → HasBound asked texts other → cost ≡ other }
     ensures plan { (asked : Asked) (texts : AskedTexts) (plan other : PlanTree) → OfPlan asked texts (λ tree. tree ≡ plan) → OfPlan asked texts (λ tree. tree ≡ other) → plan ≡ other }
 {
     a_schema_file_has_one_check();
@@ -39,7 +39,7 @@ pub fn refusals_of_operations_are_one_line()
 
 /// An operation of texts that is refused has no price, and is refused in one way at most.
 pub fn a_refused_operation_has_no_price()
-    ensures not_both { (asked : Asked) (texts : AskedTexts) (cost : CostType) (refusal : AskedRefusal) → IsRefusalOf asked texts refusal → HasPrice asked texts cost → ⊥ }
+    ensures not_both { (asked : Asked) (texts : AskedTexts) (cost : CostType) (refusal : AskedRefusal) → IsRefusalOf asked texts refusal → HasBound asked texts cost → ⊥ }
     ensures one_refusal { (asked : Asked) (texts : AskedTexts) (refusal other : AskedRefusal) → IsRefusalOf asked texts refusal → IsRefusalOf asked texts other → refusal ≡ other }
 {
     a_schema_file_has_one_check();

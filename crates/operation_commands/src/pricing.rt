@@ -9,10 +9,13 @@ ghost use Rattle.acceptance.specs.Requests.{request_data, IsOfSchema, IsCheckFor
 ghost use Rattle.command_outcomes.specs.Reading.{IsText};
 ghost use Rattle.command_outcomes.specs.Outcomes.{files_told, IsDone};
 ghost use Rattle.operation_commands.specs.Asked.{HoldInputs, request_in, IsNoOperationOf, IsRefusalOf, IfAskedRefused};
-ghost use Rattle.operation_commands.specs.Price.{HasPrice, PriceOf, PriceCameTo};
+ghost use Rattle.operation_commands.specs.OwnAnswers.{IfOwnRefused};
+ghost use Rattle.operation_commands.specs.Price.{IsPricedAs, HasPrice, IsNoPriceOf, IsUnpricedAs, IsPriceRefusal, PriceOf, PriceCameTo};
+ghost use Rattle.plan_table.specs.declared.table.Plan.{Plan};
 
 use crate::asked::{AskedTexts, read_asked};
-use crate::asking::{AskedFault, AskedRefusal, Inputs, inputs_in, refused_asked, request_of};
+use crate::asking::{AskedFault, AskedRefusal, Inputs, inputs_in, request_of};
+use crate::own_answers::{OwnFault, asked_fault, own_answer, refused_own};
 use acceptance::{AcceptFault, Accepted, Request, accept};
 use command_outcomes::{Outcome, SCHEMA_LIMIT};
 use command_words::Asked;
@@ -87,20 +90,52 @@ pub fn accepted<'a>(
     }
 }
 
-// The bound of the operation of these texts.
-fn bound_in(alloc: Global, asked: &Asked, texts: &AskedTexts) -> Result<Cost, AskedFault>
-    requires text { IsText SCHEMA_LIMIT texts.now.schema }
-    ensures bound { IfOk result (HasPrice asked.now texts.now) }
+// What an operation costs that goes to the upstream: its bound, where it is accepted.
+fn upstream_price(alloc: Global, request: &Request) -> Result<Cost, OwnFault>
+    requires of_schema { IsOfSchema (request_data request.now) }
+    ensures bound { IfOk result (λ cost. (plan : Plan) × IsAccepted (request_data request.now) plan cost) }
     ensures types_within { IfOk result (λ cost. cost.types ≤ CAP) }
     ensures fields_within { IfOk result (λ cost. cost.fields ≤ CAP) }
-    ensures refused { IfErr result (λ fault. IfAskedRefused fault (IsRefusalOf asked.now texts.now)) }
+    ensures refused { IfErr result (λ fault. IfOwnRefused fault (IsNoPriceOf (request_data request.now))) }
 {
+    match accepted_request(alloc, request) {
+        Ok(accepted) => Ok(accepted.bound),
+        Err(fault) => Err(asked_fault(fault)),
+    }
+}
+
+// What a request costs: its bound, or what it is answered for from the schema itself.
+fn price_of(alloc: Global, texts: &AskedTexts, request: &Request) -> Result<Cost, OwnFault>
+    requires text { IsText SCHEMA_LIMIT texts.now.schema }
+    requires of_schema { IsOfSchema (request_data request.now) }
+    ensures price { IfOk result (IsPricedAs texts.now (request_data request.now)) }
+    ensures types_within { IfOk result (λ cost. cost.types ≤ CAP) }
+    ensures fields_within { IfOk result (λ cost. cost.fields ≤ CAP) }
+    ensures refused { IfErr result (λ fault. IfOwnRefused fault (IsUnpricedAs texts.now (request_data request.now))) }
+{
+    match own_answer(alloc, texts, request) {
+        Ok(Some(answer)) => Ok(answer.cost),
+        Ok(None) => upstream_price(alloc, request),
+        Err(fault) => Err(fault),
+    }
+}
+
+// The price of the operation of these texts.
+fn price_in(alloc: Global, asked: &Asked, texts: &AskedTexts) -> Result<Cost, OwnFault>
+    requires text { IsText SCHEMA_LIMIT texts.now.schema }
+    ensures price { IfOk result (HasPrice asked.now texts.now) }
+    ensures types_within { IfOk result (λ cost. cost.types ≤ CAP) }
+    ensures fields_within { IfOk result (λ cost. cost.fields ≤ CAP) }
+    ensures refused { IfErr result (λ fault. IfOwnRefused fault (IsPriceRefusal asked.now texts.now)) }
+{
+    built_schemas_can_be_filled();
     let inputs = match inputs_in(alloc, asked, texts) {
         Ok(inputs) => inputs,
-        Err(fault) => return Err(fault),
+        Err(fault) => return Err(asked_fault(fault)),
     };
-    match accepted(alloc, asked, texts, &inputs) {
-        Ok(accepted) => Ok(accepted.bound),
+    let request = request_of(asked, &inputs);
+    match price_of(alloc, texts, &request) {
+        Ok(cost) => Ok(cost),
         Err(fault) => Err(fault),
     }
 }
@@ -110,10 +145,10 @@ fn price_texts(alloc: Global, asked: &Asked, texts: &AskedTexts) -> Outcome
     requires text { IsText SCHEMA_LIMIT texts.now.schema }
     ensures { PriceOf asked.now texts.now result }
 {
-    match bound_in(alloc, asked, texts) {
-        Ok(bound) => priced(alloc, bound),
-        Err(AskedFault::Refused(refusal)) => refused_asked(alloc, asked, refusal),
-        Err(AskedFault::Memory) => Outcome::Memory,
+    match price_in(alloc, asked, texts) {
+        Ok(cost) => priced(alloc, cost),
+        Err(OwnFault::Refused(refusal)) => refused_own(alloc, asked, refusal),
+        Err(OwnFault::Memory) => Outcome::Memory,
     }
 }
 

@@ -5,7 +5,7 @@ ghost use Rattle.clap.specs.Walk.{rows_of, first_of};
 ghost use Rattle.clap.specs.Matches.{found_of};
 ghost use Rattle.command_words.specs.declared.command.Asked.{Asked as AskedType};
 ghost use Rattle.command_words.specs.declared.command.AskedReplay.{AskedReplay as AskedReplayType};
-ghost use Rattle.command_words.specs.Words.{IsUndeclared, GivesAsked, GivesAskedReplay};
+ghost use Rattle.command_words.specs.Words.{IsUndeclared, GivesOperation, GivesAsked, GivesAskedReplay};
 
 use crate::command::{Asked, AskedReplay, GREATEST_UNSIZED, UNDECLARED, WordsFault};
 use crate::number::number_of;
@@ -40,8 +40,12 @@ pub fn place_text(alloc: Global, matches: &ArgMatches, id: &str) -> Result<Text,
     }
 }
 
-// A copy of the word of an option.
-fn option_text(alloc: Global, matches: &ArgMatches, id: &str) -> Result<Option<Text>, AllocError>
+/// A copy of the word of an option.
+pub fn option_text(
+    alloc: Global,
+    matches: &ArgMatches,
+    id: &str,
+) -> Result<Option<Text>, AllocError>
     ensures { IfOk result (λ word. first_of id.now (rows_of (found_of matches.now)) ≡ word) }
 {
     match word_of(matches, id) {
@@ -64,10 +68,10 @@ pub fn undeclared_of(matches: &ArgMatches) -> Result<u32, WordsFault>
     }
 }
 
-/// The operation that words ask for.
-pub fn asked_of(alloc: Global, matches: &ArgMatches) -> Result<Asked, WordsFault>
-    ensures found { IfOk result (λ asked. GivesAsked (rows_of (found_of matches.now)) asked) }
-    ensures usage { result ≡ Err WordsFault.Usage → (asked : AskedType) → GivesAsked (rows_of (found_of matches.now)) asked → ⊥ }
+/// The operation that words ask for, where they may give no size of lists that declare none.
+pub fn operation_of(alloc: Global, matches: &ArgMatches) -> Result<Asked, WordsFault>
+    ensures found { IfOk result (λ asked. GivesOperation (rows_of (found_of matches.now)) asked × (asked.undeclared ≡ UNDECLARED)) }
+    ensures usage { result ≡ Err WordsFault.Usage → (asked : AskedType) → GivesOperation (rows_of (found_of matches.now)) asked → ⊥ }
 {
     let schema = match place_text(alloc, matches, "schema") {
         Ok(schema) => schema,
@@ -75,10 +79,6 @@ pub fn asked_of(alloc: Global, matches: &ArgMatches) -> Result<Asked, WordsFault
     };
     let document = match place_text(alloc, matches, "document") {
         Ok(document) => document,
-        Err(fault) => return Err(fault),
-    };
-    let undeclared = match undeclared_of(matches) {
-        Ok(undeclared) => undeclared,
         Err(fault) => return Err(fault),
     };
     let Ok(variables) = option_text(alloc, matches, "variables") else {
@@ -92,8 +92,26 @@ pub fn asked_of(alloc: Global, matches: &ArgMatches) -> Result<Asked, WordsFault
         document,
         variables,
         operation,
-        undeclared,
+        undeclared: UNDECLARED,
     })
+}
+
+/// The operation that words ask for.
+pub fn asked_of(alloc: Global, matches: &ArgMatches) -> Result<Asked, WordsFault>
+    ensures found { IfOk result (λ asked. GivesAsked (rows_of (found_of matches.now)) asked) }
+    ensures usage { result ≡ Err WordsFault.Usage → (asked : AskedType) → GivesAsked (rows_of (found_of matches.now)) asked → ⊥ }
+{
+    let undeclared = match undeclared_of(matches) {
+        Ok(undeclared) => undeclared,
+        Err(fault) => return Err(fault),
+    };
+    match operation_of(alloc, matches) {
+        Ok(asked) => Ok(Asked {
+            undeclared,
+            ..asked
+        }),
+        Err(fault) => Err(fault),
+    }
 }
 
 /// The replay that words ask for.

@@ -5,15 +5,15 @@ ghost use Rattle.clap.specs.Walk.{rows_of, first_of};
 ghost use Rattle.clap.specs.Matches.{found_of};
 ghost use Rattle.response_model.specs.declared.part.Part.{Part as PartType};
 ghost use Rattle.command_words.specs.declared.command.Command.{Command as CommandType};
-ghost use Rattle.command_words.specs.Words.{GivesPart, GivesCheck, GivesPrice, GivesWorst, GivesForward, GivesMeter, GivesReplay, GivesServe, IsRequests, GivesExercise, GivesMigrate, AsksCheck, AsksPrice, AsksWorst, AsksForward, AsksMeter, AsksReplay, AsksServe, AsksExercise, AsksMigrate};
+ghost use Rattle.command_words.specs.Words.{GivesPart, GivesCheck, GivesPrice, GivesIntrospect, GivesWorst, GivesForward, GivesMeter, GivesReplay, GivesServe, IsRequests, GivesExercise, GivesMigrate, AsksCheck, AsksPrice, AsksIntrospect, AsksWorst, AsksForward, AsksMeter, AsksReplay, AsksServe, AsksExercise, AsksMigrate};
 
 use crate::builder::{
-    check_command, exercise_command, forward_command, meter_command, migrate_command,
-    price_command, replay_command, serve_command, worst_command,
+    check_command, exercise_command, forward_command, introspect_command, meter_command,
+    migrate_command, price_command, replay_command, serve_command, worst_command,
 };
 use crate::command::{Command, GREATEST_EXERCISE, WordsFault};
 use crate::number::number_of;
-use crate::words::asked::{asked_of, asked_replay_of, place_text, place_word};
+use crate::words::asked::{asked_of, asked_replay_of, operation_of, place_text, place_word};
 use crate::words::matches::{matches_of, word_of};
 use crate::words::serving::asked_serve_of;
 use clap::ArgMatches;
@@ -66,6 +66,31 @@ pub fn price<'a>(alloc: Global, words: &'a [&'a str]) -> Result<Command, WordsFa
     };
     match matches_of(command, words) {
         Ok(matches) => price_of(alloc, &matches),
+        Err(fault) => Err(fault),
+    }
+}
+
+// The introspection that words ask for.
+fn introspect_of(alloc: Global, matches: &ArgMatches) -> Result<Command, WordsFault>
+    ensures found { IfOk result (GivesIntrospect (rows_of (found_of matches.now))) }
+    ensures usage { result ≡ Err WordsFault.Usage → (command : CommandType) → GivesIntrospect (rows_of (found_of matches.now)) command → ⊥ }
+{
+    match operation_of(alloc, matches) {
+        Ok(asked) => Ok(Command::Introspect { asked }),
+        Err(fault) => Err(fault),
+    }
+}
+
+/// `introspect SCHEMA DOCUMENT`
+pub fn introspect<'a>(alloc: Global, words: &'a [&'a str]) -> Result<Command, WordsFault>
+    ensures found { IfOk result (AsksIntrospect (map (λ s. s.now) words.entry.now)) }
+    ensures usage { result ≡ Err WordsFault.Usage → (command : CommandType) → AsksIntrospect (map (λ s. s.now) words.entry.now) command → ⊥ }
+{
+    let Ok(command) = introspect_command(alloc) else {
+        return Err(WordsFault::Memory);
+    };
+    match matches_of(command, words) {
+        Ok(matches) => introspect_of(alloc, &matches),
         Err(fault) => Err(fault),
     }
 }

@@ -1,5 +1,5 @@
 -- The texts are read in one way, and so is the reply.
-use Rattle.operation_commands.proofs.OneMeasure.{OneReply, one_measure, one_fault, measured_or_faulty}
+use Rattle.operation_commands.proofs.OneMeasure.{one_measure, one_fault, measured_or_faulty}
 use Rattle.operation_commands.proofs.meter_laws.a_reply_has_one_measure.Goals as goal
 
 pub returns-clause-measure : goal.returns-clause-measure

@@ -1,5 +1,5 @@
 -- By cases on the refusals.
-use Rattle.operation_commands.proofs.OnePrice.{OneRefusal, one_refusal, not_both}
+use Rattle.operation_commands.proofs.OnePrice.{one_refusal, not_both}
 use Rattle.operation_commands.proofs.price_laws.a_refused_operation_has_no_price.Goals as goal
 
 pub returns-clause-not_both : goal.returns-clause-not_both

@@ -1,5 +1,5 @@
 -- The texts are read in one way.
-use Rattle.operation_commands.proofs.OnePrice.{OneReading, one_price, one_plan}
+use Rattle.operation_commands.proofs.OnePrice.{one_price, one_plan}
 use Rattle.operation_commands.proofs.price_laws.two_files_have_one_price.Goals as goal
 
 pub returns-clause-price : goal.returns-clause-price

@@ -4,7 +4,7 @@ use Rattle.clap.specs.Matches.{found_of}
 use Rattle.command_words.specs.declared.command.WordsFault.TheVariants.{Usage}
 use Rattle.command_words.specs.Apps.{serve_app}
 use Rattle.command_words.specs.Words.{GivesServe}
-use Rattle.command_words.proofs.Readings.{texts, same_fault, asked, refused}
+use Rattle.command_words.proofs.Readings.{texts, same_fault, asked, refused, unread}
 use Rattle.command_words.proofs.words.commands.serve.Goals as goal
 
 pub returns-in-Ok-matches_of-clause-found : goal.returns-in-Ok-matches_of-clause-found
@@ -17,3 +17,9 @@ pub returns-in-Err-clause-usage : goal.returns-in-Err-clause-usage
 returns-in-Err-clause-usage c = λ failed command.
     refused serve_app (app_of c.in-Ok.command) (texts c.args.words.now) c.in-Ok.ensures (λ rows. GivesServe rows command)
     (c.in-Err.ensures.usage (same_fault c.in-Err.fault Usage failed))
+
+pub returns-in-Ok-matches_of-clause-usage : goal.returns-in-Ok-matches_of-clause-usage
+returns-in-Ok-matches_of-clause-usage c = λ failed command.
+    unread serve_app (app_of c.in-Ok.command) (texts c.args.words.now) c.in-Ok.ensures
+    (rows_of (found_of c.in-Ok-matches_of.matches)) (λ rows. GivesServe rows command)
+    c.in-Ok-matches_of.ensures.rows (c.serve_of.ensures.usage failed command)
