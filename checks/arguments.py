@@ -33,6 +33,7 @@ VALUES = {
 USUAL = {
     "check": ["books.graphql"],
     "price": ["books.graphql", "titles.graphql"],
+    "introspect": ["books.graphql", "titles.graphql"],
     "worst": ["books.graphql", "titles.graphql", "types"],
     "forward": ["books.graphql", "titles.graphql"],
     "meter": ["books.graphql", "titles.graphql", "reply.json"],
@@ -44,6 +45,7 @@ USUAL = {
 # The options of each command, each of which comes as often as all others together.
 OWN = {
     **dict.fromkeys(["price", "worst", "forward", "meter"], ["variables", "operation", "unsized"]),
+    "introspect": ["variables", "operation"],
     "replay": ["unsized"],
     "serve": ["target", "workers", "connections", "endless", "idle", "stop", "unsized"],
 }
