@@ -60,6 +60,8 @@ fn settings_of(alloc: Global, window_seconds: u32) -> Settings
         window_seconds,
         host: Text::from(String::new(alloc)),
         target: Text::from(String::new(alloc)),
+        passed: Vec::new(alloc),
+        hints: false,
     }
 }
 

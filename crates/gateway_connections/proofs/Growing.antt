@@ -117,19 +117,19 @@ makes_then p q r a b c xs ys m n = record {
 
 -- ---- the requests in the bytes
 
-pub asks_none : (bytes : List ℕ) → AsksTo bytes [] bytes
+pub asks_none : (names : List (List ℕ)) (bytes : List ℕ) → AsksTo names bytes [] bytes
 unfolding AsksTo
-asks_none bytes = refl
+asks_none names bytes = refl
 
-pub asks_grow : (bytes : List ℕ) (xs : List Exchange) (rest more : List ℕ) → AsksTo bytes xs rest → AsksTo (bytes ++ more) xs (rest ++ more)
+pub asks_grow : (names : List (List ℕ)) (bytes : List ℕ) (xs : List Exchange) (rest more : List ℕ) → AsksTo names bytes xs rest → AsksTo names (bytes ++ more) xs (rest ++ more)
 unfolding AsksTo
-asks_grow bytes [] rest more a = ap (λ l. l ++ more) a
-asks_grow bytes (x ∷ xs) rest more a = (a.0 ++ more, ask_stays bytes a.0 more x.ask a.1, asks_grow a.0 xs rest more a.2)
+asks_grow names bytes [] rest more a = ap (λ l. l ++ more) a
+asks_grow names bytes (x ∷ xs) rest more a = (a.0 ++ more, ask_stays names bytes a.0 more x.ask a.1, asks_grow names a.0 xs rest more a.2)
 
-pub asks_more : (bytes : List ℕ) (xs : List Exchange) (x : Exchange) (here rest : List ℕ) → AsksTo bytes xs here → IsAsk here x.ask rest → AsksTo bytes (xs ++ x ∷ []) rest
+pub asks_more : (names : List (List ℕ)) (bytes : List ℕ) (xs : List Exchange) (x : Exchange) (here rest : List ℕ) → AsksTo names bytes xs here → IsAsk names here x.ask rest → AsksTo names bytes (xs ++ x ∷ []) rest
 unfolding AsksTo
-asks_more bytes [] x here rest a is = (rest, subst (λ l. IsAsk l x.ask rest) (sym a) is, refl)
-asks_more bytes (y ∷ xs) x here rest a is = (a.0, a.1, asks_more a.0 xs x here rest a.2 is)
+asks_more names bytes [] x here rest a is = (rest, subst (λ l. IsAsk names l x.ask rest) (sym a) is, refl)
+asks_more names bytes (y ∷ xs) x here rest a is = (a.0, a.1, asks_more names a.0 xs x here rest a.2 is)
 
 -- ---- exchanges behind others
 

@@ -130,7 +130,7 @@ made_one p q given back x moment gains at tick logged down failed = record {
 
 -- its turn
 pub turned_by : (s : Service) (number made : ℕ) (here rest : List ℕ) (ended : Bool) (front : Option (List ℕ)) (x : Exchange) (before after : Option (List ℕ)) (r : Option Served)
-    → IsAsk here x.ask rest → front ≡ Some rest → IsExchange s made (Unit {0}) x → Answers x.reply x.ask.close number before after r
+    → IsAsk s.passed here x.ask rest → front ≡ Some rest → IsExchange s made (Unit {0}) x → Answers x.reply x.ask.close number before after r
     → TurnsTo s number made here ended front (x ∷ []) before after r
 turned_by s number made here rest ended front x before after None ask kept is a = (x, rest, refl, ask, kept, is, a.0, a.1)
 turned_by s number made here rest ended front x before after (Some served) ask kept is (inl a) =

@@ -1,11 +1,12 @@
 -- A response is given where it is due.
-use Rattle.std.proofs.Common.{◌≡◌, ◌≢◌, ◌⊎◌, ℕ, inl, inr, List, [], ◌∷◌, refl, sym, ap, ◌∙◌, subst, arith, length, Bool, true, false, Result, Ok, Err}
+use Rattle.std.proofs.Common.{◌≡◌, ◌≢◌, ◌⊎◌, ℕ, inl, inr, List, [], ◌∷◌, refl, sym, ap, ◌∙◌, subst, arith, length, Bool, true, false, Option, Result, Ok, Err}
 use Rattle.std.specs.List.{AllByRecursion}
 use Rattle.std.proofs.lemmas.Option.{none-some}
 use Rattle.cost_num.specs.declared.Cost.{Cost}
 use Rattle.account_core.specs.Machine.{reservation, granted}
 use Rattle.account_shared.specs.Gains.{client_call}
 use Rattle.outside.specs.Dials.{Dial}
+use Rattle.http_front.specs.declared.reply.Hint.{Hint}
 use Rattle.upstream_link.specs.declared.fault.LinkFault.{LinkFault}
 use Rattle.upstream_link.specs.declared.fault.LinkFault.TheVariants as link
 use Rattle.upstream_link.specs.declared.reply.UpstreamReply.{UpstreamReply}
@@ -19,7 +20,9 @@ use Rattle.gateway_core.specs.declared.grant.Grant.{Grant}
 use Rattle.gateway_core.specs.Rules.{Rules, window_of}
 use Rattle.gateway_core.specs.Requests.{IsPricedAt, IsPromisedFor, IsLocalAt}
 use Rattle.gateway_core.specs.declared.beginning.Begun.TheVariants.{Denied}
-use Rattle.gateway_core.specs.Begins.{IsDenied, IsUnfit, calls_begun}
+use Rattle.local_introspection.specs.declared.walk.Local.{Local}
+use Rattle.gateway_core.specs.declared.beginning.LocalAnswer.{LocalAnswer}
+use Rattle.gateway_core.specs.Begins.{IsDenied, IsUnfit, HasOneAnswer, calls_begun}
 use Rattle.gateway_core.specs.Grants.{promise_of}
 use Rattle.gateway_core.specs.PlanBounds.{IsMeasuredBy}
 use Rattle.gateway_core.specs.Measures.{Metered, HasNamedTypes, IsMeasuredFor, MeasuredIsAnswered}
@@ -27,14 +30,14 @@ use Rattle.gateway_core.specs.Finishes.{finished_as, IsUnanswered, IsStarved, Is
 use Rattle.gateway_core.specs.Messages.{denial_text, no_memory_text}
 use Rattle.gateway_connections.specs.declared.reply.Reply.{Reply}
 use Rattle.gateway_connections.specs.Replies.{Tells, IsDenialReply, finished_reply}
-use Rattle.gateway_connections.specs.Exchanges.{Service, Exchange, WasForwarded, WasAnswered, outcome_of}
-use Rattle.gateway_connections.specs.Measured.{WasExchanged, WasShort, Brought, WasBrought, IsDue, WasGiven, WasGivenOr500, WasDueAndGiven, WasAnsweredHere}
+use Rattle.gateway_connections.specs.Exchanges.{Service, Exchange, WasForwarded, WasAnswered, outcome_of, hint_of}
+use Rattle.gateway_connections.specs.Measured.{WasExchanged, WasShort, Brought, WasBrought, IsDue, WasGiven, WasGivenOr500, WasDueAndGiven, WasAnsweredHere, IsDueHere, WasGivenHere}
 
 -- A body is unfit or has a price; what is granted is answered as its reply is measured; and bytes begin with one reply.
 pub record OneResponse : Type 0 where
   pub priced : (rules : Rules) (body reply : List ℕ) (metered : Metered) → IsMeasuredFor rules body reply metered → (bound : Cost) × IsPricedAt rules body bound
   pub priced_or_unfit : (rules : Rules) (body : List ℕ) (bound : Cost) (denial : Denial) → denial ≢ Memory → IsPricedAt rules body bound → IsUnfit rules body denial → ⊥
-  pub priced_or_local : (rules : Rules) (body : List ℕ) (bound cost : Cost) → IsPricedAt rules body bound → IsLocalAt rules body cost → ⊥
+  pub local : (rules : Rules) (body : List ℕ) → HasOneAnswer rules body
   pub granted : (rules : Rules) (body : List ℕ) (g : Grant) → IsPromisedFor rules body (promise_of g) → IsPricedAt rules body g.ticket.bound
   pub finished : (rules : Rules) → HasNamedTypes rules → MeasuredIsAnswered rules
   pub no_fault : (bytes : List ℕ) (ended : Bool) (reply : UpstreamReply) (f : LinkFault) → ReplyOf (Ok reply) bytes ended → ReplyOf (Err f) bytes ended → f ≡ link.Memory
@@ -79,9 +82,9 @@ status_of x f is = ap (λ (r : Reply). r.status) is
 starved_500 : (x : Exchange) (f : Finished) (bound : Cost) → x.reply ≡ finished_reply f → IsStarved bound f → x.reply.status ≡ 500
 starved_500 x f bound is starved = status_of x f is ∙ ap (λ (g : Finished). g.status) starved
 
-denied_500 : (x : Exchange) (message : List ℕ) → Tells 500 message x.reply → x.reply.status ≡ 500
-denied_500 x message (inl told) = ap (λ (r : Reply). r.status) told
-denied_500 x message (inr none) = ap (λ (r : Reply). r.status) none
+denied_500 : (x : Exchange) (hint : Option Hint) (message : List ℕ) → Tells hint 500 message x.reply → x.reply.status ≡ 500
+denied_500 x hint message (inl told) = ap (λ (r : Reply). r.status) told
+denied_500 x hint message (inr none) = ap (λ (r : Reply). r.status) none
 
 -- a body to which a response is due is fit
 fit : OneResponse → (s : Service) (x : Exchange) (metered : Metered) → IsDue s x metered → (denial : Denial) → denial ≢ Memory → IsUnfit s.rules x.ask.body.items denial → ⊥
@@ -95,14 +98,14 @@ starved g f (inr none) = none
 
 -- a denial is for want of memory where a response is due
 denied_due : OneResponse → (s : Service) (x : Exchange) (metered : Metered) (client : ℕ) (denial : Denial) → IsDenied s.rules x.ask.key x.ask.body.items client denial
-    → x.calls ≡ calls_begun client (window_of s.rules x.moment) (Denied denial) → IsDenialReply denial x.reply → IsDue s x metered → x.reply.status ≡ 500
-denied_due laws s x metered client UnknownKey denied calls reply due = absurd (none-some due.client (sym denied ∙ due.known))
-denied_due laws s x metered client (Unexpanded fault) denied calls reply due = absurd (fit laws s x metered due (Unexpanded fault) (λ e. cc e) denied.1)
-denied_due laws s x metered client (BadBody fault) denied calls reply due = absurd (fit laws s x metered due (BadBody fault) (λ e. cc e) denied.1)
-denied_due laws s x metered client (Refused refusal) denied calls reply due = absurd (fit laws s x metered due (Refused refusal) (λ e. cc e) denied.1)
-denied_due laws s x metered client (NotLocal fault) denied calls reply due = absurd (fit laws s x metered due (NotLocal fault) (λ e. cc e) denied.1)
-denied_due laws s x metered client (Short left bound) denied calls reply due = absurd (due.covered (client, bound, left, calls))
-denied_due laws s x metered client Memory denied calls reply due = denied_500 x no_memory_text reply
+    → x.calls ≡ calls_begun client (window_of s.rules x.moment) (Denied denial) → (hint : Option Hint) → IsDenialReply hint denial x.reply → IsDue s x metered → x.reply.status ≡ 500
+denied_due laws s x metered client UnknownKey denied calls hint reply due = absurd (none-some due.client (sym denied ∙ due.known))
+denied_due laws s x metered client (Unexpanded fault) denied calls hint reply due = absurd (fit laws s x metered due (Unexpanded fault) (λ e. cc e) denied.1)
+denied_due laws s x metered client (BadBody fault) denied calls hint reply due = absurd (fit laws s x metered due (BadBody fault) (λ e. cc e) denied.1)
+denied_due laws s x metered client (Refused refusal) denied calls hint reply due = absurd (fit laws s x metered due (Refused refusal) (λ e. cc e) denied.1)
+denied_due laws s x metered client (NotLocal fault) denied calls hint reply due = absurd (fit laws s x metered due (NotLocal fault) (λ e. cc e) denied.1)
+denied_due laws s x metered client (Short left bound) denied calls hint reply due = absurd (due.covered (client, bound, left, calls))
+denied_due laws s x metered client Memory denied calls hint reply due = denied_500 x hint no_memory_text reply
 
 given_by : (s : Service) (made : ℕ) (x : Exchange) (f : WasForwarded s made (Unit {0}) x) (metered : Metered)
     → f.finished ≡ finished_as 200 metered.text f.grant.ticket.bound metered.cost → WasGiven s x metered
@@ -139,15 +142,55 @@ price : OneResponse → (s : Service) (x : Exchange) (metered : Metered) → IsD
 price laws s x metered due = laws.priced s.rules x.ask.body.items due.reply.body.items metered due.measured
 
 pub given_where_due : OneResponse → (s : Service) (x : Exchange) (metered : Metered) → HasNamedTypes s.rules → WasExchanged s x → IsDue s x metered → WasGivenOr500 s x metered
-given_where_due laws s x metered named (made, inl d) due = inr (denied_due laws s x metered d.client d.denial d.denied d.calls d.reply due)
-given_where_due laws s x metered named (made, inr (inr a)) due = absurd (laws.priced_or_local s.rules x.ask.body.items (price laws s x metered due).0 a.is_answered.answer.cost (price laws s x metered due).1 (local_at s made x a))
+given_where_due laws s x metered named (made, inl d) due = inr (denied_due laws s x metered d.client d.denial d.denied d.calls (hint_of s x.moment d.denial) d.reply due)
+given_where_due laws s x metered named (made, inr (inr a)) due = absurd ((laws.local s.rules x.ask.body.items).not_priced (price laws s x metered due).0 a.is_answered.answer.cost (price laws s x metered due).1 (local_at s made x a))
 given_where_due laws s x metered named (made, inr (inl f)) due = forwarded laws s made x f due.reply metered named due.brought due.measured
+
+-- ---- where the gateway's own answer is due
+
+-- a denial is for want of memory there
+denied_here : OneResponse → (s : Service) (x : Exchange) (answer : Local) (client : ℕ) (denial : Denial) → IsDenied s.rules x.ask.key x.ask.body.items client denial
+    → x.calls ≡ calls_begun client (window_of s.rules x.moment) (Denied denial) → (hint : Option Hint) → IsDenialReply hint denial x.reply → IsDueHere s x answer → x.reply.status ≡ 500
+denied_here laws s x answer client denial denied calls hint reply due = each denial denied calls reply
+  where
+    unfit : (other : Denial) → other ≢ Memory → IsUnfit s.rules x.ask.body.items other → ⊥
+    unfit other told = (laws.local s.rules x.ask.body.items).not_unfit answer.cost other told (answer, due.is_answer, refl)
+
+    each : (other : Denial) → IsDenied s.rules x.ask.key x.ask.body.items client other → x.calls ≡ calls_begun client (window_of s.rules x.moment) (Denied other) → IsDenialReply hint other x.reply → x.reply.status ≡ 500
+    each UnknownKey is made told = absurd (none-some due.client (sym is ∙ due.known))
+    each (Unexpanded fault) is made told = absurd (unfit (Unexpanded fault) (λ e. cc e) is.1)
+    each (BadBody fault) is made told = absurd (unfit (BadBody fault) (λ e. cc e) is.1)
+    each (Refused refusal) is made told = absurd (unfit (Refused refusal) (λ e. cc e) is.1)
+    each (NotLocal fault) is made told = absurd (unfit (NotLocal fault) (λ e. cc e) is.1)
+    each (Short left bound) is made told = absurd (due.covered (client, bound, left, made))
+    each Memory is made told = denied_500 x hint no_memory_text told
+
+-- what was answered is the one answer
+answered_so : OneResponse → (s : Service) (made : ℕ) (x : Exchange) (answer : Local) → WasAnswered s made (Unit {0}) x → IsDueHere s x answer → WasGivenHere s x answer
+answered_so laws s made x answer a due =
+    let one = laws.local s.rules x.ask.body.items in
+    let other = a.is_answered.answer in
+    let texts : other.text ≡ answer.text = one.text other answer a.is_answered.answered due.is_answer in
+    let costs : other.cost ≡ answer.cost = one.cost other.cost answer.cost (local_at s made x a) (answer, due.is_answer, refl) in
+    record {
+      client = a.client;
+      given = a.answer;
+      is_answer = a.is_answered.finished ∙ (λ i. finished_as 200 (texts i) (costs i) (costs i));
+      calls = a.calls;
+      replied = a.reply;
+    }
+
+pub given_here : OneResponse → (s : Service) (x : Exchange) (answer : Local) → WasExchanged s x → IsDueHere s x answer → WasGivenHere s x answer ⊎ (x.reply.status ≡ 500)
+given_here laws s x answer (made, inl d) due = inr (denied_here laws s x answer d.client d.denial d.denied d.calls (hint_of s x.moment d.denial) d.reply due)
+given_here laws s x answer (made, inr (inr a)) due = inl (answered_so laws s made x answer a due)
+given_here laws s x answer (made, inr (inl f)) due =
+    absurd ((laws.local s.rules x.ask.body.items).not_priced f.grant.ticket.bound answer.cost (laws.granted s.rules x.ask.body.items f.grant f.is_granted.promised) (answer, due.is_answer, refl))
 
 -- ---- where a response was given
 
-tells_other : (status wanted : ℕ) (message : List ℕ) (r : Reply) → (status ≡ wanted → ⊥) → (500 ≡ wanted → ⊥) → Tells status message r → r.status ≡ wanted → ⊥
-tells_other status wanted message r other starved (inl told) is = other (sym (ap (λ (q : Reply). q.status) told) ∙ is)
-tells_other status wanted message r other starved (inr none) is = starved (sym (ap (λ (q : Reply). q.status) none) ∙ is)
+tells_other : (hint : Option Hint) (status wanted : ℕ) (message : List ℕ) (r : Reply) → (status ≡ wanted → ⊥) → (500 ≡ wanted → ⊥) → Tells hint status message r → r.status ≡ wanted → ⊥
+tells_other hint status wanted message r other starved (inl told) is = other (sym (ap (λ (q : Reply). q.status) told) ∙ is)
+tells_other hint status wanted message r other starved (inr none) is = starved (sym (ap (λ (q : Reply). q.status) none) ∙ is)
 
 -- no denial has such a status
 record IsNoDenials (wanted : ℕ) : Type 0 where
@@ -156,14 +199,14 @@ record IsNoDenials (wanted : ℕ) : Type 0 where
   at_429 : 429 ≡ wanted → ⊥
   at_500 : 500 ≡ wanted → ⊥
 
-no_denial : (wanted : ℕ) (denial : Denial) (r : Reply) → IsNoDenials wanted → IsDenialReply denial r → r.status ≡ wanted → ⊥
-no_denial wanted UnknownKey r others told is = tells_other 401 wanted (denial_text UnknownKey) r others.at_401 others.at_500 told is
-no_denial wanted (Unexpanded fault) r others told is = tells_other 400 wanted (denial_text (Unexpanded fault)) r others.at_400 others.at_500 told is
-no_denial wanted (BadBody fault) r others told is = tells_other 400 wanted (denial_text (BadBody fault)) r others.at_400 others.at_500 told is
-no_denial wanted (Refused refusal) r others told is = tells_other 400 wanted (denial_text (Refused refusal)) r others.at_400 others.at_500 told is
-no_denial wanted (NotLocal fault) r others told is = tells_other 400 wanted (denial_text (NotLocal fault)) r others.at_400 others.at_500 told is
-no_denial wanted (Short left bound) r others told is = tells_other 429 wanted (denial_text (Short left bound)) r others.at_429 others.at_500 told is
-no_denial wanted Memory r others told is = tells_other 500 wanted (denial_text Memory) r others.at_500 others.at_500 told is
+no_denial : (wanted : ℕ) (hint : Option Hint) (denial : Denial) (r : Reply) → IsNoDenials wanted → IsDenialReply hint denial r → r.status ≡ wanted → ⊥
+no_denial wanted hint UnknownKey r others told is = tells_other hint 401 wanted (denial_text UnknownKey) r others.at_401 others.at_500 told is
+no_denial wanted hint (Unexpanded fault) r others told is = tells_other hint 400 wanted (denial_text (Unexpanded fault)) r others.at_400 others.at_500 told is
+no_denial wanted hint (BadBody fault) r others told is = tells_other hint 400 wanted (denial_text (BadBody fault)) r others.at_400 others.at_500 told is
+no_denial wanted hint (Refused refusal) r others told is = tells_other hint 400 wanted (denial_text (Refused refusal)) r others.at_400 others.at_500 told is
+no_denial wanted hint (NotLocal fault) r others told is = tells_other hint 400 wanted (denial_text (NotLocal fault)) r others.at_400 others.at_500 told is
+no_denial wanted hint (Short left bound) r others told is = tells_other hint 429 wanted (denial_text (Short left bound)) r others.at_429 others.at_500 told is
+no_denial wanted hint Memory r others told is = tells_other hint 500 wanted (denial_text Memory) r others.at_500 others.at_500 told is
 
 no_200 : IsNoDenials 200
 no_200 = record { at_400 = λ e. omega (arith, e); at_401 = λ e. omega (arith, e); at_429 = λ e. omega (arith, e); at_500 = λ e. omega (arith, e) }
@@ -199,7 +242,7 @@ measured_at g (Err fault) f (inr none) at = absurd (finished_other f 500 _ _ _ (
 
 given_due : (s : Service) (made : ℕ) (x : Exchange) (f : WasForwarded s made (Unit {0}) x) → IsMeasured f.grant f.asked f.finished → WasDueAndGiven s x
 given_due s made x f (r, is, (metered, measured, answered)) =
-    let request = request_bytes s.host s.target f.grant.forward in
+    let request = request_bytes s.host s.target x.ask.passed.items f.grant.forward in
     let by = brought_by (Unit {0}) request r x.dials (subst (λ a. CameTo (Unit {0}) request a x.dials) is f.came_to) in (
       metered,
       record {
@@ -215,7 +258,7 @@ given_due s made x f (r, is, (metered, measured, answered)) =
     )
 
 pub due_where_given : (s : Service) (x : Exchange) → WasExchanged s x → x.reply.status ≡ 200 → WasDueAndGiven s x ⊎ WasAnsweredHere s x
-due_where_given s x (made, inl d) at = absurd (no_denial 200 d.denial x.reply no_200 d.reply at)
+due_where_given s x (made, inl d) at = absurd (no_denial 200 (hint_of s x.moment d.denial) d.denial x.reply no_200 d.reply at)
 due_where_given s x (made, inr (inr a)) at = inr (made, a)
 due_where_given s x (made, inr (inl f)) at = inl (given_due s made x f (measured_at f.grant f.asked f.finished f.is_finished (sym (status_of x f.finished f.reply) ∙ at)))
 
@@ -243,19 +286,19 @@ given_status s x metered (inr none) at = let e : 500 ≡ 502 = sym none ∙ at i
 
 -- what is replied with 502 was forwarded
 forwarded_at : (s : Service) (y : Exchange) → WasExchanged s y → y.reply.status ≡ 502 → (made : ℕ) × WasForwarded s made (Unit {0}) y
-forwarded_at s y (made, inl d) at = absurd (no_denial 502 d.denial y.reply no_502 d.reply at)
+forwarded_at s y (made, inl d) at = absurd (no_denial 502 (hint_of s y.moment d.denial) d.denial y.reply no_502 d.reply at)
 forwarded_at s y (made, inr (inl f)) at = (made, f)
 forwarded_at s y (made, inr (inr a)) at = let e : 200 ≡ 502 = sym (answered_200 s made y a) ∙ at in absurd (omega (arith, e))
 
 not_both_at : OneResponse → (s : Service) (made : ℕ) (x y : Exchange) (reply : UpstreamReply) → HasNamedTypes s.rules → WasExchanged s x → WasForwarded s made (Unit {0}) y
     → x.ask.body.items ≡ y.ask.body.items → WasBrought reply x → WasBrought reply y → x.reply.status ≡ 200 → y.reply.status ≡ 502 → ⊥
-not_both_at laws s made x y reply named (other, inl d) f same brought brought_too at at_too = no_denial 200 d.denial x.reply no_200 d.reply at
+not_both_at laws s made x y reply named (other, inl d) f same brought brought_too at at_too = no_denial 200 (hint_of s x.moment d.denial) d.denial x.reply no_200 d.reply at
 not_both_at laws s made x y reply named (other, inr (inl g)) f same brought brought_too at at_too =
     let measured = measured_for laws s other x reply g brought at in
     given_status s y measured.0
     (forwarded laws s made y f reply measured.0 named brought_too (subst (λ b. IsMeasuredFor s.rules b reply.body.items measured.0) same measured.1)) at_too
 not_both_at laws s made x y reply named (other, inr (inr a)) f same brought brought_too at at_too =
-    laws.priced_or_local s.rules y.ask.body.items f.grant.ticket.bound a.is_answered.answer.cost (laws.granted s.rules y.ask.body.items f.grant f.is_granted.promised)
+    (laws.local s.rules y.ask.body.items).not_priced f.grant.ticket.bound a.is_answered.answer.cost (laws.granted s.rules y.ask.body.items f.grant f.is_granted.promised)
     (subst (λ b. IsLocalAt s.rules b a.is_answered.answer.cost) same (local_at s other x a))
 
 pub not_both : OneResponse → (s : Service) (x y : Exchange) (reply : UpstreamReply) → HasNamedTypes s.rules → WasExchanged s x → WasExchanged s y → x.ask.body.items ≡ y.ask.body.items

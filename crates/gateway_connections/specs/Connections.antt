@@ -15,10 +15,10 @@ use Rattle.gateway_connections.specs.declared.ending.ConnectionEnd.TheVariants a
 use Rattle.gateway_connections.specs.Replies.{written, IsFaultReply}
 use Rattle.gateway_connections.specs.Exchanges.{Service, Exchange, IsExchange, AreExchanges, downs, failures}
 
--- The bytes are the requests of the exchanges, one after the other, and then the rest.
-unfoldable pub AsksTo : List ℕ → List Exchange → List ℕ → Type 0
-AsksTo bytes [] rest = bytes ≡ rest
-AsksTo bytes (x ∷ xs) rest = (after : List ℕ) × IsAsk bytes x.ask after × AsksTo after xs rest
+-- The bytes are the requests of the exchanges, one after the other, each with the lines of its fields of these names; and then the rest.
+unfoldable pub AsksTo : List (List ℕ) → List ℕ → List Exchange → List ℕ → Type 0
+AsksTo names bytes [] rest = bytes ≡ rest
+AsksTo names bytes (x ∷ xs) rest = (after : List ℕ) × IsAsk names bytes x.ask after × AsksTo names after xs rest
 
 -- ---- what exchanges add up to
 
@@ -115,7 +115,7 @@ EndIs number (after_last x) end = (closes number x ≡ true) × EndsAfter number
 abbrev pub StopsAt : Service → ℕ → ℕ → List ℕ → Bool → Stop → Type 0
 StopsAt s number made here ended not_begun = (number ≡ 0) × (here ≡ []) × (ended ≡ false)
 StopsAt s number made here ended (at_fault f r) = HasFault here ended f × IsFaultReply f r
-StopsAt s number made here ended (after_last x) = ((rest : List ℕ) × IsAsk here x.ask rest) × IsExchange s made ⊤ x
+StopsAt s number made here ended (after_last x) = ((rest : List ℕ) × IsAsk s.passed here x.ask rest) × IsExchange s made ⊤ x
 
 -- What is replied where it stops was written, and the end is that of the stop; or that reply was cut off, since the sink failed.
 abbrev pub EndsWith : ℕ → Stop → Option (List ℕ) → Option (List ℕ) → ℕ → ConnectionEnd → Type 0
@@ -132,7 +132,7 @@ pub record Connection (s : Service) (made : ℕ) (bytes : List ℕ) (ended : Boo
   pub goes_on : GoesOn exchanges
   pub few : length exchanges < 1000
   pub here : List ℕ
-  pub asks : AsksTo bytes exchanges here
+  pub asks : AsksTo s.passed bytes exchanges here
   pub stop : Stop
   pub stops : StopsAt s (length exchanges) (made + length (calls_of exchanges)) here ended stop
   -- what was written before the reply of the stop

@@ -1,17 +1,19 @@
 -- One exchange: a request of a client, and its reply.
-use Rattle.std.specs.Prelude.{◌≡◌, ◌⊎◌, ℕ, ◌+◌, List, [], ◌∷◌, length, Option, Some, None, Result, Ok, Err, ⊤}
+use Rattle.std.specs.Prelude.{◌≡◌, ◌⊎◌, ℕ, ◌+◌, Bool, List, [], ◌∷◌, length, Option, Some, None, Result, Ok, Err, ⊤, if◌then◌else◌}
 use Rattle.account_core.specs.Machine.{reservation, granted}
 use Rattle.account_shared.specs.Views.{PassesView}
 use Rattle.account_shared.specs.Gains.{ClientCall, client_call, Gains}
 use Rattle.outside.specs.Dials.{Dial, LoggedBy}
 use Rattle.outside.specs.Faults.{RoseBy}
 use Rattle.http_front.specs.declared.front.Ask.{Ask}
+use Rattle.http_front.specs.declared.reply.Hint.{Hint}
 use Rattle.upstream_link.specs.declared.fault.LinkFault.{LinkFault}
 use Rattle.upstream_link.specs.declared.fault.LinkFault.TheVariants.{Down, Failed}
 use Rattle.upstream_link.specs.declared.reply.UpstreamReply.{UpstreamReply}
 use Rattle.upstream_link.specs.Exchanges.{CameTo}
 use Rattle.upstream_link.specs.RequestBytes.{request_bytes}
 use Rattle.gateway_core.specs.declared.beginning.Denial.{Denial}
+use Rattle.gateway_core.specs.declared.beginning.Denial.TheVariants.{Short}
 use Rattle.gateway_core.specs.declared.beginning.Begun.TheVariants.{Denied}
 use Rattle.gateway_core.specs.declared.beginning.LocalAnswer.{LocalAnswer}
 use Rattle.gateway_core.specs.declared.grant.Grant.{Grant}
@@ -19,21 +21,24 @@ use Rattle.gateway_core.specs.declared.gate.Gate.{Gate}
 use Rattle.gateway_core.specs.declared.finishing.Outcome.{Outcome}
 use Rattle.gateway_core.specs.declared.finishing.Outcome.TheVariants.{Reply as Replied, Fault}
 use Rattle.gateway_core.specs.declared.finishing.Finished.{Finished}
-use Rattle.gateway_core.specs.Rules.{Rules, window_of}
+use Rattle.gateway_core.specs.Rules.{Rules, window_of, seconds_left}
 use Rattle.gateway_core.specs.Gates.{rules_of}
 use Rattle.gateway_core.specs.Begins.{IsDenied, IsGranted, IsAnswered, calls_begun, calls_answered}
 use Rattle.gateway_core.specs.Finishes.{IsFinished, settling}
 use Rattle.gateway_connections.specs.declared.reply.Reply.{Reply}
 use Rattle.gateway_connections.specs.Replies.{IsDenialReply, finished_reply}
 
--- By what requests are decided, and where they are forwarded to.
+-- By what requests are decided, where they are forwarded to and with which fields, and whether clients whose accounts are short are
+-- told when they may try again.
 pub record Service : Type 0 where
   pub rules : Rules
   pub host : List ℕ
   pub target : List ℕ
+  pub passed : List (List ℕ)
+  pub hints : Bool
 
 abbrev pub service_of : Gate → Service
-service_of g = record { rules = rules_of g; host = g.settings.host; target = g.settings.target }
+service_of g = record { rules = rules_of g; host = g.settings.host; target = g.settings.target; passed = g.settings.passed.items; hints = g.settings.hints }
 
 -- An exchange as it went: the request, the moment, the calls at the accounts, what the upstream made of it where it was
 -- forwarded, its dials, and the reply.
@@ -45,6 +50,17 @@ pub record Exchange : Type 0 where
   pub dials : List Dial
   pub reply : Reply
 
+-- ---- denied
+
+-- what is told at a moment to a client whose account is short: the seconds up to the next window, and what the account has left
+abbrev pub short_hint : Rules → ℕ → Denial → Option Hint
+short_hint rules moment (Short left bound) = Some record { seconds = seconds_left rules moment; left = left }
+short_hint rules moment other = None
+
+-- what is told with a denial, where clients are told when they may try again
+abbrev pub hint_of : Service → ℕ → Denial → Option Hint
+hint_of s moment denial = if s.hints then short_hint s.rules moment denial else None
+
 -- It was denied: at most the one call of an account that was short was made, and nobody was dialled.
 pub record WasDenied (s : Service) (Untouched : Type 0) (x : Exchange) : Type 0 where
   pub client : ℕ
@@ -54,21 +70,23 @@ pub record WasDenied (s : Service) (Untouched : Type 0) (x : Exchange) : Type 0 
   pub outcome : x.outcome ≡ None
   pub dials : x.dials ≡ []
   pub untouched : Untouched
-  pub reply : IsDenialReply denial x.reply
+  pub reply : IsDenialReply (hint_of s x.moment denial) denial x.reply
+
+-- ---- forwarded
 
 -- what a request to the upstream came to, as an outcome
 abbrev pub outcome_of : Result UpstreamReply LinkFault → Outcome
 outcome_of (Ok reply) = Replied reply
 outcome_of (Err f) = Fault f
 
--- It was granted: its bound was reserved; then it was forwarded; and what became of it there decides the reply, and the charge
--- at which it was settled.
+-- It was granted: its bound was reserved; then it was forwarded, with the lines of those of its own fields that are passed on; and
+-- what became of it there decides the reply, and the charge at which it was settled.
 pub record WasForwarded (s : Service) (made : ℕ) (untouched : Type 0) (x : Exchange) : Type 0 where
   pub client : ℕ
   pub grant : Grant
   pub is_granted : IsGranted s.rules x.ask.key x.ask.body.items client made grant
   pub asked : Result UpstreamReply LinkFault
-  pub came_to : CameTo untouched (request_bytes s.host s.target grant.forward) asked x.dials
+  pub came_to : CameTo untouched (request_bytes s.host s.target x.ask.passed.items grant.forward) asked x.dials
   pub outcome : x.outcome ≡ Some (outcome_of asked)
   pub finished : Finished
   pub is_finished : IsFinished grant (outcome_of asked) finished
@@ -132,11 +150,11 @@ pub record Replies {W : Type 0} (s : Service) (t : WireTelling W) (ask : Ask) (m
   pub replied : exchange.reply ≡ reply
   pub exchanges : Exchanges s t before now wire after exchange
 
--- A granted request was forwarded and finished, with this reply.
-pub record Forwards {W : Type 0} (s : Service) (t : WireTelling W) (grant : Grant) (before now : PassesView) (wire after : W) (reply : Reply) : Type 0 where
+-- A granted request was forwarded with these lines of further fields, and finished, with this reply.
+pub record Forwards {W : Type 0} (s : Service) (t : WireTelling W) (grant : Grant) (lines : List ℕ) (before now : PassesView) (wire after : W) (reply : Reply) : Type 0 where
   pub asked : Result UpstreamReply LinkFault
   pub dials : List Dial
-  pub came_to : CameTo (after ≡ wire) (request_bytes s.host s.target grant.forward) asked dials
+  pub came_to : CameTo (after ≡ wire) (request_bytes s.host s.target lines grant.forward) asked dials
   pub logged : LoggedBy (t.dial_faults after) (t.log wire) dials (t.log after)
   pub downs : RoseBy (downs (Some (outcome_of asked))) (t.dial_faults wire) (t.dial_faults after)
   pub failures : RoseBy (failures (Some (outcome_of asked))) (t.faults wire) (t.faults after)

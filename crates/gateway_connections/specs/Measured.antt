@@ -11,8 +11,12 @@ use Rattle.upstream_link.specs.Replies.{ReplyOf}
 use Rattle.gateway_core.specs.Rules.{client_of, window_of}
 pub use Rattle.gateway_core.specs.Measures.{Metered}
 use Rattle.gateway_core.specs.Measures.{IsMeasuredFor}
-use Rattle.gateway_core.specs.Finishes.{settling}
-use Rattle.gateway_connections.specs.Replies.{reply_as}
+use Rattle.local_introspection.specs.declared.walk.Local.{Local}
+use Rattle.gateway_core.specs.declared.beginning.LocalAnswer.{LocalAnswer}
+use Rattle.gateway_core.specs.Requests.{IsAnsweredFor}
+use Rattle.gateway_core.specs.Begins.{calls_answered}
+use Rattle.gateway_core.specs.Finishes.{settling, finished_as}
+use Rattle.gateway_connections.specs.Replies.{reply_as, finished_reply}
 use Rattle.gateway_connections.specs.Exchanges.{Service, Exchange, WasAnswered, IsExchange}
 
 -- it went so, behind some calls
@@ -59,6 +63,21 @@ WasGivenOr500 s x metered = WasGiven s x metered ⊎ (x.reply.status ≡ 500)
 -- The gateway answered it itself, behind some calls.
 abbrev pub WasAnsweredHere : Service → Exchange → Type 0
 WasAnsweredHere s x = (made : ℕ) × WasAnswered s made ⊤ x
+
+-- The gateway's own answer is due: the key is a client's, whose account wasn't short; and the body asks for what is answered so.
+pub record IsDueHere (s : Service) (x : Exchange) (answer : Local) : Type 0 where
+  pub client : ℕ
+  pub known : client_of s.rules x.ask.key ≡ Some client
+  pub covered : WasShort s x → ⊥
+  pub is_answer : IsAnsweredFor s.rules x.ask.body.items answer
+
+-- It was given: replied with 200 and its text, and reserved and settled at its cost.
+pub record WasGivenHere (s : Service) (x : Exchange) (answer : Local) : Type 0 where
+  pub client : ℕ
+  pub given : LocalAnswer
+  pub is_answer : given.finished ≡ finished_as 200 answer.text answer.cost answer.cost
+  pub calls : x.calls ≡ calls_answered client (window_of s.rules x.moment) given
+  pub replied : x.reply ≡ finished_reply given.finished
 
 -- A response was due, its reply was brought by one dial, and it was given.
 abbrev pub WasDueAndGiven : Service → Exchange → Type 0

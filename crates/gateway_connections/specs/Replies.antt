@@ -4,14 +4,15 @@ use Rattle.std.specs.Fmt.{decimal}
 use Rattle.cost_num.specs.declared.Cost.{Cost}
 use Rattle.http_front.specs.declared.fault.FrontFault.{FrontFault}
 use Rattle.http_front.specs.declared.fault.FrontFault.TheVariants as fault
-use Rattle.http_front.specs.ReplyBytes.{status_text, head_bytes, AreCosts}
+use Rattle.http_front.specs.declared.reply.Hint.{Hint}
+use Rattle.http_front.specs.ReplyBytes.{status_text, head_bytes, AreCosts, IsHint}
 use Rattle.gateway_core.specs.declared.beginning.Denial.{Denial}
 use Rattle.gateway_core.specs.declared.finishing.Finished.{Finished}
 use Rattle.gateway_core.specs.Messages.{message_body, no_memory_text, denial_status, denial_text}
 use Rattle.gateway_connections.specs.declared.reply.Reply.{Reply}
 
 abbrev pub reply_as : ℕ → Option (Cost × Cost) → List ℕ → Reply
-reply_as status costs body = record { status = status; costs = costs; body = body }
+reply_as status costs body = record { status = status; costs = costs; hint = None; body = body }
 
 -- ---- how replies are written
 
@@ -21,35 +22,36 @@ written_body [] = message_body no_memory_text
 written_body body = body
 
 -- the bytes of a reply with this body, after which the connection closes or doesn't
-abbrev pub bytes_with : Bool → ℕ → Option (Cost × Cost) → List ℕ → List ℕ
-bytes_with close status costs body = head_bytes status close costs (length body) ++ body
+abbrev pub bytes_with : Bool → ℕ → Option (Cost × Cost) → Option Hint → List ℕ → List ℕ
+bytes_with close status costs hint body = head_bytes status close costs hint (length body) ++ body
 
 abbrev pub written : Bool → Reply → List ℕ
-written close r = bytes_with close r.status r.costs (written_body r.body)
+written close r = bytes_with close r.status r.costs r.hint (written_body r.body)
 
--- HTTP has a reason for its status, and its costs are within the cap.
+-- HTTP has a reason for its status, and its costs and what its hint says is left are within the cap.
 pub record IsWritable (r : Reply) : Type 0 where
   pub status : status_text r.status ≢ []
   pub costs : IfSome r.costs AreCosts
+  pub hint : IfSome r.hint IsHint
 
 -- ---- what is replied
 
--- a message, with no costs
-abbrev pub tells : ℕ → List ℕ → Reply
-tells status message = reply_as status None (message_body message)
+-- a message with a hint, if there is one, and with no costs
+abbrev pub tells : Option Hint → ℕ → List ℕ → Reply
+tells hint status message = record { status = status; costs = None; hint = hint; body = message_body message }
 
 -- It says that, or there was no memory to say it.
-abbrev pub Tells : ℕ → List ℕ → Reply → Type 0
-Tells status message r = (r ≡ tells status message) ⊎ (r ≡ reply_as 500 None [])
+abbrev pub Tells : Option Hint → ℕ → List ℕ → Reply → Type 0
+Tells hint status message r = (r ≡ tells hint status message) ⊎ (r ≡ reply_as 500 None [])
 
 -- there was a message to tell, or no memory for it
-abbrev pub IsTold : {E : Type 0} → Result (List ℕ) E → ℕ → Reply → Type 0
-IsTold (Ok message) status r = Tells status message r
-IsTold (Err error) status r = r ≡ reply_as 500 None []
+abbrev pub IsTold : {E : Type 0} → Option Hint → Result (List ℕ) E → ℕ → Reply → Type 0
+IsTold hint (Ok message) status r = Tells hint status message r
+IsTold hint (Err error) status r = r ≡ reply_as 500 None []
 
 -- the reply to a denial
-abbrev pub IsDenialReply : Denial → Reply → Type 0
-IsDenialReply denial r = Tells (denial_status denial) (denial_text denial) r
+abbrev pub IsDenialReply : Option Hint → Denial → Reply → Type 0
+IsDenialReply hint denial r = Tells hint (denial_status denial) (denial_text denial) r
 
 -- what a finished request is answered, with its bound and its charge
 abbrev pub finished_reply : Finished → Reply
@@ -92,4 +94,4 @@ abbrev pub IsFaultReply : FrontFault → Option Reply → Type 0
 IsFaultReply fault.End r = r ≡ None
 IsFaultReply fault.ReadFault r = r ≡ None
 IsFaultReply f None = ⊥
-IsFaultReply f (Some r) = Tells (fault_status f) (fault_message f) r
+IsFaultReply f (Some r) = Tells None (fault_status f) (fault_message f) r

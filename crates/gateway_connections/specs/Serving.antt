@@ -47,7 +47,7 @@ pub record Makes (before now : PassesView) (given back : Told) (exchanges : List
 -- One turn behind so many exchanges: an exchange more after which the connection goes on, or where it stopped.
 abbrev pub TurnsTo : Service → ℕ → ℕ → List ℕ → Bool → Option (List ℕ) → List Exchange → Option (List ℕ) → Option (List ℕ) → Option Served → Type 0
 TurnsTo s number made here ended front exchanges before after None =
-    (x : Exchange) × (rest : List ℕ) × (exchanges ≡ x ∷ []) × IsAsk here x.ask rest × (front ≡ Some rest)
+    (x : Exchange) × (rest : List ℕ) × (exchanges ≡ x ∷ []) × IsAsk s.passed here x.ask rest × (front ≡ Some rest)
     × IsExchange s made (Unit {0}) x × (closes number x ≡ false) × Appends before after (written false x.reply)
 TurnsTo s number made here ended front exchanges before after (Some served) =
     (stop : Stop) × (exchanges ≡ last_of stop) × StopsAt s number made here ended stop
@@ -76,6 +76,6 @@ pub record GoesOnAfter (s : Service) (before now : PassesView) (number : ℕ) (k
   pub counted : number ≡ length exchanges
   pub bytes : List ℕ
   pub took : Took given.left bytes back.left
-  pub asks : AsksTo bytes exchanges kept
+  pub asks : AsksTo s.passed bytes exchanges kept
   pub makes : Makes before now given back exchanges
   pub out : Appends given.written back.written (replies_from 0 exchanges)

@@ -4,9 +4,9 @@ ghost use Rattle.std.specs.Prelude.{◌≡◌, ◌≤◌, ◌≢◌, [], None, S
 ghost use Rattle.std.specs.Io.KnownBytes.{Appends};
 ghost use Rattle.outside.specs.Contents.{AppendsFront};
 ghost use Rattle.outside.specs.Faults.{Rose};
-ghost use Rattle.http_front.specs.ReplyBytes.{status_text, AreCosts};
 ghost use Rattle.cost_num.specs.Within.{Within};
 ghost use Rattle.gateway_core.specs.Rules.{greatest};
+ghost use Rattle.http_front.specs.ReplyBytes.{status_text, AreCosts, IsHint};
 ghost use Rattle.gateway_core.specs.Begins.{HasCostsWithin};
 ghost use Rattle.gateway_core.specs.Messages.{message_body, no_memory_text};
 ghost use Rattle.gateway_connections.specs.Replies.{reply_as, bytes_with, Tells, IsTold, IsWritable, IsDenialReply, finished_reply, IsFaultReply, fault_status, fault_message, written};
@@ -14,7 +14,7 @@ ghost use Rattle.gateway_connections.specs.Replies.{reply_as, bytes_with, Tells,
 use cost_num::Cost;
 use gateway_core::{Denial, Finished, denial_message, denial_status, message_body};
 use gql_base::Text;
-use http_front::{Answer, FrontFault, write_reply};
+use http_front::{Answer, FrontFault, Hint, write_reply};
 use outside::{Sink, WriteFault};
 use std::alloc::{AllocError, Global};
 use std::mem;
@@ -25,6 +25,8 @@ pub struct Reply {
     pub status: u16,
     /// The bound and the charge, in millionths, where the request was granted.
     pub costs: Option<(Cost, Cost)>,
+    /// What helps a client whose account is short.
+    pub hint: Option<Hint>,
     /// The body. It is empty where there was no memory for it, and a constant one is written then.
     pub body: Text,
 }
@@ -36,14 +38,16 @@ fn starved(alloc: Global) -> Reply
     Reply {
         status: 500,
         costs: None,
+        hint: None,
         body: Text::from(String::new(alloc)),
     }
 }
 
-// The reply of a status that tells a message, or the one that takes no memory.
-fn told(alloc: Global, status: u16, message: Result<Text, AllocError>) -> Reply
-    requires { status_text status ≢ [] }
-    ensures told { IsTold message status result }
+// The reply of a status that tells a message, with a hint if there is one; or the one that takes no memory.
+fn told(alloc: Global, status: u16, hint: Option<Hint>, message: Result<Text, AllocError>) -> Reply
+    requires status { status_text status ≢ [] }
+    requires hint { IfSome hint IsHint }
+    ensures told { IsTold hint message status result }
     ensures writable { IsWritable result }
 {
     let Ok(message) = message else {
@@ -53,19 +57,26 @@ fn told(alloc: Global, status: u16, message: Result<Text, AllocError>) -> Reply
         Ok(body) => Reply {
             status,
             costs: None,
+            hint,
             body,
         },
         Err(_) => starved(alloc),
     }
 }
 
-/// The reply to a denial.
-pub(crate) fn denial_reply(alloc: Global, denial: &Denial) -> Reply
-    requires { HasCostsWithin denial.now }
-    ensures reply { IsDenialReply denial.now result }
+/// The reply to a denial, with a hint if there is one.
+pub(crate) fn denial_reply(alloc: Global, denial: &Denial, hint: Option<Hint>) -> Reply
+    requires costs { HasCostsWithin denial.now }
+    requires hint { IfSome hint IsHint }
+    ensures reply { IsDenialReply hint denial.now result }
     ensures writable { IsWritable result }
 {
-    told(alloc, denial_status(denial), denial_message(alloc, denial))
+    told(
+        alloc,
+        denial_status(denial),
+        hint,
+        denial_message(alloc, denial),
+    )
 }
 
 /// The reply to what the gateway answers itself.
@@ -79,6 +90,7 @@ pub(crate) fn answered_reply(finished: Finished) -> Reply
     Reply {
         status: finished.status,
         costs: Some((finished.bound, finished.charged)),
+        hint: None,
         body: finished.body,
     }
 }
@@ -133,10 +145,15 @@ fn fault_message(alloc: Global, fault: FrontFault) -> Result<Text, AllocError>
 
 // The reply to a fault that is replied to.
 fn fault_told(alloc: Global, fault: FrontFault) -> Reply
-    ensures told { Tells (fault_status fault) (fault_message fault) result }
+    ensures told { Tells None (fault_status fault) (fault_message fault) result }
     ensures writable { IsWritable result }
 {
-    told(alloc, fault_status(fault), fault_message(alloc, fault))
+    told(
+        alloc,
+        fault_status(fault),
+        None,
+        fault_message(alloc, fault),
+    )
 }
 
 /// The reply to a fault of the next request, where it has one.
@@ -164,12 +181,14 @@ fn write_with<K: Sink>(
     status: u16,
     close: bool,
     costs: Option<(Cost, Cost)>,
+    hint: Option<Hint>,
     body: Vec<u8>,
 ) -> (Result<(), WriteFault>, Vec<u8>)
     requires status { status_text status ≢ [] }
     requires costs { IfSome costs AreCosts }
-    ensures whole { OnOk result.0 (Appends (K.written to.old) (K.written to.new) (bytes_with close status costs body.items)) }
-    ensures front { OnErr result.0 (AppendsFront (K.written to.old) (K.written to.new) (bytes_with close status costs body.items)) }
+    requires hint { IfSome hint IsHint }
+    ensures whole { OnOk result.0 (Appends (K.written to.old) (K.written to.new) (bytes_with close status costs hint body.items)) }
+    ensures front { OnErr result.0 (AppendsFront (K.written to.old) (K.written to.new) (bytes_with close status costs hint body.items)) }
     ensures count { K.faults to.old ≤ K.faults to.new }
     ensures still { OnOk result.0 (K.faults to.new ≡ K.faults to.old) }
     ensures cause { OnErr result.0 (Rose (K.faults to.old) (K.faults to.new)) }
@@ -179,6 +198,7 @@ fn write_with<K: Sink>(
         status,
         close,
         costs,
+        hint,
         body,
     };
     let wrote = write_reply(to, &answer);
@@ -186,6 +206,7 @@ fn write_with<K: Sink>(
         status: _,
         close: _,
         costs: _,
+        hint: _,
         body,
     } = answer;
     (wrote, body)
@@ -211,14 +232,15 @@ pub(crate) fn write<K: Sink>(
     let Reply {
         status,
         costs,
+        hint,
         body,
     } = reply;
     let body = body.into_bytes();
     if !body.is_empty() {
-        return write_with(to, status, close, costs, body).0;
+        return write_with(to, status, close, costs, hint, body).0;
     }
     let held = mem::replace(spare, Vec::new(alloc));
-    let (wrote, held) = write_with(to, status, close, costs, held);
+    let (wrote, held) = write_with(to, status, close, costs, hint, held);
     *spare = held;
     wrote
 }

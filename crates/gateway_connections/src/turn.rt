@@ -122,7 +122,7 @@ pub(crate) fn turn<R: Wait, S: Source + Drop, K: Sink + Drop, W: Wire + Drop, C:
     ensures read_still { UnlessEndsBy ending.ReadFault result (S.faults conn.new.source ≡ S.faults conn.old.source) }
     ensures write_still { UnlessEndsBy ending.WriteFault result (K.faults conn.new.sink ≡ K.faults conn.old.sink) }
 {
-    let ask = match front.next(alloc, &mut conn.source) {
+    let ask = match front.next(alloc, gate.passed(), &mut conn.source) {
         Ok(ask) => ask,
         Err(fault) => return Some(refuse(alloc, &mut conn.sink, fault, number, spare)),
     };

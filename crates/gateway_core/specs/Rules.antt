@@ -1,5 +1,5 @@
 -- By what a gate decides.
-use Rattle.std.specs.Prelude.{◌≡◌, ℕ, ◌/◌, List, Option, None}
+use Rattle.std.specs.Prelude.{◌≡◌, ℕ, ◌-◌, ◌/◌, ◌%◌, List, Option, None}
 use Rattle.trusted_documents.specs.Listings.{Listing}
 use Rattle.local_introspection.specs.declared.facts.Facts.{Facts}
 use Rattle.cost_num.specs.declared.TheConstants.{CAP}
@@ -38,6 +38,10 @@ client_of rules key = place_of_name (λ client. client.key) rules.clients key
 -- the window of a moment: its seconds divided by the length of a window, rounded down
 abbrev pub window_of : Rules → ℕ → ℕ
 window_of rules moment = moment / rules.seconds
+
+-- the seconds from a moment up to the next window
+abbrev pub seconds_left : Rules → ℕ → ℕ
+seconds_left rules moment = rules.seconds - moment % rules.seconds
 
 -- what a client may spend
 abbrev pub client_limit : Client → Limit

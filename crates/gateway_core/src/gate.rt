@@ -8,7 +8,7 @@ ghost use Rattle.cost_directives.specs.WeightViews.{weights_data};
 ghost use Rattle.account_cells.specs.Views.{after_split, split_off};
 ghost use Rattle.account_shared.specs.Views.{Belongs, IsIdle, JoinsTo, client_at, label_after_split, label_split_off, label_after_join};
 ghost use Rattle.client_files.specs.ClientFiles.{MayBeServed};
-ghost use Rattle.gateway_core.specs.Rules.{client_limit, client_of};
+ghost use Rattle.gateway_core.specs.Rules.{client_limit, client_of, seconds_left};
 ghost use Rattle.gateway_core.specs.Propositions.{weights-prop, filled-prop};
 
 use account_shared::{Accounts, Passes};
@@ -21,7 +21,7 @@ use std::alloc::{AllocError, Global};
 use std::sync::Wait;
 use trusted_documents::Trusted;
 
-/// How long windows are, and where requests are forwarded to.
+/// How long windows are, where requests are forwarded to and what of them, and what is told to clients whose account is short.
 #[derive(Debug, Drop)]
 pub struct Settings {
     /// The length of a window, in seconds.
@@ -30,6 +30,10 @@ pub struct Settings {
     pub host: Text,
     /// The target of requests to the upstream.
     pub target: Text,
+    /// The names of the fields of clients' requests that are passed on.
+    pub passed: Vec<Text>,
+    /// Whether a client whose account is short is told when it may try again.
+    pub hints: bool,
 }
 
 /// The schema with its weights, the clients, and an account for each. Beside them the list by which bodies are expanded, and what is
@@ -137,6 +141,29 @@ impl Gate {
         ensures { result.now ≡ self.now.settings.target }
     {
         self.settings.target.as_str()
+    }
+
+    /// The names of the fields of clients' requests that are passed on.
+    pub fn passed(&self) -> &[Text]
+        ensures { result.now ≡ self.now.settings.passed.items }
+    {
+        &self.settings.passed
+    }
+
+    /// Whether a client whose account is short is told when it may try again.
+    pub fn hints(&self) -> bool
+        ensures { result ≡ self.now.settings.hints }
+    {
+        self.settings.hints
+    }
+
+    /// How many seconds there are from a moment up to the next window.
+    pub fn seconds_left(&self, moment: u64) -> u64
+        ensures left { result ≡ seconds_left (rules_of self.now) moment }
+        ensures some { 0 < result }
+    {
+        let window = u64::from(self.settings.window_seconds);
+        window - moment % window
     }
 
     /// Splits passes off the first ones, for another worker. They have seen as much, and no call was made through them.

@@ -1,5 +1,5 @@
 -- What a serve command comes to.
-use Rattle.std.specs.Prelude.{◌≡◌, ◌⊎◌, ◌++◌, ℕ, List, Option, Result, Ok, Err, codes, nat_lt}
+use Rattle.std.specs.Prelude.{◌≡◌, ◌⊎◌, ◌++◌, ℕ, false, List, [], Option, Result, Ok, Err, codes, nat_lt}
 use Rattle.std.specs.Fmt.{decimal}
 use Rattle.doors.specs.Starts.{Asked, Stopped}
 use Rattle.gateway_serving.specs.Decisions.{Service, WorkDone}
@@ -32,9 +32,9 @@ doors_call faults asked running stopped before now = record {
 abbrev pub AreUntouched : DoorsCall → Type 0
 AreUntouched doors = doors.now ≡ doors.before
 
--- by what requests are decided, and where they are forwarded to
+-- by what requests are decided, and where they are forwarded to: with no field of the client's request, and with no hints
 abbrev pub service_by : AskedServe → RuleInputs → Service
-service_by asked inputs = record { rules = rules_in inputs; host = asked.upstream; target = asked.target }
+service_by asked inputs = record { rules = rules_in inputs; host = asked.upstream; target = asked.target; passed = []; hints = false }
 
 -- what the doors are started with
 pub record IsServingOf (asked : AskedServe) (serving : Serving) : Type 0 where

@@ -1,6 +1,6 @@
 //! The command `serve SCHEMA CLIENTS --listen ADDR --upstream ADDR`.
 
-ghost use Rattle.std.specs.Prelude.{◌≡◌, ◌≤◌, ◌<◌, IfOk, IfErr, length};
+ghost use Rattle.std.specs.Prelude.{◌≡◌, ◌≤◌, ◌<◌, [], false, IfOk, IfErr, length};
 ghost use Rattle.schema_model.specs.SchemaViews.{schema_data};
 ghost use Rattle.cost_directives.specs.WeightViews.{weights_data};
 ghost use Rattle.client_files.specs.ClientFiles.{MayBeServed};
@@ -26,7 +26,7 @@ use std::alloc::{AllocError, Global};
 use std::sync::Wait;
 use std::thread::Threads;
 
-// How long windows are, and where requests are forwarded to.
+// How long windows are, and where requests are forwarded to. No field of a client's request is passed on, and no hints are told.
 fn settings_of(
     alloc: Global,
     asked: &AskedServe,
@@ -35,11 +35,15 @@ fn settings_of(
     ensures window { IfOk result (λ settings. settings.window_seconds ≡ window_seconds) }
     ensures host { IfOk result (λ settings. settings.host ≡ asked.now.upstream) }
     ensures target { IfOk result (λ settings. settings.target ≡ asked.now.target) }
+    ensures passed { IfOk result (λ settings. settings.passed.items ≡ []) }
+    ensures hints { IfOk result (λ settings. settings.hints ≡ false) }
 {
     Ok(Settings {
         window_seconds,
         host: Text::copy_of(alloc, asked.upstream.as_str())?,
         target: Text::copy_of(alloc, asked.target.as_str())?,
+        passed: Vec::new(alloc),
+        hints: false,
     })
 }
 

@@ -93,10 +93,10 @@ piece_fails Q old new piece fault.ReadFault k r m = r k
 piece_fails Q old new piece fault.Memory k r m = m
 
 -- a body that ends too early
-pub lacks : (bytes more : List ℕ) (head : Head) → HeadIs bytes head → head.len ≤ length bytes
+pub lacks : (names : List (List ℕ)) (bytes more : List ℕ) (head : Head) → HeadIs names bytes head → head.len ≤ length bytes
     → length (bytes ++ more) < head.len + head.length
     → Lacks (bytes ++ more) (head.len + head.length - length (bytes ++ more))
-lacks bytes more head is inside short =
+lacks names bytes more head is inside short =
     let long : length bytes ≤ length (bytes ++ more) = grind (arith, common_steps) in record {
       head = is.of;
       wants = wants head.key head.length head.close;
@@ -105,32 +105,32 @@ lacks bytes more head is inside short =
       missing_is = omega (arith, length-drop (length (print_request is.of)) (bytes ++ more), is.len);
     }
 
-pub body_fails : (bytes more new : List ℕ) (ended : Bool) (head : Head) (f : FrontFault) → HeadIs bytes head → head.len ≤ length bytes
+pub body_fails : (names : List (List ℕ)) (bytes more new : List ℕ) (ended : Bool) (head : Head) (f : FrontFault) → HeadIs names bytes head → head.len ≤ length bytes
     → BodySays (head.len + head.length) new (Err f) (bytes ++ more) ended → HasFault (bytes ++ more) ended f
-body_fails bytes more new ended head fault.End is inside k = absurd k
-body_fails bytes more new ended head fault.BadHead is inside k = absurd k
-body_fails bytes more new ended head fault.HeadTooLarge is inside k = absurd k
-body_fails bytes more new ended head fault.NotFound is inside k = absurd k
-body_fails bytes more new ended head fault.BadMethod is inside k = absurd k
-body_fails bytes more new ended head fault.NoKey is inside k = absurd k
-body_fails bytes more new ended head fault.Coded is inside k = absurd k
-body_fails bytes more new ended head fault.BadMedia is inside k = absurd k
-body_fails bytes more new ended head fault.Chunked is inside k = absurd k
-body_fails bytes more new ended head fault.NoLength is inside k = absurd k
-body_fails bytes more new ended head fault.BadLength is inside k = absurd k
-body_fails bytes more new ended head (fault.BodyTooLarge n) is inside k = absurd k
-body_fails bytes more new ended head (fault.Truncated n) is inside k =
-    (subst (λ m. Lacks (bytes ++ more) m) (sym k.1) (lacks bytes more head is inside k.0), k.2)
-body_fails bytes more new ended head fault.ReadFault is inside k = (inr (_, lacks bytes more head is inside k.0), k.1)
-body_fails bytes more new ended head fault.Memory is inside k = tt
+body_fails names bytes more new ended head fault.End is inside k = absurd k
+body_fails names bytes more new ended head fault.BadHead is inside k = absurd k
+body_fails names bytes more new ended head fault.HeadTooLarge is inside k = absurd k
+body_fails names bytes more new ended head fault.NotFound is inside k = absurd k
+body_fails names bytes more new ended head fault.BadMethod is inside k = absurd k
+body_fails names bytes more new ended head fault.NoKey is inside k = absurd k
+body_fails names bytes more new ended head fault.Coded is inside k = absurd k
+body_fails names bytes more new ended head fault.BadMedia is inside k = absurd k
+body_fails names bytes more new ended head fault.Chunked is inside k = absurd k
+body_fails names bytes more new ended head fault.NoLength is inside k = absurd k
+body_fails names bytes more new ended head fault.BadLength is inside k = absurd k
+body_fails names bytes more new ended head (fault.BodyTooLarge n) is inside k = absurd k
+body_fails names bytes more new ended head (fault.Truncated n) is inside k =
+    (subst (λ m. Lacks (bytes ++ more) m) (sym k.1) (lacks names bytes more head is inside k.0), k.2)
+body_fails names bytes more new ended head fault.ReadFault is inside k = (inr (_, lacks names bytes more head is inside k.0), k.1)
+body_fails names bytes more new ended head fault.Memory is inside k = tt
 
 -- a whole ask
-pub asks : (bytes more new rest : List ℕ) (head : Head) (ask : Ask) → HeadIs bytes head → head.len ≤ length bytes
+pub asks : (names : List (List ℕ)) (bytes more new rest : List ℕ) (head : Head) (ask : Ask) → HeadIs names bytes head → head.len ≤ length bytes
     → head.len + head.length ≤ length (bytes ++ more) → new ≡ bytes ++ more
-    → ask.key ≡ head.key → ask.close ≡ head.close → ask.body.items ≡ take (head.len + head.length - head.len) (drop head.len new)
+    → ask.key ≡ head.key → ask.close ≡ head.close → ask.passed.items ≡ head.passed.items → ask.body.items ≡ take (head.len + head.length - head.len) (drop head.len new)
     → rest ≡ drop (head.len + head.length) new
-    → IsAsk (bytes ++ more) ask rest
-asks bytes more new rest head ask is inside enough grown key close body left =
+    → IsAsk names (bytes ++ more) ask rest
+asks names bytes more new rest head ask is inside enough grown key close passed body left =
     let cut : take (head.len + head.length - head.len) (drop head.len new) ≡ take head.length (drop (length (print_request is.of)) (bytes ++ more)) =
     rw (grown) (rw (sym is.len) (ap (λ n. take n (drop head.len (bytes ++ more))) (omega arith))) in
     let remains : drop (head.len + head.length) new ≡ drop head.length (drop (length (print_request is.of)) (bytes ++ more)) =
@@ -141,6 +141,7 @@ asks bytes more new rest head ask is inside enough grown key close body left =
       asks = (head_stays bytes more is.of is.asks.0, is.asks.1);
       key = key;
       close = close;
+      passed = passed ∙ is.passed;
       enough = omega (arith, length-drop (length (print_request is.of)) (bytes ++ more), is.len, enough);
       body = body ∙ cut;
       rest_is = left ∙ remains;

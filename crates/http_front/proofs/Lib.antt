@@ -4,3 +4,4 @@ pub mod OneAnswer
 pub mod Either
 pub mod OneFault
 pub mod Digits
+mod OneLines

@@ -1,5 +1,5 @@
 -- Bytes have one answer, whatever comes after them.
-use Rattle.std.proofs.Common.{◌≡◌, ℕ, ◌≤◌, inl, inr, List, [], ◌∷◌, ◌++◌, length, take, drop, refl, sym, ap, ◌∙◌, subst, append_assoc, arith, Bool, Result, Ok, Err}
+use Rattle.std.proofs.Common.{◌≡◌, ℕ, ◌≤◌, inl, inr, List, [], ◌∷◌, ◌++◌, map, length, take, drop, refl, sym, ap, ◌∙◌, subst, append_assoc, arith, Bool, Result, Ok, Err}
 use Rattle.std.proofs.lemmas.Grind.{common_steps}
 use Rattle.std.proofs.lemmas.List.{append-nil, take-append-le, length-append, length-take, drop-append-le}
 use Rattle.http_fields.proofs.Fronts.{take_grows}
@@ -9,6 +9,8 @@ use Rattle.http_front.specs.declared.fault.FrontFault.{FrontFault}
 use Rattle.http_front.specs.declared.fault.FrontFault.TheVariants as fault
 use Rattle.http_front.specs.declared.front.Ask.{Ask}
 use Rattle.http_front.specs.Heads.{Wants, wanted}
+use Rattle.http_front.specs.Passed.{passed_lines}
+use Rattle.httparse.specs.Spans.{name_and_value}
 use Rattle.http_front.specs.Asks.{in_room, behind, BeginsWithHead, IsPartOfHead, IsNoHead, HasTooManyFields, AsksFor, IsRefused, HasFault, Lacks, IsAsk}
 use Rattle.http_front.proofs.Fronts.{head_stays}
 
@@ -56,32 +58,33 @@ not_empty bytes h x none =
     absurd (grind (arith, common_steps))
 
 -- where there is an ask, there is no fault, but for want of memory
-pub no_fault : (bytes rest : List ℕ) (ended : Bool) (ask : Ask) (f : FrontFault) → IsAsk bytes ask rest → HasFault bytes ended f → f ≡ fault.Memory
-no_fault bytes rest ended ask fault.End a k = absurd (not_empty bytes a.head a.asks.0 k.0)
-no_fault bytes rest ended ask fault.BadHead a k = elim k [ inl b ↦ absurd (not_bad bytes a.head a.asks.0 b) | inr o ↦ absurd (not_open bytes a.head a.asks.0 o.0) ]
-no_fault bytes rest ended ask fault.HeadTooLarge a k = elim k [ inl m ↦ absurd (not_many bytes a.head a.asks.0 m) | inr o ↦ absurd (not_open bytes a.head a.asks.0 o.0) ]
-no_fault bytes rest ended ask fault.NotFound a k = absurd (not_refused bytes a.head a.wants _ a.asks k)
-no_fault bytes rest ended ask fault.BadMethod a k = absurd (not_refused bytes a.head a.wants _ a.asks k)
-no_fault bytes rest ended ask fault.NoKey a k = absurd (not_refused bytes a.head a.wants _ a.asks k)
-no_fault bytes rest ended ask fault.Coded a k = absurd (not_refused bytes a.head a.wants _ a.asks k)
-no_fault bytes rest ended ask fault.BadMedia a k = absurd (not_refused bytes a.head a.wants _ a.asks k)
-no_fault bytes rest ended ask fault.Chunked a k = absurd (not_refused bytes a.head a.wants _ a.asks k)
-no_fault bytes rest ended ask fault.NoLength a k = absurd (not_refused bytes a.head a.wants _ a.asks k)
-no_fault bytes rest ended ask fault.BadLength a k = absurd (not_refused bytes a.head a.wants _ a.asks k)
-no_fault bytes rest ended ask (fault.BodyTooLarge n) a k = absurd (not_refused bytes a.head a.wants _ a.asks k)
-no_fault bytes rest ended ask (fault.Truncated n) a k = absurd (not_short bytes a.head a.wants n a.asks a.enough k.0)
-no_fault bytes rest ended ask fault.ReadFault a k = elim k.0 [ inl o ↦ absurd (not_open bytes a.head a.asks.0 o.0) | inr l ↦ absurd (not_short bytes a.head a.wants l.0 a.asks a.enough l.1) ]
-no_fault bytes rest ended ask fault.Memory a k = refl
+pub no_fault : (names : List (List ℕ)) (bytes rest : List ℕ) (ended : Bool) (ask : Ask) (f : FrontFault) → IsAsk names bytes ask rest → HasFault bytes ended f → f ≡ fault.Memory
+no_fault names bytes rest ended ask fault.End a k = absurd (not_empty bytes a.head a.asks.0 k.0)
+no_fault names bytes rest ended ask fault.BadHead a k = elim k [ inl b ↦ absurd (not_bad bytes a.head a.asks.0 b) | inr o ↦ absurd (not_open bytes a.head a.asks.0 o.0) ]
+no_fault names bytes rest ended ask fault.HeadTooLarge a k = elim k [ inl m ↦ absurd (not_many bytes a.head a.asks.0 m) | inr o ↦ absurd (not_open bytes a.head a.asks.0 o.0) ]
+no_fault names bytes rest ended ask fault.NotFound a k = absurd (not_refused bytes a.head a.wants _ a.asks k)
+no_fault names bytes rest ended ask fault.BadMethod a k = absurd (not_refused bytes a.head a.wants _ a.asks k)
+no_fault names bytes rest ended ask fault.NoKey a k = absurd (not_refused bytes a.head a.wants _ a.asks k)
+no_fault names bytes rest ended ask fault.Coded a k = absurd (not_refused bytes a.head a.wants _ a.asks k)
+no_fault names bytes rest ended ask fault.BadMedia a k = absurd (not_refused bytes a.head a.wants _ a.asks k)
+no_fault names bytes rest ended ask fault.Chunked a k = absurd (not_refused bytes a.head a.wants _ a.asks k)
+no_fault names bytes rest ended ask fault.NoLength a k = absurd (not_refused bytes a.head a.wants _ a.asks k)
+no_fault names bytes rest ended ask fault.BadLength a k = absurd (not_refused bytes a.head a.wants _ a.asks k)
+no_fault names bytes rest ended ask (fault.BodyTooLarge n) a k = absurd (not_refused bytes a.head a.wants _ a.asks k)
+no_fault names bytes rest ended ask (fault.Truncated n) a k = absurd (not_short bytes a.head a.wants n a.asks a.enough k.0)
+no_fault names bytes rest ended ask fault.ReadFault a k = elim k.0 [ inl o ↦ absurd (not_open bytes a.head a.asks.0 o.0) | inr l ↦ absurd (not_short bytes a.head a.wants l.0 a.asks a.enough l.1) ]
+no_fault names bytes rest ended ask fault.Memory a k = refl
 
 -- two asks at the front of the same bytes are the same
-pub one_ask : (bytes rest other : List ℕ) (a b : Ask) → IsAsk bytes a rest → IsAsk bytes b other
-    → (a.key ≡ b.key) × (a.body.items ≡ b.body.items) × (a.close ≡ b.close) × (rest ≡ other)
-one_ask bytes rest other a b x y =
+pub one_ask : (names : List (List ℕ)) (bytes rest other : List ℕ) (a b : Ask) → IsAsk names bytes a rest → IsAsk names bytes b other
+    → (a.key ≡ b.key) × (a.body.items ≡ b.body.items) × (a.passed.items ≡ b.passed.items) × (a.close ≡ b.close) × (rest ≡ other)
+one_ask names bytes rest other a b x y =
     let same = wants_one bytes x.head y.head x.wants y.wants x.asks y.asks in
     let tails : behind x.head bytes ≡ behind y.head bytes = ap (λ k. behind k bytes) same.0 in
     let lengths : x.wants.length ≡ y.wants.length = ap (λ v. v.length) same.1 in (
       x.key ∙ ap (λ v. v.key) same.1 ∙ sym y.key,
       x.body ∙ (λ i. take (lengths i) (tails i)) ∙ sym y.body,
+      x.passed ∙ ap (λ h. passed_lines names (map name_and_value h.fields)) same.0 ∙ sym y.passed,
       x.close ∙ ap (λ v. v.close) same.1 ∙ sym y.close,
       x.rest_is ∙ (λ i. drop (lengths i) (tails i)) ∙ sym y.rest_is,
     )
@@ -90,8 +93,8 @@ pub head_inside : (bytes : List ℕ) (h : RequestHead) → BeginsWithHead bytes 
 head_inside bytes h x = let e : length (in_room bytes) ≡ length (print_request h ++ x.0) = ap length x.1.1 in omega (arith, e, length-append (print_request h) x.0, length-take 16384 bytes)
 
 -- the bytes after an ask don't change it
-pub ask_stays : (bytes rest more : List ℕ) (a : Ask) → IsAsk bytes a rest → IsAsk (bytes ++ more) a (rest ++ more)
-ask_stays bytes rest more a x =
+pub ask_stays : (names : List (List ℕ)) (bytes rest more : List ℕ) (a : Ask) → IsAsk names bytes a rest → IsAsk names (bytes ++ more) a (rest ++ more)
+ask_stays names bytes rest more a x =
     let tail : behind x.head (bytes ++ more) ≡ behind x.head bytes ++ more = drop-append-le (length (print_request x.head)) bytes more (head_inside bytes x.head x.asks.0) in
     let enough = x.enough in
     record {
@@ -100,6 +103,7 @@ ask_stays bytes rest more a x =
       asks = (head_stays bytes more x.head x.asks.0, x.asks.1);
       key = x.key;
       close = x.close;
+      passed = x.passed;
       enough = subst (λ l. x.wants.length ≤ length l) (sym tail) (grind (arith, common_steps));
       body = x.body ∙ sym (ap (take x.wants.length) tail ∙ take-append-le x.wants.length (behind x.head bytes) more enough);
       rest_is = ap (λ l. l ++ more) x.rest_is ∙ sym (ap (drop x.wants.length) tail ∙ drop-append-le x.wants.length (behind x.head bytes) more enough);

@@ -1,11 +1,12 @@
 -- The request at the front of bytes, or the first fault there.
-use Rattle.std.specs.Prelude.{◌≡◌, ◌≢◌, ℕ, ◌-◌, ◌≤◌, ◌<◌, ◌⊎◌, Bool, false, List, [], length, take, drop, Option, Some, None, Result, Ok, Err, IsTrue, ⊤}
+use Rattle.std.specs.Prelude.{◌≡◌, ◌≢◌, ℕ, ◌-◌, ◌≤◌, ◌<◌, ◌⊎◌, Bool, false, List, [], map, length, take, drop, Option, Some, None, Result, Ok, Err, IsTrue, ⊤}
 use Rattle.httparse.specs.Grammar.{RequestHead, print_request, ReadsRequest, HasNoRequest, NeverHasRequest, MayBecomeRequest, EndsInTarget}
-use Rattle.httparse.specs.Spans.{RequestExceeds, RequestOverflows}
+use Rattle.httparse.specs.Spans.{RequestExceeds, RequestOverflows, name_and_value}
 use Rattle.http_front.specs.declared.fault.FrontFault.{FrontFault}
 use Rattle.http_front.specs.declared.fault.FrontFault.TheVariants as fault
 use Rattle.http_front.specs.declared.front.Ask.{Ask}
 use Rattle.http_front.specs.Heads.{Wants, wanted}
+use Rattle.http_front.specs.Passed.{passed_lines}
 
 -- a head has at most 16,384 bytes
 abbrev pub in_room : List ℕ → List ℕ
@@ -39,13 +40,14 @@ AsksFor bytes head wants = BeginsWithHead bytes head × (wanted head ≡ Ok want
 abbrev pub IsRefused : List ℕ → FrontFault → Type 0
 IsRefused bytes f = (head : RequestHead) × BeginsWithHead bytes head × (wanted head ≡ Err f)
 
--- The request at the front of the bytes, and the bytes behind it.
-pub record IsAsk (bytes : List ℕ) (ask : Ask) (rest : List ℕ) : Type 0 where
+-- The request at the front of the bytes, with the lines of its fields of these names, and the bytes behind it.
+pub record IsAsk (names : List (List ℕ)) (bytes : List ℕ) (ask : Ask) (rest : List ℕ) : Type 0 where
   pub head : RequestHead
   pub wants : Wants
   pub asks : AsksFor bytes head wants
   pub key : ask.key ≡ wants.key
   pub close : ask.close ≡ wants.close
+  pub passed : ask.passed.items ≡ passed_lines names (map name_and_value head.fields)
   pub enough : wants.length ≤ length (behind head bytes)
   pub body : ask.body.items ≡ take wants.length (behind head bytes)
   pub rest_is : rest ≡ drop wants.length (behind head bytes)
@@ -111,6 +113,6 @@ AreOne bytes f g = (f ≡ g) ⊎ ((f ≡ fault.Memory) ⊎ ((g ≡ fault.Memory)
 
 -- What the bytes hold at their front is what was answered, and the front keeps the bytes behind it, or nothing
 -- after a fault.
-abbrev pub AskOf : Option (List ℕ) → Result Ask FrontFault → List ℕ → Bool → Type 0
-AskOf after (Ok ask) bytes ended = (rest : List ℕ) × (after ≡ Some rest) × IsAsk bytes ask rest
-AskOf after (Err f) bytes ended = (after ≡ None) × HasFault bytes ended f
+abbrev pub AskOf : List (List ℕ) → Option (List ℕ) → Result Ask FrontFault → List ℕ → Bool → Type 0
+AskOf names after (Ok ask) bytes ended = (rest : List ℕ) × (after ≡ Some rest) × IsAsk names bytes ask rest
+AskOf names after (Err f) bytes ended = (after ≡ None) × HasFault bytes ended f

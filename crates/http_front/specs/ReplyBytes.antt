@@ -5,6 +5,7 @@ use Rattle.cost_num.specs.declared.TheConstants.{CAP}
 use Rattle.cost_num.specs.declared.Cost.{Cost}
 use Rattle.cost_num.specs.CostText.{cost_text}
 use Rattle.http_front.specs.declared.reply.Answer.{Answer}
+use Rattle.http_front.specs.declared.reply.Hint.{Hint}
 
 -- a status with its reason; nothing for a status that no reply has
 abbrev pub status_text : ℕ → List ℕ
@@ -41,15 +42,24 @@ abbrev pub cost_fields : Option (Cost × Cost) → List ℕ
 cost_fields None = []
 cost_fields (Some costs) = codes "x-cost-bound: " ++ cost_text costs.0 ++ codes "\r\nx-cost-charged: " ++ cost_text costs.1 ++ codes "\r\n"
 
+-- the fields that say when a client may try again (RFC 9110, section 10.2.3), and what its window has left
+abbrev pub hint_fields : Option Hint → List ℕ
+hint_fields None = []
+hint_fields (Some hint) = codes "retry-after: " ++ decimal hint.seconds ++ codes "\r\nx-cost-left: " ++ cost_text hint.left ++ codes "\r\n"
+
 -- the head of a reply with a body of this length
-abbrev pub head_bytes : ℕ → Bool → Option (Cost × Cost) → ℕ → List ℕ
-head_bytes status close costs length =
+abbrev pub head_bytes : ℕ → Bool → Option (Cost × Cost) → Option Hint → ℕ → List ℕ
+head_bytes status close costs hint length =
     codes "HTTP/1.1 " ++ status_text status ++ codes "\r\ncontent-type: application/json\r\ncontent-length: " ++ decimal length
-    ++ codes "\r\nconnection: " ++ connection_text close ++ codes "\r\n" ++ status_field status ++ cost_fields costs ++ codes "\r\n"
+    ++ codes "\r\nconnection: " ++ connection_text close ++ codes "\r\n" ++ status_field status ++ cost_fields costs ++ hint_fields hint ++ codes "\r\n"
 
 -- the whole reply: its head, and its body
 abbrev pub reply_bytes : Answer → List ℕ
-reply_bytes answer = head_bytes answer.status answer.close answer.costs (length answer.body.items) ++ answer.body.items
+reply_bytes answer = head_bytes answer.status answer.close answer.costs answer.hint (length answer.body.items) ++ answer.body.items
+
+-- what is left is within the cap
+abbrev pub IsHint : Hint → Type 0
+IsHint hint = (hint.left.types ≤ CAP) × (hint.left.fields ≤ CAP)
 
 -- both costs are within the cap
 abbrev pub AreCosts : Cost × Cost → Type 0

@@ -20,6 +20,8 @@ pub struct Ask {
     /// The key of the client.
     pub key: Text,
     pub body: Vec<u8>,
+    /// The lines of the fields that are passed on.
+    pub passed: Vec<u8>,
     /// Whether the connection closes after the reply.
     pub close: bool,
 }
@@ -74,8 +76,13 @@ fn drop_front(kept: &mut Vec<u8>, count: usize)
 }
 
 /// Takes pieces until a whole head stands at the front.
-fn take_head<S: Source>(alloc: Global, kept: &mut Vec<u8>, from: &mut S) -> Result<Head, FrontFault>
-    ensures exact { Taken kept.old.items (S.left from.old) (S.left from.new) (HeadSays kept.new.items result) }
+fn take_head<S: Source>(
+    alloc: Global,
+    names: &[Text],
+    kept: &mut Vec<u8>,
+    from: &mut S,
+) -> Result<Head, FrontFault>
+    ensures exact { Taken kept.old.items (S.left from.old) (S.left from.new) (HeadSays names.now kept.new.items result) }
     ensures within { IfOk result (λ head. (head.length ≤ 262144) × (head.len ≤ length kept.new.items)) }
     ensures count { S.faults from.old ≤ S.faults from.new }
     ensures cause { result ≡ Err FrontFault.ReadFault → Rose (S.faults from.old) (S.faults from.new) }
@@ -84,7 +91,7 @@ fn take_head<S: Source>(alloc: Global, kept: &mut Vec<u8>, from: &mut S) -> Resu
     ensures met { result ≡ Err FrontFault.ReadFault → S.ended from.new ≡ S.ended from.old }
 {
     'pieces: loop {
-        match look_at(alloc, kept) {
+        match look_at(alloc, names, kept) {
             Ok(Some(head)) => return Ok(head),
             Ok(None) => {}
             Err(fault) => return Err(fault),
@@ -123,15 +130,20 @@ fn take_body<S: Source>(kept: &mut Vec<u8>, from: &mut S, total: usize) -> Resul
 }
 
 /// Takes the next request.
-fn take_ask<S: Source>(alloc: Global, kept: &mut Vec<u8>, from: &mut S) -> Result<Ask, FrontFault>
-    ensures exact { Taken kept.old.items (S.left from.old) (S.left from.new) (AskSays kept.new.items result) }
+fn take_ask<S: Source>(
+    alloc: Global,
+    names: &[Text],
+    kept: &mut Vec<u8>,
+    from: &mut S,
+) -> Result<Ask, FrontFault>
+    ensures exact { Taken kept.old.items (S.left from.old) (S.left from.new) (AskSays names.now kept.new.items result) }
     ensures count { S.faults from.old ≤ S.faults from.new }
     ensures cause { result ≡ Err FrontFault.ReadFault → Rose (S.faults from.old) (S.faults from.new) }
     ensures still { result ≢ Err FrontFault.ReadFault → S.faults from.new ≡ S.faults from.old }
     ensures on { OnOk result (S.ended from.new ≡ S.ended from.old) }
     ensures met { result ≡ Err FrontFault.ReadFault → S.ended from.new ≡ S.ended from.old }
 {
-    let head = match take_head(alloc, kept, from) {
+    let head = match take_head(alloc, names, kept, from) {
         Ok(head) => head,
         Err(fault) => return Err(fault),
     };
@@ -147,6 +159,7 @@ fn take_ask<S: Source>(alloc: Global, kept: &mut Vec<u8>, from: &mut S) -> Resul
     Ok(Ask {
         key: head.key,
         body,
+        passed: head.passed,
         close: head.close,
     })
 }
@@ -178,11 +191,16 @@ impl Front {
         })
     }
 
-    /// Takes the next request, or tells the first fault. Bytes behind the request are kept for the next
-    /// one. After a fault it answers `End`, without a read. `ReadFault` is told only where no read of this call met
+    /// Takes the next request with the lines of its fields of these names, or tells the first fault. Bytes behind the request are
+    /// kept for the next one. After a fault it answers `End`, without a read. `ReadFault` is told only where no read of this call met
     /// the end, and only with it the source's count changes.
-    pub fn next<S: Source>(&mut self, alloc: Global, from: &mut S) -> Result<Ask, FrontFault>
-        ensures exact { IfSome self.old (λ kept. Taken kept (S.left from.old) (S.left from.new) (AskOf self.new result)) }
+    pub fn next<S: Source>(
+        &mut self,
+        alloc: Global,
+        names: &[Text],
+        from: &mut S,
+    ) -> Result<Ask, FrontFault>
+        ensures exact { IfSome self.old (λ kept. Taken kept (S.left from.old) (S.left from.new) (AskOf names.now self.new result)) }
         ensures over { self.old ≡ None → (result ≡ Err FrontFault.End) × (self.new ≡ None) × (from.new ≡ from.old) }
         ensures count { S.faults from.old ≤ S.faults from.new }
         ensures cause { result ≡ Err FrontFault.ReadFault → Rose (S.faults from.old) (S.faults from.new) }
@@ -192,7 +210,7 @@ impl Front {
         if self.failed {
             return Err(FrontFault::End);
         }
-        match take_ask(alloc, &mut self.kept, from) {
+        match take_ask(alloc, names, &mut self.kept, from) {
             Ok(ask) => Ok(ask),
             Err(fault) => {
                 self.failed = true;

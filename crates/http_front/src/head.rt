@@ -1,14 +1,16 @@
 //! Heads of requests: what one asks for, and the head at the front of bytes.
 
-ghost use Rattle.std.specs.Prelude.{◌≡◌, ◌⊎◌, ◌≤◌, Some, None, Ok, Err, IfOk, IfErr, IfSome, length};
+ghost use Rattle.std.specs.Prelude.{◌≡◌, ◌⊎◌, ◌≤◌, Some, None, Ok, Err, IfOk, IfErr, IfSome, length, map};
 ghost use Rattle.httparse.specs.Grammar.{RequestHead, print_request};
-ghost use Rattle.httparse.specs.Spans.{IsRequestAt, IsRequestWithin};
+ghost use Rattle.httparse.specs.Spans.{IsRequestAt, IsRequestWithin, name_and_value};
 ghost use Rattle.http_fields.specs.Fields.{pairs_of};
 ghost use Rattle.http_front.specs.Heads.{WantedIs, wanted, wanted_by, wants};
 ghost use Rattle.http_front.specs.Asks.{in_room};
+ghost use Rattle.http_front.specs.Passed.{passed_lines};
 ghost use Rattle.http_front.specs.Service.{IsOfHead, FoundIs, LookIs};
 
 use crate::fault::FrontFault;
+use crate::passed::passed_lines;
 use crate::reading::{body_length, is_json, key, says_close};
 use gql_base::Text;
 use http_fields::Fields;
@@ -36,6 +38,8 @@ pub(crate) struct Head {
     pub(crate) key: Text,
     pub(crate) length: u64,
     pub(crate) close: bool,
+    /// The lines of the fields that are passed on.
+    pub(crate) passed: Vec<u8>,
     pub(crate) len: usize,
 }
 
@@ -90,13 +94,15 @@ fn copy_of(alloc: Global, key: &[u8]) -> Option<Text>
 /// What the head at these spans asks for.
 fn head_at(
     alloc: Global,
+    names: &[Text],
     front: &[u8],
     spans: RequestSpans,
     headers: &[HeaderSpan],
 ) -> Result<Head, FrontFault>
     requires within { IsRequestWithin front.now headers.now spans }
     ensures head { IfOk result (λ found. (head : RequestHead) → IsRequestAt front.now headers.now spans head
-        → (wanted head ≡ Ok (wants found.key found.length found.close)) × (found.len ≡ length (print_request head))) }
+        → (wanted head ≡ Ok (wants found.key found.length found.close)) × (found.passed.items ≡ passed_lines names.now (map name_and_value head.fields))
+        × (found.len ≡ length (print_request head))) }
     ensures within { IfOk result (λ found. found.length ≤ 262144) }
     ensures len { IfOk result (λ found. found.len ≤ length front.now) }
     ensures refused { IfErr result (λ f. (f ≡ FrontFault.Memory) ⊎ (IsOfHead f × ((head : RequestHead)
@@ -112,18 +118,23 @@ fn head_at(
         spans.version,
         fields,
     );
-    match found {
-        Ok(found) => match copy_of(alloc, found.key) {
-            Some(key) => Ok(Head {
-                key,
-                length: found.length,
-                close: found.close,
-                len: spans.len,
-            }),
-            None => Err(FrontFault::Memory),
-        },
-        Err(fault) => Err(fault),
-    }
+    let found = match found {
+        Ok(found) => found,
+        Err(fault) => return Err(fault),
+    };
+    let Some(key) = copy_of(alloc, found.key) else {
+        return Err(FrontFault::Memory);
+    };
+    let Ok(passed) = passed_lines(alloc, names, fields) else {
+        return Err(FrontFault::Memory);
+    };
+    Ok(Head {
+        key,
+        length: found.length,
+        close: found.close,
+        passed,
+        len: spans.len,
+    })
 }
 
 /// The bytes in which a whole head must stand.
@@ -156,14 +167,18 @@ pub(crate) fn find_head(
 }
 
 /// The head at the front of the bytes, or nothing where that takes more bytes, or the first fault.
-pub(crate) fn look_at(alloc: Global, bytes: &[u8]) -> Result<Option<Head>, FrontFault>
-    ensures exact { LookIs bytes.now result }
+pub(crate) fn look_at(
+    alloc: Global,
+    names: &[Text],
+    bytes: &[u8],
+) -> Result<Option<Head>, FrontFault>
+    ensures exact { LookIs names.now bytes.now result }
     ensures kind { ¬ (result ≡ Err FrontFault.ReadFault) }
     ensures within { IfOk result (λ found. IfSome found (λ head. (head.length ≤ 262144) × (head.len ≤ length bytes.now))) }
 {
     let mut headers = [EMPTY_HEADER_SPAN; 64];
     match find_head(bytes, &mut headers) {
-        Ok(Some(spans)) => match head_at(alloc, front_of(bytes), spans, &headers) {
+        Ok(Some(spans)) => match head_at(alloc, names, front_of(bytes), spans, &headers) {
             Ok(head) => Ok(Some(head)),
             Err(fault) => Err(fault),
         },

@@ -6,6 +6,7 @@ mod fault;
 mod front;
 mod head;
 pub mod laws;
+mod passed;
 mod reading;
 mod reply;
 pub mod sharing;
@@ -13,4 +14,5 @@ mod values;
 
 pub use fault::FrontFault;
 pub use front::{Ask, Front};
-pub use reply::{Answer, write_reply};
+pub use passed::may_be_passed;
+pub use reply::{Answer, Hint, write_reply};

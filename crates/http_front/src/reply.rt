@@ -6,10 +6,19 @@ ghost use Rattle.std.specs.Io.KnownBytes.{Appends};
 ghost use Rattle.cost_num.specs.CostText.{cost_text};
 ghost use Rattle.outside.specs.Contents.{AppendsFront};
 ghost use Rattle.outside.specs.Faults.{Rose};
-ghost use Rattle.http_front.specs.ReplyBytes.{status_text, connection_text, status_field, cost_fields, head_bytes, reply_bytes, AreCosts};
+ghost use Rattle.http_front.specs.ReplyBytes.{status_text, connection_text, status_field, cost_fields, hint_fields, head_bytes, reply_bytes, AreCosts, IsHint};
 
 use cost_num::{CAP, Cost, cost_bytes};
 use outside::{Sink, WriteFault, write_whole};
+
+/// What helps a client whose account is short.
+#[derive(Clone, Copy, Debug, PartialEq, Eq)]
+pub struct Hint {
+    /// How many seconds there are up to the next window.
+    pub seconds: u64,
+    /// What the window has left.
+    pub left: Cost,
+}
 
 /// A reply of the gateway.
 #[derive(Drop)]
@@ -19,6 +28,8 @@ pub struct Answer {
     pub close: bool,
     /// The bound and the charge, where a reservation was granted.
     pub costs: Option<(Cost, Cost)>,
+    /// What helps a client whose account is short.
+    pub hint: Option<Hint>,
     pub body: Vec<u8>,
 }
 
@@ -110,6 +121,33 @@ fn put_if_costs(into: &mut [u8; ROOM], at: usize, costs: Option<(Cost, Cost)>) -
     }
 }
 
+/// Puts the fields of a hint.
+fn put_hint(into: &mut [u8; ROOM], at: usize, hint: Hint) -> usize
+    requires room { at + 89 ≤ 4096 }
+    requires hint { IsHint hint }
+    ensures end { result ≤ at + 89 }
+    ensures written { take result into.new ≡ take at into.old ++ hint_fields (Some hint) }
+{
+    let at = put(into, at, b"retry-after: ");
+    let at = put_length(into, at, hint.seconds);
+    let at = put(into, at, b"\r\nx-cost-left: ");
+    let at = put_cost(into, at, hint.left);
+    put(into, at, b"\r\n")
+}
+
+/// Puts the fields of a hint, where there is one.
+fn put_if_hint(into: &mut [u8; ROOM], at: usize, hint: Option<Hint>) -> usize
+    requires room { at + 89 ≤ 4096 }
+    requires hint { IfSome hint IsHint }
+    ensures end { result ≤ at + 89 }
+    ensures written { take result into.new ≡ take at into.old ++ hint_fields hint }
+{
+    match hint {
+        Some(hint) => put_hint(into, at, hint),
+        None => at,
+    }
+}
+
 /// A status with its reason.
 fn status_of(status: u16) -> &'static [u8]
     ensures text { result.now ≡ status_text status }
@@ -159,11 +197,13 @@ fn put_head(
     status: u16,
     close: bool,
     costs: Option<(Cost, Cost)>,
+    hint: Option<Hint>,
     length: u64,
 ) -> usize
     requires costs { IfSome costs AreCosts }
+    requires hint { IfSome hint IsHint }
     ensures within { result ≤ 4096 }
-    ensures head { take result into.new ≡ head_bytes status close costs length }
+    ensures head { take result into.new ≡ head_bytes status close costs hint length }
 {
     let at = put(into, 0, b"HTTP/1.1 ");
     let at = put(into, at, status_of(status));
@@ -178,6 +218,7 @@ fn put_head(
     let at = put(into, at, b"\r\n");
     let at = put(into, at, field_of(status));
     let at = put_if_costs(into, at, costs);
+    let at = put_if_hint(into, at, hint);
     put(into, at, b"\r\n")
 }
 
@@ -186,6 +227,7 @@ fn put_head(
 pub fn write_reply<K: Sink>(to: &mut K, answer: &Answer) -> Result<(), WriteFault>
     requires status { status_text answer.now.status ≢ [] }
     requires costs { IfSome answer.now.costs AreCosts }
+    requires hint { IfSome answer.now.hint IsHint }
     ensures whole { OnOk result (Appends (K.written to.old) (K.written to.new) (reply_bytes answer.now)) }
     ensures count { K.faults to.old ≤ K.faults to.new }
     ensures still { OnOk result (K.faults to.new ≡ K.faults to.old) }
@@ -199,6 +241,7 @@ pub fn write_reply<K: Sink>(to: &mut K, answer: &Answer) -> Result<(), WriteFaul
         answer.status,
         answer.close,
         answer.costs,
+        answer.hint,
         body.len() as u64,
     );
     if body.len() <= ROOM - head {

@@ -64,14 +64,14 @@ fn replies_come_in_any_pieces(rt: HostRuntime) -> Result<(), Fail> {
     for (reply, body) in READ {
         for ahead in 0..reply.len() + 1 {
             let mut wire = cut_wire(alloc, reply, ahead)?;
-            let found = ask(alloc, &mut wire, "api:4000", "/graphql", b"{}")?;
+            let found = ask(alloc, &mut wire, "api:4000", "/graphql", b"", b"{}")?;
             assert!(rt; found.body.as_slice() == body.as_bytes());
         }
     }
     for (reply, fault) in REFUSED {
         for ahead in 0..reply.len() + 1 {
             let mut wire = cut_wire(alloc, reply, ahead)?;
-            let found = ask(alloc, &mut wire, "api:4000", "/graphql", b"{}");
+            let found = ask(alloc, &mut wire, "api:4000", "/graphql", b"", b"{}");
             assert!(rt; found.err() == Some(*fault));
         }
     }

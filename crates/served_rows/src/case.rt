@@ -137,6 +137,10 @@ pub(crate) struct Case<'a> {
     pub(crate) trusted_only: bool,
     /// Whether the gate knows its schema.
     pub(crate) knows_schema: bool,
+    /// The names of the fields that are passed on, with commas between them.
+    pub(crate) passed: &'a str,
+    /// Whether hints are told.
+    pub(crate) hints: bool,
     pub(crate) doors: Vec<PlannedDoor<'a>>,
     /// How many bytes the reply has for which two connections wait.
     pub(crate) bytes: usize,

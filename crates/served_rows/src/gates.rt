@@ -22,7 +22,7 @@ use schema_reader::read_schema_text;
 use std::alloc::Global;
 use trusted_documents::read_trusted;
 
-/// The texts of a schema file and of a client file, and of a list of trusted documents, if there is one.
+/// The texts of a schema file and of a client file, and of a list of trusted documents, if there is one; and what the settings say.
 #[derive(Clone, Copy)]
 pub(crate) struct Rules<'a> {
     pub(crate) schema: &'a str,
@@ -32,6 +32,10 @@ pub(crate) struct Rules<'a> {
     pub(crate) trusted_only: bool,
     /// Whether the gate knows its schema.
     pub(crate) knows_schema: bool,
+    /// The names of the fields that are passed on, with commas between them.
+    pub(crate) passed: &'a str,
+    /// Whether hints are told.
+    pub(crate) hints: bool,
 }
 
 /// The size of lists that declare none.
@@ -67,14 +71,27 @@ fn clients_in(alloc: Global, text: &str) -> Result<Clients, RowFault>
     }
 }
 
+// The names between commas; none in the empty text.
+fn names_in(alloc: Global, text: &str) -> Result<Vec<Text>, RowFault> {
+    let mut names = Vec::new(alloc);
+    for name in text.split(',') {
+        if !name.is_empty() {
+            names.push(Text::copy_of(alloc, name)?)?;
+        }
+    }
+    Ok(names)
+}
+
 // Windows of this length, and an upstream of some name.
-fn settings_of(alloc: Global, window_seconds: u32) -> Result<Settings, RowFault>
+fn settings_of(alloc: Global, window_seconds: u32, rules: Rules<'_>) -> Result<Settings, RowFault>
     ensures { IfOk result (λ settings. settings.window_seconds ≡ window_seconds) }
 {
     Ok(Settings {
         window_seconds,
         host: Text::copy_of(alloc, "up:1")?,
         target: Text::copy_of(alloc, "/graphql")?,
+        passed: names_in(alloc, rules.passed)?,
+        hints: rules.hints,
     })
 }
 
@@ -121,7 +138,7 @@ pub(crate) fn gate_of(alloc: Global, rules: Rules<'_>) -> Result<(Gate, Passes),
         window_seconds,
         clients,
     } = clients_in(alloc, rules.clients)?;
-    let settings = settings_of(alloc, window_seconds)?;
+    let settings = settings_of(alloc, window_seconds, rules)?;
     let (gate, passes) = Gate::make(alloc, schema, weights, clients, settings)?;
     let gate = with_list(alloc, gate, rules)?;
     Ok((with_schema(alloc, gate, rules)?, passes))

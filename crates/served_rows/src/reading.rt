@@ -111,6 +111,8 @@ fn read_word<'a>(
         "trusted" => to.trusted = Some(texts.find(value)?),
         "trusted_only" => to.trusted_only = true,
         "knows_schema" => to.knows_schema = true,
+        "passes" => to.passed = texts.find(value)?,
+        "hints" => to.hints = true,
         "bytes" => to.bytes = number_in(value)? as usize,
         "door" => to.doors.push(door_of(alloc))?,
         _ => {
@@ -139,6 +141,8 @@ pub(crate) fn read_case<'a>(
         trusted,
         trusted_only: false,
         knows_schema: false,
+        passed: "",
+        hints: false,
         doors: Vec::new(alloc),
         bytes: 0,
     };

@@ -25,6 +25,8 @@ fn run<R: Threads + Wait + Sync>(
         trusted: case.trusted,
         trusted_only: case.trusted_only,
         knows_schema: case.knows_schema,
+        passed: case.passed,
+        hints: case.hints,
     };
     let Some(door) = case.doors.first() else {
         return Err(RowFault::Wrong("no door was begun"));

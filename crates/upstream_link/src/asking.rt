@@ -39,7 +39,7 @@ fn exchange<W: Wire>(
     }
 }
 
-/// Dials, sends a request with this body, receives its reply, and hangs up.
+/// Dials, sends a request with the lines of further fields and this body, receives its reply, and hangs up.
 ///
 /// The room for the request is taken before the dial, so that want of memory there leaves the wire as it
 /// was. Where head and body of the request have at most 4,096 bytes, they go out in one write. After a reply
@@ -50,10 +50,11 @@ pub fn ask<W: Wire>(
     wire: &mut W,
     host: &str,
     target: &str,
+    lines: &[u8],
     body: &[u8],
 ) -> Result<UpstreamReply, LinkFault>
     ensures exact { (dials : List Dial) × LoggedBy (W.dial_faults wire.new) (W.log wire.old) dials (W.log wire.new)
-        × CameTo (wire.new ≡ wire.old) (request_bytes host.now target.now body.now) result dials }
+        × CameTo (wire.new ≡ wire.old) (request_bytes host.now target.now lines.now body.now) result dials }
     ensures hung_up { (W.dialled wire.new ≡ false) ⊎ (wire.new ≡ wire.old) }
     ensures dial_count { W.dial_faults wire.old ≤ W.dial_faults wire.new }
     ensures down { result ≡ Err LinkFault.Down → Rose (W.dial_faults wire.old) (W.dial_faults wire.new) }
@@ -62,7 +63,7 @@ pub fn ask<W: Wire>(
     ensures failed { result ≡ Err LinkFault.Failed → Rose (W.faults wire.old) (W.faults wire.new) }
     ensures still { result ≢ Err LinkFault.Failed → W.faults wire.new ≡ W.faults wire.old }
 {
-    let request = match request_of(alloc, host, target, body) {
+    let request = match request_of(alloc, host, target, lines, body) {
         Ok(request) => request,
         Err(_) => return Err(LinkFault::Memory),
     };

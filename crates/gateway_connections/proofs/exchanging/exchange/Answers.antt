@@ -1,4 +1,4 @@
-use Rattle.std.proofs.Common.{◌∷◌, [], inl, inr, refl, subst, arith, Some, None}
+use Rattle.std.proofs.Common.{◌≡◌, ◌∷◌, [], inl, inr, refl, subst, arith, Some, None}
 use Rattle.account_core.specs.Machine.{reservation, granted}
 use Rattle.account_shared.specs.Gains.{client_call}
 use Rattle.account_shared.proofs.Idle.{idle_past_ticket}
@@ -10,7 +10,10 @@ use Rattle.gateway_core.specs.Rules.{window_of}
 use Rattle.gateway_core.specs.Gates.{rules_of}
 use Rattle.gateway_core.specs.Begins.{IsDenied, IsGranted, IsAnswered, calls_begun, calls_answered}
 use Rattle.gateway_core.specs.Finishes.{settling}
-use Rattle.gateway_connections.specs.Exchanges.{outcome_of}
+use Rattle.upstream_link.specs.Exchanges.{CameTo}
+use Rattle.upstream_link.specs.RequestBytes.{request_bytes}
+use Rattle.gateway_connections.specs.Replies.{IsDenialReply}
+use Rattle.gateway_connections.specs.Exchanges.{outcome_of, service_of, hint_of}
 use Rattle.gateway_connections.proofs.OneExchange.{denied_idle, answered_idle}
 use Rattle.gateway_connections.proofs.exchanging.exchange.Goals as goal
 
@@ -43,7 +46,7 @@ returns-in-Granted-clause-replied g c =
           is_granted = subst (λ key. IsGranted rules key c.args.ask.now.body.items begun.0 c.args.passes.now.made c.in-Granted.grant) c.as_str.ensures
               (subst (λ body. IsGranted rules c.as_str.result.now body begun.0 c.args.passes.now.made c.in-Granted.grant) c.deref.ensures.value begun.1);
           asked = f.asked;
-          came_to = f.came_to;
+          came_to = subst (λ lines. CameTo (c.forward.new.wire ≡ c.args.wire.now) (request_bytes c.args.gate.now.settings.host c.args.gate.now.settings.target lines c.in-Granted.grant.forward) f.asked f.dials) c.deref-in-Granted.ensures.value f.came_to;
           outcome = refl;
           finished = f.finished;
           is_finished = f.is_finished;
@@ -82,7 +85,7 @@ returns-in-Denied-clause-replied g c =
           outcome = refl;
           dials = refl;
           untouched = refl;
-          reply = c.denial_reply.ensures.reply;
+          reply = subst (λ hint. IsDenialReply hint c.in-Denied.denial c.denial_reply.result) {y = hint_of (service_of c.args.gate.now) c.args.moment c.in-Denied.denial} c.hint_of.ensures.hint c.denial_reply.ensures.reply;
         };
         gains = begun.2;
         logged = inl (logged_none (g.W.Wire.log c.args.wire.now));

@@ -1,4 +1,4 @@
-use Rattle.std.proofs.Common.{◌++◌, ◌∷◌, [], refl, sym, subst}
+use Rattle.std.proofs.Common.{◌++◌, ◌∷◌, [], refl, sym, subst, List, ℕ}
 use Rattle.http_front.specs.Asks.{IsAsk}
 use Rattle.http_front.specs.declared.front.Ask.{Ask}
 use Rattle.gateway_connections.specs.declared.ending.ConnectionEnd.TheVariants as ending
@@ -36,7 +36,7 @@ returns-clause-turns g c =
       makes = made_one c.args.passes.now c.exchange-reply.new.passes _ _ x c.seconds-moment.result r.exchanges.gains r.at c.seconds-moment.ensures.tick r.exchanges.logged r.exchanges.downs r.exchanges.failures;
       turned = turned_by (service_of c.args.gate.now) c.args.number c.args.passes.now.made (kept ++ t.bytes) t.says.0 t.ended c.next.new.self x
           (g.K.Sink.written c.args.conn.now.sink) (g.K.Sink.written c.answer.new.to) c.answer.result
-          (subst (λ (a : Ask). IsAsk (kept ++ t.bytes) a t.says.0) (sym r.asked) t.says.2) t.says.1
+          (subst (λ (n : List (List ℕ)). IsAsk n (kept ++ t.bytes) x.ask t.says.0) c.passed.ensures (subst (λ (a : Ask). IsAsk c.passed.result.now (kept ++ t.bytes) a t.says.0) (sym r.asked) t.says.2)) t.says.1
           (exchange_anyhow (service_of c.args.gate.now) c.args.passes.now.made _ x r.exchanges.is_exchange)
           (answers_exchange x c.in-Ok.ask c.exchange-reply.result c.args.number (g.K.Sink.written c.args.conn.now.sink) (g.K.Sink.written c.answer.new.to) c.answer.result r.asked r.replied c.answer.ensures.answers);
     }) c.in-Ok.ensures.exact

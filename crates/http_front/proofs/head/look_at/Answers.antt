@@ -9,7 +9,7 @@ pub returns-in-Ok-clause-exact : goal.returns-in-Ok-clause-exact
 returns-in-Ok-clause-exact c =
     let found = found_at c.args.bytes.now c.find_head.new.headers c.in-Ok-Some.field-0 c.in-Ok-Some.spans c.in-Ok-Some.field-0-is c.in-Ok-Some.ensures in
     let says = c.in-Ok.ensures.head found.head (subst (λ room. IsRequestAt room c.find_head.new.headers c.in-Ok-Some.spans found.head) (sym c.front_of.ensures) found.at) in
-    record { of = found.head; asks = (found.begins, says.0); len = says.1 }
+    record { of = found.head; asks = (found.begins, says.0); passed = says.1; len = says.2 }
 
 pub returns-in-Ok-clause-within : goal.returns-in-Ok-clause-within
 returns-in-Ok-clause-within c = (c.in-Ok.ensures.within, omega (arith, c.in-Ok.ensures.len, ap length c.front_of.ensures, length-take 16384 c.args.bytes.now))

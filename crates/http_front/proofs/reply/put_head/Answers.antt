@@ -1,9 +1,9 @@
--- Ten pieces.
+-- Eleven pieces.
 use Rattle.std.proofs.Common.{◌++◌, ap, ◌∙◌, take}
 use Rattle.std.specs.Prelude.{codes}
 use Rattle.std.specs.Fmt.{decimal}
 use Rattle.cost_num.proofs.Digits.{written_twice}
-use Rattle.http_front.specs.ReplyBytes.{status_text, connection_text, status_field, cost_fields}
+use Rattle.http_front.specs.ReplyBytes.{status_text, connection_text, status_field, cost_fields, hint_fields}
 use Rattle.http_front.proofs.reply.put_head.Goals as goal
 
 pub returns-clause-head : goal.returns-clause-head
@@ -20,7 +20,8 @@ returns-clause-head c =
     let piece7 = codes "\r\n" in
     let piece8 = status_field c.args.status in
     let piece9 = cost_fields c.args.costs in
-    let piece10 = codes "\r\n" in
+    let piece10 = hint_fields c.args.hint in
+    let piece11 = codes "\r\n" in
     let after0 = take 0 c.args.into.now in
     let after1 = take c.put-at.result c.put-at.new.into in
     let after2 = take c.put-at-2.result c.put-at-2.new.into in
@@ -31,7 +32,8 @@ returns-clause-head c =
     let after7 = take c.put-at-6.result c.put-at-6.new.into in
     let after8 = take c.put-at-7.result c.put-at-7.new.into in
     let after9 = take c.put_if_costs-at.result c.put_if_costs-at.new.into in
-    let after10 = take c.put.result c.put.new.into in
+    let after10 = take c.put_if_hint-at.result c.put_if_hint-at.new.into in
+    let after11 = take c.put.result c.put.new.into in
     let to2 = written_twice after0 after1 after2 (piece1) piece2 status c.put-at.ensures.written in
     let to3 = written_twice after0 after2 after3 (piece1 ++ piece2) piece3 c.put-at-3.ensures.written to2 in
     let to4 = written_twice after0 after3 after4 (piece1 ++ piece2 ++ piece3) piece4 c.put_length-at.ensures.written to3 in
@@ -40,4 +42,5 @@ returns-clause-head c =
     let to7 = written_twice after0 after6 after7 (piece1 ++ piece2 ++ piece3 ++ piece4 ++ piece5 ++ piece6) piece7 c.put-at-6.ensures.written to6 in
     let to8 = written_twice after0 after7 after8 (piece1 ++ piece2 ++ piece3 ++ piece4 ++ piece5 ++ piece6 ++ piece7) piece8 field to7 in
     let to9 = written_twice after0 after8 after9 (piece1 ++ piece2 ++ piece3 ++ piece4 ++ piece5 ++ piece6 ++ piece7 ++ piece8) piece9 c.put_if_costs-at.ensures.written to8 in
-    written_twice after0 after9 after10 (piece1 ++ piece2 ++ piece3 ++ piece4 ++ piece5 ++ piece6 ++ piece7 ++ piece8 ++ piece9) piece10 c.put.ensures.written to9
+    let to10 = written_twice after0 after9 after10 (piece1 ++ piece2 ++ piece3 ++ piece4 ++ piece5 ++ piece6 ++ piece7 ++ piece8 ++ piece9) piece10 c.put_if_hint-at.ensures.written to9 in
+    written_twice after0 after10 after11 (piece1 ++ piece2 ++ piece3 ++ piece4 ++ piece5 ++ piece6 ++ piece7 ++ piece8 ++ piece9 ++ piece10) piece11 c.put.ensures.written to10

@@ -13,8 +13,8 @@ returns-in-Err-clause-front g c =
     let old = g.K.Sink.written c.args.to.now in
     let now = g.K.Sink.written c.write_whole-2.new.to in
     let body = c.as_slice-body.result.now in
-    subst (λ l. AppendsFront old now (head_bytes a.status a.close a.costs (length l) ++ l)) c.as_slice-body.ensures.value
-    (front_more old now (head_bytes a.status a.close a.costs (length body)) body
+    subst (λ l. AppendsFront old now (head_bytes a.status a.close a.costs a.hint (length l) ++ l)) c.as_slice-body.ensures.value
+    (front_more old now (head_bytes a.status a.close a.costs a.hint (length body)) body
     (subst (AppendsFront old now) c.put_head-head.ensures.head c.in-Err.ensures.front))
 
 pub returns-in-Ok-write_whole-clause-whole : goal.returns-in-Ok-write_whole-clause-whole
@@ -24,8 +24,8 @@ returns-in-Ok-write_whole-clause-whole g c =
     let now = g.K.Sink.written c.write_whole-2.new.to in
     let new = g.K.Sink.written c.write_whole-3.new.to in
     let body = c.as_slice-body.result.now in
-    subst (λ l. Appends old new (head_bytes a.status a.close a.costs (length l) ++ l)) c.as_slice-body.ensures.value
-    (Appends-trans old now new (head_bytes a.status a.close a.costs (length body)) body
+    subst (λ l. Appends old new (head_bytes a.status a.close a.costs a.hint (length l) ++ l)) c.as_slice-body.ensures.value
+    (Appends-trans old now new (head_bytes a.status a.close a.costs a.hint (length body)) body
     (subst (Appends old now) c.put_head-head.ensures.head c.in-Ok.ensures.whole) c.in-Ok-write_whole.ensures.whole)
 
 pub returns-in-Err-write_whole-clause-front : goal.returns-in-Err-write_whole-clause-front
@@ -35,6 +35,6 @@ returns-in-Err-write_whole-clause-front g c =
     let now = g.K.Sink.written c.write_whole-2.new.to in
     let new = g.K.Sink.written c.write_whole-3.new.to in
     let body = c.as_slice-body.result.now in
-    subst (λ l. AppendsFront old new (head_bytes a.status a.close a.costs (length l) ++ l)) c.as_slice-body.ensures.value
-    (front_then old now new (head_bytes a.status a.close a.costs (length body)) body
+    subst (λ l. AppendsFront old new (head_bytes a.status a.close a.costs a.hint (length l) ++ l)) c.as_slice-body.ensures.value
+    (front_then old now new (head_bytes a.status a.close a.costs a.hint (length body)) body
     (subst (Appends old now) c.put_head-head.ensures.head c.in-Ok.ensures.whole) c.in-Err-write_whole.ensures.front)
