@@ -397,7 +397,7 @@ fn shared<T: Send + Sync>() {}
 fn sent<T: Send>() {}
 
 /// Threads may share the accounts, and a thread may be sent its passes.
-pub fn crosses_threads() {
+pub fn accounts_are_shared() {
     shared::<Accounts>();
     sent::<Passes>();
 }

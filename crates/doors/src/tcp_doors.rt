@@ -1,6 +1,6 @@
 //! Doors over TCP, started and stopped together.
 
-ghost use Rattle.std.specs.Prelude.{◌≡◌, ◌+◌, ◌≤◌, ◌++◌, [], All, IfOk, None, false, is_some, length, map, option_map, vec_len, vec_capacity};
+ghost use Rattle.std.specs.Prelude.{◌≡◌, ◌+◌, ◌≤◌, ◌++◌, [], All, IfOk, None, Some, false, is_some, length, map, option_map, vec_len, vec_capacity};
 ghost use Rattle.doors.specs.Starts.{members, connections_of, stopped_by};
 ghost use Rattle.doors.specs.Kept.{asked_by, told_stopped};
 
@@ -49,6 +49,7 @@ impl<
         ensures running { result.running ≡ 0 }
         ensures stopped { result.stopped.items ≡ [] }
         ensures faults { result.faults ≡ 0 }
+        ensures plain { (result.waiting ≡ None) × (result.stop_file ≡ None) }
     {
         TcpDoors {
             rt,
@@ -65,6 +66,8 @@ impl<
     /// From the next start on clients take turns, and so many may wait between them. A connection of a door is then a
     /// turn: it ends where a reply was written and no further request has come.
     pub fn let_wait(&mut self, clients: u32)
+        ensures waiting { self.new.waiting ≡ Some clients }
+        ensures stop_file { self.new.stop_file ≡ self.old.stop_file }
         ensures rest { (self.new.asked ≡ self.old.asked) × (self.new.running ≡ self.old.running)
             × (self.new.stopped ≡ self.old.stopped) × (self.new.faults ≡ self.old.faults) }
     {
@@ -74,6 +77,8 @@ impl<
     /// From the next start on a file of this name asks for the end, once it is there: then each door fails, and gives no
     /// further connection.
     pub fn stop_at(&mut self, file: String)
+        ensures stop_file { self.new.stop_file ≡ Some file }
+        ensures waiting { self.new.waiting ≡ self.old.waiting }
         ensures rest { (self.new.asked ≡ self.old.asked) × (self.new.running ≡ self.old.running)
             × (self.new.stopped ≡ self.old.stopped) × (self.new.faults ≡ self.old.faults) }
     {
