@@ -70,7 +70,7 @@ none_attaining part e most greatest pick i xs none = ap (λ (ys : List TypeId). 
 
 -- ---- a row that is taken
 
-put_same : (xs : List ℕ) (table : ℕ → ℕ) (d n : ℕ) → length xs ≡ 52 → d < 52 → ((e : ℕ) → e < 52 → get_or xs e 0 ≡ table e) → (e : ℕ) → e < 52 → get_or (set xs d n) e 0 ≡ put_at d n table e
+pub put_same : (xs : List ℕ) (table : ℕ → ℕ) (d n : ℕ) → length xs ≡ 52 → d < 52 → ((e : ℕ) → e < 52 → get_or xs e 0 ≡ table e) → (e : ℕ) → e < 52 → get_or (set xs d n) e 0 ≡ put_at d n table e
 put_same xs table d n long within all e deep = ⊎_elim
     (λ (same : eqb e d ≡ true). get_or-set_at xs d e n 0 (eqb-true e d same) (let l = long in omega arith) ∙ ap (λ (b : Bool). cond b n (table e)) (sym same))
     (λ (differ : eqb e d ≡ false). get_or-set_other xs d e n 0 (apart differ) ∙ all e deep ∙ ap (λ (b : Bool). cond b n (table e)) (sym differ))

@@ -96,8 +96,13 @@ impl Picks {
     }
 }
 
-/// The type of the objects below each node, in the order of the rows; it means nothing at leaves.
-pub(crate) fn choices(alloc: Global, of: &Plan, part: Part) -> Result<Vec<usize>, AllocError>
+/// The type of the objects that the filled response has below each node, in the order of the rows; it means nothing at leaves,
+/// and below lists without items.
+///
+/// # Errors
+///
+/// `AllocError` where there was not enough memory.
+pub fn chosen_types(alloc: Global, of: &Plan, part: Part) -> Result<Vec<usize>, AllocError>
     ensures { IfOk result (λ found. found.items ≡ choices (part_of part) (table_rows of.now)) }
 {
     let rows = of.node_rows();

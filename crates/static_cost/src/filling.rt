@@ -16,7 +16,7 @@ ghost use Rattle.static_cost.specs.declared.filling.WorstFault.TheVariants.{TooL
 ghost use Rattle.response_model.specs.Components.{part_of};
 ghost use Rattle.static_cost.specs.Filling.{FillsObject, Fills, entries_from_row, items_of, made_entries, item_of, list_value, value_of};
 
-use crate::choices::choices;
+use crate::choices::chosen_types;
 use crate::leaves::{fill_leaf, text_value};
 use gql_base::Text;
 use input_values::TypeId;
@@ -331,7 +331,7 @@ pub fn worst(alloc: Global, of: &Plan, part: Part) -> Result<Tree, WorstFault>
     ensures floatless { IfOk result (λ tree. IsFloatless (tree_of tree)) }
     ensures too_large { IsErrOf result TooLarge → IsTooLarge of.now (part_of part) }
 {
-    let choices = choices(alloc, of, part)?;
+    let choices = chosen_types(alloc, of, part)?;
     let mut left = VALUE_LIMIT - 1;
     let on = of.root().number;
     match fill_entries(alloc, of, &choices, 0, 1, on, &mut left) {

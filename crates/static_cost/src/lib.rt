@@ -12,7 +12,8 @@ mod leaves;
 mod too_costly;
 mod totals;
 
+pub use choices::chosen_types;
 pub use filling::{VALUE_LIMIT, WorstFault, worst};
 pub use response_model::Part;
 pub use too_costly::TooCostly;
-pub use totals::bound;
+pub use totals::{bound, entry_cost, value_cost, values_cost};

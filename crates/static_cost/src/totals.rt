@@ -42,7 +42,7 @@ fn sum_capped(a: u64, b: u64) -> u64
 }
 
 /// What a value of a type of this weight adds to the part.
-pub(crate) fn value_cost(part: Part, weight: u64) -> u64
+pub fn value_cost(part: Part, weight: u64) -> u64
     ensures { result ≡ value_cost (part_of part) weight }
 {
     match part {
@@ -51,8 +51,8 @@ pub(crate) fn value_cost(part: Part, weight: u64) -> u64
     }
 }
 
-/// What an entry adds to the part.
-fn entry_cost(of: &Plan, part: Part, row: &NodeRow) -> u64
+/// What an entry adds to the part, or `CAP + 1` where that exceeds `CAP`.
+pub fn entry_cost(of: &Plan, part: Part, row: &NodeRow) -> u64
     ensures { result ≡ capped (entry_cost (part_of part) (row_in of.now row.now).selected) }
 {
     match part {
@@ -93,8 +93,8 @@ fn greatest_below(of: &Plan, part: Part, row: &NodeRow, greatest: u64) -> u64
     }
 }
 
-/// What the values of an entry cost at most, where each costs at most `each`.
-fn values_cost(of: &Plan, row: &NodeRow, each: u64) -> u64
+/// What the values of an entry cost at most, where each costs at most `each`, or `CAP + 1` where that exceeds `CAP`.
+pub fn values_cost(of: &Plan, row: &NodeRow, each: u64) -> u64
     ensures { result ≡ capped (greatest_in (row_in of.now row.now).selected.form (row_in of.now row.now).selected.size each) }
 {
     if !of.is_list(row) {

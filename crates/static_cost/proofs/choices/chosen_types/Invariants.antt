@@ -3,7 +3,7 @@ use Rattle.plan_table.specs.Tables.{table_rows}
 use Rattle.response_model.specs.Components.{part_of}
 use Rattle.static_cost.specs.Choices.{choices}
 use Rattle.static_cost.specs.Picking.{HoldsPicks}
-use Rattle.static_cost.proofs.choices.choices.Given as goal
+use Rattle.static_cost.proofs.choices.chosen_types.Given as goal
 
 -- What was found is the choices of the rows that were taken, the last first.
 abbrev pub invariant-loop-at : goal.invariant-loop-at

@@ -2,7 +2,7 @@ use Rattle.std.proofs.Common.{rules, drop}
 use Rattle.plan_table.specs.Tables.{table_rows}
 use Rattle.response_model.specs.Components.{part_of}
 use Rattle.static_cost.proofs.Picks.{first_choices, next_choices}
-use Rattle.static_cost.proofs.choices.choices.Goals as goal
+use Rattle.static_cost.proofs.choices.chosen_types.Goals as goal
 
 pub loop-at-init : goal.loop-at-init
 loop-at-init c = first_choices (part_of c.args.part) c.args.of.now c.node_rows-rows.result.now c.new-picks.result c.new-found.result.items c.node_rows-rows.ensures c.new-picks.ensures c.new-found.ensures.items

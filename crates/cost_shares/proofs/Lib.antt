@@ -1,0 +1,5 @@
+pub mod AddedUp
+pub mod NodeOrder
+pub mod RowShares
+pub mod RootShares
+pub mod FoundShares

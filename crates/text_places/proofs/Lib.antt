@@ -1,0 +1,3 @@
+pub mod LinesOfText
+pub mod Walking
+pub mod LineBorders
