@@ -11,7 +11,7 @@ ghost use Rattle.cost_directives.specs.WeightViews.{input_weight, type_inputs, m
 
 use crate::entries::{InputWeight, TypeWeight};
 use cost_num::{CAP, UNIT};
-use gql_base::Indexed;
+use gql_base::Hashed;
 use input_values::{Coerced, CoercedField, Shape, ShapeLevel, TypeId, shape_level};
 use schema_model::Arg;
 
@@ -112,7 +112,7 @@ fn record_cost(
 }
 
 #[cycle(costs)]
-fn fields_cost(types: &[TypeWeight], inputs: &Indexed<InputWeight>, fields: &[CoercedField]) -> u64
+fn fields_cost(types: &[TypeWeight], inputs: &Hashed<InputWeight>, fields: &[CoercedField]) -> u64
     ensures { result ≡ capped (fields_cost (map type_inputs types.now) (map input_weight inputs.now.items.items) (named_trees_from (map named_tree fields.now))) }
 {
     let mut sum: u64 = 0;
@@ -122,14 +122,14 @@ fn fields_cost(types: &[TypeWeight], inputs: &Indexed<InputWeight>, fields: &[Co
     sum
 }
 
-fn input_named<'a>(inputs: &'a Indexed<InputWeight>, name: &str) -> Option<&'a InputWeight>
+fn input_named<'a>(inputs: &'a Hashed<InputWeight>, name: &str) -> Option<&'a InputWeight>
     ensures { maybe_input result ≡ first_of_name weighed_name (map input_weight inputs.now.items.items) name.now }
 {
     inputs.first_named(name)
 }
 
 #[cycle(costs)]
-fn field_cost(types: &[TypeWeight], inputs: &Indexed<InputWeight>, field: &CoercedField) -> u64
+fn field_cost(types: &[TypeWeight], inputs: &Hashed<InputWeight>, field: &CoercedField) -> u64
     ensures { result ≡ capped (field_cost (map type_inputs types.now) (map input_weight inputs.now.items.items) (named_tree field.now)) }
 {
     match input_named(inputs, field.name.as_str()) {

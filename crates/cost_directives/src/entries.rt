@@ -1,6 +1,6 @@
 //! What is kept of the weights and sizes of a schema.
 
-use gql_base::{Indexed, Named, Text};
+use gql_base::{Hashed, Named, Text};
 use input_values::Shape;
 
 /// An argument, or a field of an input object.
@@ -28,7 +28,7 @@ pub struct TypeWeight {
     /// Whether it is an input object type.
     pub is_object: bool,
     /// The fields of an input object type.
-    pub inputs: Indexed<InputWeight>,
+    pub inputs: Hashed<InputWeight>,
 }
 
 /// What the size of a field is found by.

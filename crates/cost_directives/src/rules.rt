@@ -15,7 +15,7 @@ use crate::arguments::places_of;
 use crate::entries::{FieldWeight, InputWeight, SizeRule, TypeWeight};
 use crate::readings::weight_in;
 use cost_num::UNIT;
-use gql_base::{Text, index_owned};
+use gql_base::{Text, hashed_by_name};
 use input_values::{InputDef, Shape, ShapeLevel, TypeId, copy_shape, shape_level};
 use schema_model::{FieldId, Kind, ListSize, Schema};
 use std::alloc::{AllocError, Global};
@@ -207,6 +207,6 @@ pub fn type_weight_of(alloc: Global, schema: &Schema, of: TypeId) -> Result<Type
     Ok(TypeWeight {
         weight: weight_of_type(schema, of),
         is_object,
-        inputs: index_owned(alloc, input_weights_of(alloc, schema.input_fields(of))?)?,
+        inputs: hashed_by_name(alloc, input_weights_of(alloc, schema.input_fields(of))?)?,
     })
 }

@@ -3,10 +3,8 @@ use denote.Param.Send.{IsSend, IsSync, sendable, struct_send, struct_sync, recor
 use denote.Struct.Declared.{shape}
 use Rattle.std.proofs.Crossing.{crosses}
 use Rattle.std.proofs.MapsCrossing.{crosses as maps_cross}
-use Rattle.input_values.proofs.inputs.shape.Shape.TheLaws.TheKnot.{send-Shape, sync-Shape}
-use Rattle.input_values.proofs.values.coerced.Coerced.TheLaws.TheKnot.{send-Coerced, sync-Coerced}
-use Rattle.schema_model.specs.contracts.schema.Schema as schema
-use Rattle.cost_directives.specs.contracts.weights.Weights as weights
+use Rattle.schema_model.proofs.SharedSchemas.{schema_field_send, schema_field_sync}
+use Rattle.cost_directives.proofs.SharedWeights.{weights_field_send, weights_field_sync}
 use Rattle.account_shared.proofs.Accounts.TheSendSync as accounts
 use Rattle.client_files.proofs.client.Client.TheSendSync as client
 use Rattle.client_files.specs.contracts.client.Client.{the_row as client_row}
@@ -32,22 +30,10 @@ facts_sent = search (sendable, crosses, maps_cross, facts_send) depth 40 fits 20
 facts_shared : IsSync (option.the_field facts.the_row).row
 facts_shared = search (sendable, crosses, maps_cross, facts_sync) depth 40 fits 20000
 
-schema_send : IsSend (schema.the_field).row
-schema_send = search (sendable, crosses, maps_cross, send-Shape, send-Coerced) depth 40 fits 20000
-
-schema_sync : IsSync (schema.the_field).row
-schema_sync = search (sendable, crosses, maps_cross, sync-Shape, sync-Coerced) depth 40 fits 20000
-
-weights_send : IsSend (weights.the_field).row
-weights_send = search (sendable, crosses, maps_cross, send-Shape) depth 40 fits 20000
-
-weights_sync : IsSync (weights.the_field).row
-weights_sync = search (sendable, crosses, maps_cross, sync-Shape) depth 40 fits 20000
-
 pub gate_send : IsSend the_row
 gate_send = recorded_send (the_field).row _ _ (the_type).to_one (struct_send (shape the_type)
-    (trusted_send, (facts_sent, (schema_send, (weights_send, (indexed.the_field_send client_row names client.the_send, (settings.the_field_send, (accounts.the_send, tt))))))))
+    (trusted_send, (facts_sent, (schema_field_send, (weights_field_send, (indexed.the_field_send client_row names client.the_send, (settings.the_field_send, (accounts.the_send, tt))))))))
 
 pub gate_sync : IsSync the_row
 gate_sync = recorded_sync (the_field).row _ _ (the_type).to_one (struct_sync (shape the_type)
-    (trusted_sync, (facts_shared, (schema_sync, (weights_sync, (indexed.the_field_sync client_row names client.the_sync, (settings.the_field_sync, (accounts.the_sync, tt))))))))
+    (trusted_sync, (facts_shared, (schema_field_sync, (weights_field_sync, (indexed.the_field_sync client_row names client.the_sync, (settings.the_field_sync, (accounts.the_sync, tt))))))))

@@ -18,6 +18,7 @@ pub use lexical::lexing::{LexFault, lex};
 pub use lexical::literals::{integer_at, string_at, string_value};
 pub use lexical::text::Text;
 pub use lexical::token::{Span, Token, TokenKind};
+pub use names::hashed::{Hashed, hashed_by_name};
 pub use names::index::{NameIndex, index_of};
 pub use names::laws::{distinct_names_stand_once, the_first_repeated_name_ends_distinct_ones};
 pub use names::named::Named;
@@ -44,5 +45,8 @@ pub use printing::printed_texts::{
 pub use printing::printer::Printer;
 pub use printing::printing_laws::what_is_printed_is_written_as_the_same_tree;
 pub use printing::reading_back::what_is_printed_reads_back;
-pub use sharing::{an_index_is_shared, an_owned_index_is_shared, texts_and_trees_are_shared};
+pub use sharing::{
+    an_index_is_shared, an_owned_index_is_shared, hashed_names_are_shared,
+    texts_and_trees_are_shared,
+};
 pub use ways::source::{Halt, Source};

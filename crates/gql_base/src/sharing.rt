@@ -3,6 +3,7 @@
 use crate::lexical::lexing::LexFault;
 use crate::lexical::text::Text;
 use crate::lexical::token::Token;
+use crate::names::hashed::Hashed;
 use crate::names::index::NameIndex;
 use crate::names::named::Named;
 use crate::names::owned_index::Indexed;
@@ -33,4 +34,9 @@ pub fn an_index_is_shared<T: Named + Send + Sync + 'static>() {
 /// Threads may share a list of things that they may share, with its index.
 pub fn an_owned_index_is_shared<T: Named + Drop + Send + Sync>() {
     is_shared::<Indexed<T>>();
+}
+
+/// Threads may share a list of things that they may share, with the hashes of its names.
+pub fn hashed_names_are_shared<T: Named + Drop + Send + Sync>() {
+    is_shared::<Hashed<T>>();
 }

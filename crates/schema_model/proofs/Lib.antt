@@ -13,3 +13,4 @@ pub mod DefaultSteps
 pub mod BuildLaws
 pub mod OwnForms
 pub mod PlainNames
+pub mod SharedSchemas

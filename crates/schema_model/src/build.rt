@@ -22,7 +22,7 @@ use crate::implementing::first_not_implemented;
 use crate::possible::all_possible;
 use crate::schema::Schema;
 use crate::shapes::number_named;
-use gql_base::{NameIndex, OperationKind, Text, index_of, index_owned};
+use gql_base::{NameIndex, OperationKind, Text, hashed_by_name, index_of};
 use input_values::{InputTypes, TypeId};
 use schema_reader::SchemaText;
 use schema_rules::{
@@ -172,11 +172,11 @@ fn schema_with<T: InputTypes>(
     let possible = all_possible(alloc, &tables.types)?;
     let directives = directives_of(alloc, items)?;
     Ok(Schema {
-        types: index_owned(alloc, tables.types)?,
+        types: hashed_by_name(alloc, tables.types)?,
         fields: tables.fields,
         other_type: no_type(alloc)?,
         other_field: no_field(alloc)?,
-        directives: index_owned(alloc, directives)?,
+        directives: hashed_by_name(alloc, directives)?,
         defined: type_count(items),
         query: or_zero(root_of(items, types, OperationKind::Query)),
         mutation: root_of(items, types, OperationKind::Mutation),

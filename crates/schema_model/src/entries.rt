@@ -1,6 +1,6 @@
 //! What a checked schema holds of its types and fields.
 
-use gql_base::{Indexed, Named, Text};
+use gql_base::{Hashed, Named, Text};
 use input_values::{InputDef, Shape, TypeId};
 use schema_rules::Kind;
 
@@ -25,7 +25,7 @@ pub struct FieldEntry {
     pub name: Text,
     pub owner: TypeId,
     pub shape: Shape,
-    pub arguments: Indexed<InputDef>,
+    pub arguments: Hashed<InputDef>,
     /// The text of the weight of its own `@cost`.
     pub cost: Option<Text>,
     /// Its own `@listSize`.
@@ -38,15 +38,15 @@ pub struct TypeEntry {
     pub name: Text,
     pub kind: Kind,
     /// The names of its fields.
-    pub names: Indexed<Text>,
+    pub names: Hashed<Text>,
     /// The numbers of its fields, in the same order.
     pub fields: Vec<FieldId>,
     pub interfaces: Vec<TypeId>,
     pub members: Vec<TypeId>,
     /// The names of an enum's values.
-    pub values: Indexed<Text>,
+    pub values: Hashed<Text>,
     /// The fields of an input object.
-    pub inputs: Indexed<InputDef>,
+    pub inputs: Hashed<InputDef>,
     /// The text of the weight of its own `@cost`.
     pub cost: Option<Text>,
 }

@@ -16,7 +16,7 @@ use crate::asked::default_of;
 use crate::draft_types::{DraftField, DraftInput, DraftType};
 use crate::entries::{FieldEntry, FieldId, TypeEntry};
 use crate::sizes::maybe_size;
-use gql_base::{Text, index_owned};
+use gql_base::{Text, hashed_by_name};
 use input_values::{InputDef, InputTypes, Shape, TypeId, copy_shape};
 use schema_reader::EnumValueDef;
 use schema_rules::Kind;
@@ -73,7 +73,7 @@ fn field_of<T: InputTypes>(
         name: Text::copy_of(alloc, field.name)?,
         owner: TypeId { number: owner },
         shape: copy_shape(alloc, &field.shape)?,
-        arguments: index_owned(alloc, arguments)?,
+        arguments: hashed_by_name(alloc, arguments)?,
         cost: maybe_copy(alloc, field.cost)?,
         size: maybe_size(alloc, field.size)?,
     })
@@ -150,12 +150,12 @@ fn type_of<T: InputTypes>(
     Ok(TypeEntry {
         name: Text::copy_of(alloc, draft.name)?,
         kind: draft.kind,
-        names: index_owned(alloc, names)?,
+        names: hashed_by_name(alloc, names)?,
         fields: ids,
         interfaces: copied_numbers(alloc, &draft.interfaces)?,
         members: copied_numbers(alloc, &draft.members)?,
-        values: index_owned(alloc, values)?,
-        inputs: index_owned(alloc, inputs)?,
+        values: hashed_by_name(alloc, values)?,
+        inputs: hashed_by_name(alloc, inputs)?,
         cost: maybe_copy(alloc, draft.cost)?,
     })
 }
@@ -216,12 +216,12 @@ pub fn no_type(alloc: Global) -> Result<TypeEntry, AllocError>
     Ok(TypeEntry {
         name: Text::copy_of(alloc, "")?,
         kind: Kind::Union,
-        names: index_owned(alloc, Vec::new(alloc))?,
+        names: hashed_by_name(alloc, Vec::new(alloc))?,
         fields: Vec::new(alloc),
         interfaces: Vec::new(alloc),
         members: Vec::new(alloc),
-        values: index_owned(alloc, Vec::new(alloc))?,
-        inputs: index_owned(alloc, Vec::new(alloc))?,
+        values: hashed_by_name(alloc, Vec::new(alloc))?,
+        inputs: hashed_by_name(alloc, Vec::new(alloc))?,
         cost: None,
     })
 }
@@ -238,7 +238,7 @@ pub fn no_field(alloc: Global) -> Result<FieldEntry, AllocError>
             of: TypeId { number: 0 },
             nullable: true,
         },
-        arguments: index_owned(alloc, Vec::new(alloc))?,
+        arguments: hashed_by_name(alloc, Vec::new(alloc))?,
         cost: None,
         size: None,
     })

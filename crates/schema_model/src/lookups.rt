@@ -15,7 +15,7 @@ ghost use Rattle.schema_model.specs.SchemaViews.{schema_data};
 use crate::entries::{FieldEntry, FieldId, ListSize, TypeEntry};
 use crate::marks::has_number;
 use crate::schema::Schema;
-use gql_base::{Indexed, Text};
+use gql_base::{Hashed, Text};
 use input_values::{InputDef, Shape, TypeId};
 use schema_rules::Kind;
 
@@ -234,7 +234,7 @@ impl Schema {
     }
 }
 
-fn input_named<'a>(inputs: &'a Indexed<InputDef>, name: &str) -> Option<&'a InputDef>
+fn input_named<'a>(inputs: &'a Hashed<InputDef>, name: &str) -> Option<&'a InputDef>
     ensures { maybe_input result ≡ first_of_name input_name (map input_data inputs.now.items.items) name.now }
 {
     inputs.first_named(name)

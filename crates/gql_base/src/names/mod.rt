@@ -1,5 +1,6 @@
 //! Things that are found by their names.
 
+pub mod hashed;
 pub mod index;
 pub mod laws;
 pub mod named;

@@ -1,11 +1,17 @@
 use Rattle.std.proofs.Common.{◌∙◌, map, sym}
-use Rattle.doors.specs.Starts.{stopped_by}
+use Rattle.std.proofs.lemmas.List.Elements.{All-get_or}
+use Rattle.doors.specs.Starts.{IsNew, stopped_by}
 use Rattle.gateway_workers.specs.Decisions.{rules_of, service_of}
 use Rattle.doors.specs.Starts.{members}
 use Rattle.gateway_serving.proofs.DoorsBack.{as_many}
 use Rattle.gateway_serving.proofs.ClientAccounts.{is_idle}
 use Rattle.gateway_serving.proofs.AllServed.{ends_serving, start_and_stop, was_unserved}
 use Rattle.gateway_serving.proofs.serving.serve_started.Goals as goal
+
+pub serve_workers-requires-clause-free : goal.serve_workers-requires-clause-free
+serve_workers-requires-clause-free g c κs within k d below =
+    let t = members g.D.D.Door.out g.D.D.Door.to_come g.D.D.Door.faults g.D.D.Door.visits in
+    (All-get_or (IsNew t c.args.serving.now.connections) c.args.started.items k d below c.requires.new).free
 
 pub stop-requires : goal.stop-requires
 stop-requires g c =
