@@ -16,4 +16,5 @@ pub mod NodeCounts
 pub mod Fillable
 pub mod LikeLists
 pub mod MarkedNodes
+pub mod LikeNodes
 pub mod ShortenedSets

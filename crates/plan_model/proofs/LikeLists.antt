@@ -201,3 +201,33 @@ module _ {A B C D : Type 0} (R : A → B → Type 0) (Q : C → D → Type 0) (f
   flattened_like s (x ∷ xs) [] t = leave_first Q (flat_map g s) (f x) (flat_map f xs) [] (inside_like s x t.0) (flattened_like s xs [] t.1)
   flattened_like s (x ∷ xs) (y ∷ ys) (inl stays) = stay_first Q (flat_map g s) (f x) (g y) (flat_map f xs) (flat_map g ys) (also x y stays.0) (flattened_like (y ∷ s) xs ys stays.1)
   flattened_like s (x ∷ xs) (y ∷ ys) (inr goes) = leave_first Q (flat_map g s) (f x) (flat_map f xs) (flat_map g (y ∷ ys)) (inside_like s x goes.0) (flattened_like s xs (y ∷ ys) goes.1)
+
+-- What is left of a list where elements are left out, and then of that again.
+module _ {A B C : Type 0} (R : A → B → Type 0) (Q : B → C → Type 0) (P : A → C → Type 0) (through : (x : A) (y : B) (z : C) → R x y → Q y z → P x z) where
+  like_through : (r : List C) (x : A) (y : B) → R x y → HasLike Q r y → HasLike P r x
+  like_through [] x y is h = absurd h
+  like_through (z ∷ r) x y is (inl here) = inl (through x y z is here)
+  like_through (z ∷ r) x y is (inr later) = inr (like_through r x y is later)
+
+  abbrev IsLikeIn : List B → List C → Type 0
+  IsLikeIn s r = (x : A) → HasLike R s x → HasLike P r x
+
+  one_more_in : (s : List B) (r : List C) (y : B) → HasLike Q r y → IsLikeIn s r → IsLikeIn (y ∷ s) r
+  one_more_in s r y here inside x (inl is) = like_through r x y is here
+  one_more_in s r y here inside x (inr h) = inside x h
+
+  both_more_in : (s : List B) (r : List C) (y : B) (z : C) → Q y z → IsLikeIn s r → IsLikeIn (y ∷ s) (z ∷ r)
+  both_more_in s r y z here inside x (inl is) = inl (through x y z is here)
+  both_more_in s r y z here inside x (inr h) = inr (inside x h)
+
+  pub twice_like : (s : List B) (r : List C) (xs : List A) (ys : List B) (zs : List C) → IsLikeIn s r → Thins R s xs ys → Thins Q r ys zs → Thins P r xs zs
+  twice_like s r [] [] [] inside a b = tt
+  twice_like s r [] [] (z ∷ zs) inside a b = absurd b
+  twice_like s r [] (y ∷ ys) zs inside a b = absurd a
+  twice_like s r (x ∷ xs) [] [] inside a b = (inside x a.0, twice_like s r xs [] [] inside a.1 tt)
+  twice_like s r (x ∷ xs) [] (z ∷ zs) inside a b = absurd b
+  twice_like s r (x ∷ xs) (y ∷ ys) [] inside (inl stays) b = (like_through r x y stays.0 b.0, twice_like (y ∷ s) r xs ys [] (one_more_in s r y b.0 inside) stays.1 b.1)
+  twice_like s r (x ∷ xs) (y ∷ ys) [] inside (inr goes) b = (inside x goes.0, twice_like s r xs (y ∷ ys) [] inside goes.1 b)
+  twice_like s r (x ∷ xs) (y ∷ ys) (z ∷ zs) inside (inl stays) (inl keeps) = inl (through x y z stays.0 keeps.0, twice_like (y ∷ s) (z ∷ r) xs ys zs (both_more_in s r y z keeps.0 inside) stays.1 keeps.1)
+  twice_like s r (x ∷ xs) (y ∷ ys) (z ∷ zs) inside (inl stays) (inr goes) = inr (like_through r x y stays.0 goes.0, twice_like (y ∷ s) r xs ys (z ∷ zs) (one_more_in s r y goes.0 inside) stays.1 goes.1)
+  twice_like s r (x ∷ xs) (y ∷ ys) (z ∷ zs) inside (inr goes) b = inr (inside x goes.0, twice_like s r xs (y ∷ ys) (z ∷ zs) inside goes.1 b)

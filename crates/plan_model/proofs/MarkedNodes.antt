@@ -36,9 +36,9 @@ module _ (e : Setting) (T : ℕ) where
   same_by_meaning no_position written other given = refl
 
   -- calls of one name whose arguments come to the same
-  record IsSameCall (c d : FieldCall) : Type 0 where
-    name : c.name ≡ d.name
-    arguments : arguments_at e T c ≡ arguments_at (bare e) T d
+  pub record IsSameCall (c d : FieldCall) : Type 0 where
+    pub name : c.name ≡ d.name
+    pub arguments : arguments_at e T c ≡ arguments_at (bare e) T d
 
   arguments_alike : (c d : FieldCall) → c.name ≡ d.name → AreGivenAlike c.arguments d.arguments → arguments_at e T c ≡ arguments_at (bare e) T d
   unfolding arguments_at
@@ -52,7 +52,7 @@ module _ (e : Setting) (T : ℕ) where
     unfolding form_at
     same_form = rw (same.name) refl
 
-    same_place : place_at e T c ≡ place_at (bare e) T d
+    pub same_place : place_at e T c ≡ place_at (bare e) T d
     unfolding place_at
     same_place = rw (same.name) refl
 
@@ -64,7 +64,7 @@ module _ (e : Setting) (T : ℕ) where
     unfolding size_at
     same_size handed = rw (same_form) (rw (same_size_answer handed) refl)
 
-    same_hands : hands_at e T c ≡ hands_at (bare e) T d
+    pub same_hands : hands_at e T c ≡ hands_at (bare e) T d
     unfolding hands_at
     same_hands = rw (same_size_answer None) (rw (same.name) refl)
 
@@ -105,7 +105,7 @@ module _ {I : Type 0} (field : I → CollectedField) (R : CollectedField → I �
       (cases_Bool (list_any (bytes_eq (field i).key) seen)))
   keys_beside seen s (x ∷ xs) (i ∷ is) known (inr goes) = rw (known x goes.0) (keys_beside seen s xs (i ∷ is) known goes.1)
 
-  same_keys_like : (xs : List CollectedField) (is : List I) → Thins R [] xs is → keys_of xs ≡ keys_of (map field is)
+  pub same_keys_like : (xs : List CollectedField) (is : List I) → Thins R [] xs is → keys_of xs ≡ keys_of (map field is)
   same_keys_like xs is t = keys_beside [] [] xs is (λ f h. absurd h) t
 
 any_mapped : {A B : Type 0} (f : A → B) (test : B → Bool) (xs : List A) → list_any test (map f xs) ≡ list_any (λ x. test (f x)) xs
@@ -130,13 +130,13 @@ module _ {I : Type 0} (e : Setting) (T : ℕ) (field : I → CollectedField) (R 
   first_same_call (x ∷ xs) (i ∷ is) (inl stays) = same_call e T x (field i) (like x i stays.0)
   first_same_call (x ∷ xs) (i ∷ is) (inr goes) = absurd goes.0
 
-  same_first : IsSameCall e T (first_call xs) (first_call listed)
+  pub same_first : IsSameCall e T (first_call xs) (first_call listed)
   same_first = first_same_call xs is t
 
   any_same : (test other : CollectedField → Bool) → ((f g : CollectedField) → LooksLike e.schema f g → test f ≡ other g) → list_any test xs ≡ list_any other listed
   any_same test other alike = same_any_like R test (λ i. other (field i)) (λ f i r. alike f (field i) (like f i r)) xs is t ∙ sym (any_mapped field other is)
 
-  same_selected_by : (key : List ℕ) (handed : HandedSize) → selected_by e T key handed xs ≡ selected_by (bare e) T key handed listed
+  pub same_selected_by : (key : List ℕ) (handed : HandedSize) → selected_by e T key handed xs ≡ selected_by (bare e) T key handed listed
   same_selected_by key handed =
       rw (same_first.name) (rw (any_same (asks e) (asks (bare e)) (λ f g l. l.asked)) (rw (same_form e T (first_call xs) (first_call listed) same_first) (rw (same_size e T (first_call xs) (first_call listed) same_first handed) (rw (same_weight e T (first_call xs) (first_call listed) same_first) (rw (same_cost e T (first_call xs) (first_call listed) same_first) refl)))))
 
@@ -156,7 +156,7 @@ module _ {I : Type 0} (e : Setting) (T : ℕ) (field : I → CollectedField) (R 
   same_refused : first_of (argument_fault e T) xs ≡ first_of (argument_fault (bare e) T) listed
   same_refused = same_first_like R (argument_fault e T) (λ i. argument_fault (bare e) T (field i)) (λ f i r. ap (λ a. option_map refused_argument (refusal_of a)) (same_call e T f (field i) (like f i r)).arguments) xs is t ∙ sym (first_mapped field (argument_fault (bare e) T) is)
 
-  same_fault_by : (handed : HandedSize) → fault_of e T handed xs ≡ fault_of (bare e) T handed listed
+  pub same_fault_by : (handed : HandedSize) → fault_of e T handed xs ≡ fault_of (bare e) T handed listed
   same_fault_by handed = rw (same_names) (rw (same_refused) (rw (same_arguments_of) (rw (same_size_answer e T (first_call xs) (first_call listed) same_first handed) (rw (same_place e T (first_call xs) (first_call listed) same_first) refl))))
 
 -- ---- positions, by marks

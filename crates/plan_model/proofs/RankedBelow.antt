@@ -27,7 +27,7 @@ module _ (rank : List ℕ → ℕ) (e : Setting) (T : ℕ) (ranks : FragmentsRan
     one_higher r d (fragment_spread name directives) le h = omega arith
     one_higher r d (inline_fragment on directives below) le h = all_higher r d below le h
 
-    all_higher : (r d : ℕ) (ss : SelectionTrees) → r ≤ d → AreRanked rank r ss → AreRanked rank d ss
+    pub all_higher : (r d : ℕ) (ss : SelectionTrees) → r ≤ d → AreRanked rank r ss → AreRanked rank d ss
     all_higher r d no_selection le h = tt
     all_higher r d (selection_then s others) le h = (one_higher r d s le h.0, all_higher r d others le h.1)
 

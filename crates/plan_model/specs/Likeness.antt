@@ -26,3 +26,7 @@ pub record LooksLike (s : SchemaData) (f g : CollectedField) : Type 0 where
   pub name : f.call.name ≡ g.call.name
   pub given : AreGivenAlike f.call.arguments g.call.arguments
   pub asked : is_asked s f.parent f.call ≡ is_asked s g.parent g.call
+
+-- Fields that are like those of another list, where later ones may be left out.
+abbrev pub AreLike : SchemaData → List CollectedField → List CollectedField → Type 0
+AreLike s fields others = Thins (LooksLike s) [] fields others

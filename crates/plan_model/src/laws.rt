@@ -21,18 +21,19 @@ ghost use Rattle.document_reader.specs.Documents.{SelectionTrees};
 ghost use Rattle.document_rules.specs.Parts.{FragmentData};
 ghost use Rattle.document_rules.specs.Checking.{first_broken};
 ghost use Rattle.variable_coercion.specs.Arguments.{arguments_answer};
-ghost use Rattle.plan_model.specs.SelectedFields.{Setting, Place, types_of, holds, coerced_arguments};
+ghost use Rattle.plan_model.specs.SelectedFields.{Setting, HandedSize, Place, types_of, holds, coerced_arguments, place_at, hands_at};
 ghost use Rattle.plan_model.specs.SameArguments.{value_of, same_arguments};
 ghost use Rattle.plan_model.specs.Collecting.{CollectedField};
-ghost use Rattle.plan_model.specs.Merging.{Position, fields_at, keys_at, call_under, selected_under, below_key};
+ghost use Rattle.plan_model.specs.Merging.{Position, first_call, selected_by, fields_at, keys_at, call_under, selected_under, below_key};
 ghost use Rattle.plan_model.specs.Plans.{IsPlan, node_count};
 ghost use Rattle.plan_model.specs.Responses.{FitsSelections};
-ghost use Rattle.plan_model.specs.Visits.{Visit, visits, fault_at, planned, planned_well, answer_of};
+ghost use Rattle.plan_model.specs.Visits.{Visit, fault_of, visits, fault_at, planned, planned_well, answer_of};
 ghost use Rattle.plan_model.specs.Operations.{IsPlannedWell, planned_operation, IsOperationPlan, HasGreatestBounds};
 ghost use Rattle.plan_model.specs.PlanLaws.{KeepsAsPlanned, CostsAsPlanned, IsBoundByPlan, IsFaultless, PlansSoundly, AreAcyclicBelow, IsAcyclicOperation};
 ghost use Rattle.plan_model.specs.Sound.{IsSoundSetting, CanBeFilled, IsOfSchema};
 ghost use Rattle.plan_model.specs.Repeats.{LeavesOutRepeats};
 ghost use Rattle.plan_model.specs.MergingWalk.{IsShortened, walked, IsAcyclic};
+ghost use Rattle.plan_model.specs.Likeness.{AreLike};
 ghost use Rattle.plan_model.specs.Numberings.{ItemsByNumber, HaveSameMarks};
 ghost use Rattle.plan_model.specs.Shortening.{with_fragments, position_on, IsShorter};
 
@@ -128,6 +129,15 @@ pub fn checked_operations_are_acyclic()
 pub fn numbers_say_all()
     ensures visited { (e : Setting) (items : ItemsByNumber) (levels : ℕ) (p q : Position) → HaveSameMarks e items (suc levels) p q → (Ts : List ℕ) → visits e levels Ts p ≡ visits e levels Ts q }
     ensures planned { (e : Setting) (items : ItemsByNumber) (levels : ℕ) (p q : Position) → HaveSameMarks e items (suc levels) p q → (place : Place) → planned e levels place p ≡ planned e levels place q }
+{}
+
+/// The fields of a key make the same node as others that they are like, where later ones may be left out: with the same fault, the same
+/// value, the same types below and the same size handed down.
+pub fn like_fields_make_one_node()
+    ensures fault { (e : Setting) (T : ℕ) (fields others : List CollectedField) → AreLike e.schema fields others → (handed : HandedSize) → fault_of e T handed fields ≡ fault_of e T handed others }
+    ensures selected { (e : Setting) (T : ℕ) (fields others : List CollectedField) → AreLike e.schema fields others → (key : List ℕ) (handed : HandedSize) → selected_by e T key handed fields ≡ selected_by e T key handed others }
+    ensures place { (e : Setting) (T : ℕ) (fields others : List CollectedField) → AreLike e.schema fields others → place_at e T (first_call fields) ≡ place_at e T (first_call others) }
+    ensures hands { (e : Setting) (T : ℕ) (fields others : List CollectedField) → AreLike e.schema fields others → hands_at e T (first_call fields) ≡ hands_at e T (first_call others) }
 {}
 
 /// Where selections and fragments are shortened, there are the same visits, the same plan, and still no circle of fragments.
