@@ -11,3 +11,5 @@ pub mod DraftedFields
 pub mod PlainDrafts
 pub mod Implemented
 pub mod FittingSizes
+pub mod ToldSizes
+pub mod SharedWeights

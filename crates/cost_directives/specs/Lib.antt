@@ -1,10 +1,11 @@
--- The meaning: what types and fields weigh, what arguments cost, declared sizes, the weights of a schema and their look-ups;
+-- The meaning: what types and fields weigh, what arguments cost, declared sizes, the weights of a schema and their look-ups, where sizes come from;
 -- then the tests of cost directives in the order in which they are made, and what a build answers.
 pub mod Readings
 pub mod Weighing
 pub mod ArgumentCosts
 pub mod DeclaredSizes
 pub mod Weights
+pub mod SizeSources
 pub mod FieldPlaces
 pub mod BadWeight
 pub mod NotAList

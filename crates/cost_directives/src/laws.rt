@@ -9,12 +9,14 @@ ghost use Rattle.schema_model.specs.declared.schema.Schema.{Schema};
 ghost use Rattle.schema_model.specs.Arguments.{ArgData};
 ghost use Rattle.schema_model.specs.Faults.{SchemaBuilds};
 ghost use Rattle.schema_model.specs.SchemaViews.{schema_data};
+ghost use Rattle.cost_directives.specs.declared.sizes.Size.{Size};
 ghost use Rattle.cost_directives.specs.declared.sizes.Size.TheVariants.{Any};
 ghost use Rattle.cost_directives.specs.DirectiveFaults.{first_directive_fault};
 ghost use Rattle.cost_directives.specs.Fitting.{SizesFit};
 ghost use Rattle.cost_directives.specs.FreeLists.{HoldsFreeLeaves};
 ghost use Rattle.cost_directives.specs.Readings.{reading};
-ghost use Rattle.cost_directives.specs.Weights.{weights_of, type_weight_at, field_weight_at, no_type_weight, type_in, field_in, declared_size_in};
+ghost use Rattle.cost_directives.specs.SizeSources.{size_told, size_source_in};
+ghost use Rattle.cost_directives.specs.Weights.{WeightsData, weights_of, type_weight_at, field_weight_at, no_type_weight, type_in, field_in, declared_size_in};
 
 use cost_num::GREATEST_WEIGHT;
 
@@ -41,4 +43,9 @@ pub fn lists_of_any_length_cost_nothing()
 /// interface.
 pub fn sizes_fit_their_fields()
     ensures { (text : List DefinitionTree) (schema : Schema) → SchemaBuilds text (Ok schema) → first_directive_fault (schema_data schema) ≡ None → SizesFit (schema_data schema) }
+{}
+
+/// Where a field has a declared size, its source tells that size.
+pub fn sources_tell_sizes()
+    ensures { (w : WeightsData) (n : ℕ) (args : List ArgData) (handed : Option ℕ) (size : Size) → declared_size_in w n args handed ≡ Ok size → size_told (size_source_in w n args handed) ≡ size }
 {}

@@ -15,13 +15,15 @@ mod readings;
 mod rules;
 mod sharing;
 mod sizes;
+mod sources;
 mod weights;
 
 pub use fault::DirectiveFault;
 pub use laws::{
     lists_of_any_length_cost_nothing, look_ups_answer_by_the_rules, sizes_fit_their_fields,
-    weights_are_read_once,
+    sources_tell_sizes, weights_are_read_once,
 };
 pub use sharing::weights_are_shared;
 pub use sizes::{Size, SizeFault};
+pub use sources::SizeSource;
 pub use weights::Weights;

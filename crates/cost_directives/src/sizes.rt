@@ -34,7 +34,8 @@ pub enum SizeFault {
     NegativeSlice { value: i32 },
 }
 
-fn arg_at(args: &[Arg], place: usize) -> Option<&Arg>
+/// The argument at this place, where it is there.
+pub fn arg_at(args: &[Arg], place: usize) -> Option<&Arg>
     ensures { maybe_arg result ≡ arg_at (map arg_data args.now) place }
 {
     args.get(place)
@@ -96,7 +97,8 @@ fn int_in(value: &Coerced) -> Option<i32>
     }
 }
 
-fn slice_of(arg: Option<&Arg>) -> Option<i32>
+/// The value by which an argument slices.
+pub fn slice_of(arg: Option<&Arg>) -> Option<i32>
     ensures { result ≡ slice_of (maybe_arg arg.entry) }
 {
     match arg {

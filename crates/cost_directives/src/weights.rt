@@ -5,11 +5,13 @@ ghost use Rattle.std.specs.Prelude.{◌≡◌};
 ghost use Rattle.cost_num.specs.Capped.{capped};
 ghost use Rattle.schema_model.specs.Arguments.{args_data};
 ghost use Rattle.cost_directives.specs.Weights.{type_in, field_in, argument_cost_in, declared_size_in};
+ghost use Rattle.cost_directives.specs.SizeSources.{size_source_in};
 ghost use Rattle.cost_directives.specs.WeightViews.{weights_data, field_seen};
 
 use crate::argument_costs::arguments_cost;
 use crate::entries::{FieldWeight, TypeWeight};
 use crate::sizes::{Size, SizeFault, size_by};
+use crate::sources::{SizeSource, source_by};
 use gql_base::Text;
 use input_values::TypeId;
 use schema_model::{Args, FieldId};
@@ -91,6 +93,20 @@ impl Weights {
             None => match handed {
                 Some(size) => Ok(Size::At(size)),
                 None => Ok(Size::At(u64::from(self.undeclared))),
+            },
+        }
+    }
+
+    /// Where the declared size comes from, where the slicing arguments have no fault. It is asked with what `declared_size` is
+    /// asked with.
+    pub fn size_source(&self, of: FieldId, args: &Args, handed: Option<u64>) -> SizeSource
+        ensures { result ≡ size_source_in (weights_data self.now) of.number (args_data args.now) handed }
+    {
+        match self.found(of) {
+            Some(found) => source_by(&found.size, self.undeclared, &args.list, handed),
+            None => match handed {
+                Some(size) => SizeSource::Handed(size),
+                None => SizeSource::Undeclared(self.undeclared),
             },
         }
     }

@@ -6,7 +6,7 @@
 
 ghost use Rattle.std.specs.Prelude.{◌≡◌, ℕ, ◌+◌, ◌*◌, ◌<◌, ◌≤◌, ◌↔◌, ◌++◌, length, drop, IsTrue};
 ghost use Rattle.cost_num.specs.Capped.{capped};
-ghost use Rattle.cost_num.specs.CostText.{cost_text};
+ghost use Rattle.cost_num.specs.CostText.{amount_text, cost_text};
 ghost use Rattle.cost_num.specs.Within.{Within};
 
 pub mod laws;
@@ -33,6 +33,9 @@ pub const GREATEST_WEIGHT: u64 = 1_000_000 * UNIT;
 
 /// The greatest length of the text of a cost, in bytes.
 pub const COST_BYTES: usize = 39;
+
+/// The greatest length of the text of an amount, in bytes.
+pub const AMOUNT_BYTES: usize = 19;
 
 /// A type cost and a field cost, each in millionths.
 #[derive(Clone, Copy, Debug, PartialEq, Eq)]
@@ -88,4 +91,17 @@ pub fn cost_bytes(cost: Cost, into: &mut [u8; 48]) -> usize
     let space = printed::write_amount(cost.types, into, 0);
     let fields = printed::write_byte(b' ', into, space);
     printed::write_amount(cost.fields, into, fields)
+}
+
+/// Writes the text of an amount of millionths at the front of `into`, and gives its length in bytes.
+///
+/// The text is that of one component of a cost, as in `7.250001`. The bytes after the text stay as they were.
+#[tactic(auto, using(crate::proofs::ShownPlaces::lengths))]
+pub fn amount_bytes(amount: u64, into: &mut [u8; 24]) -> usize
+    requires { amount ≤ CAP }
+    ensures end { result ≡ length (amount_text amount) }
+    ensures within { result ≤ AMOUNT_BYTES }
+    ensures written { into.new ≡ amount_text amount ++ drop result into.old }
+{
+    printed::write_amount(amount, into, 0)
 }

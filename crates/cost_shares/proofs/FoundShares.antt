@@ -28,7 +28,7 @@ use Rattle.plan_table.specs.Tables.{weighed, row_of, row_in, table_rows, setting
 use Rattle.plan_table.specs.TableBounds.{holds_in, HoldsSound, IsBoundIn, IsWithinCap}
 use Rattle.static_cost.specs.CostBound.{component}
 use Rattle.static_cost.specs.Choices.{choices}
-use Rattle.static_cost.proofs.Depths.{zeros, zero_at, put_capped}
+use Rattle.static_cost.proofs.Depths.{zeros, zero_at, put_capped, values_capped}
 use Rattle.static_cost.proofs.Picks.{put_same}
 use Rattle.static_cost.proofs.TablePasses.{row_in_front}
 use Rattle.cost_shares.specs.declared.share.Share.{Share}
@@ -87,11 +87,6 @@ pub counts_at_root : (d : ℕ) → get_or (0 ∷ 1 ∷ zeros 50) d 0 ≡ capped 
 counts_at_root zero = let none = put_elsewhere {X = ℕ} 1 1 (λ (e : ℕ). 0) zero none_is_one in omega arith
 counts_at_root (suc zero) = let one = put_here {X = ℕ} 1 1 (λ (e : ℕ). 0) in omega arith
 counts_at_root (suc (suc d)) = let none = put_elsewhere {X = ℕ} 1 1 (λ (e : ℕ). 0) (suc (suc d)) (apart_from_one d) in let z = zero_at 50 d in omega arith
-
-values_capped : (form : Form) (size : Option ℕ) (n : ℕ) → capped (greatest_in form size (capped n)) ≡ capped (greatest_in form size n)
-values_capped (single nullable) size n = omega arith
-values_capped (listed nullable item_nullable) None n = refl
-values_capped (listed nullable item_nullable) (Some size) n = capped_counts n size
 
 -- What so many entries and values add, each capped.
 pub both_added : (entry times value values first second all : ℕ) → first ≡ capped (entry * times) → second ≡ capped (value * values) → all ≡ capped (first + second) → all ≡ capped (times * entry + values * value)

@@ -57,7 +57,7 @@ below_capped : (part : Part) (below : Below) (n : ℕ) → capped (greatest_belo
 below_capped part (leaf_below type weight fill) n = refl
 below_capped part (objects_below possible) n = omega arith
 
-values_capped : (form : Form) (size : Option ℕ) (n : ℕ) → capped (greatest_in form size (capped n)) ≡ capped (greatest_in form size n)
+pub values_capped : (form : Form) (size : Option ℕ) (n : ℕ) → capped (greatest_in form size (capped n)) ≡ capped (greatest_in form size n)
 values_capped (single nullable) size n = omega arith
 values_capped (listed nullable item_nullable) None n = refl
 values_capped (listed nullable item_nullable) (Some size) n = capped_counts n size
