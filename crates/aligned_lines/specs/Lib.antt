@@ -1,0 +1,2 @@
+-- How lines of cells are written.
+pub mod Aligned

@@ -1,0 +1,44 @@
+//! Refusals, and what is told of them.
+
+use crate::{Place, told_refusal};
+use std::test::Fail;
+
+/// A refusal, the text and the byte that it names, and what is told.
+const ROWS: &[(&str, Option<Place<'_>>, &str)] = &[
+    (
+        "rule 12 UnknownField 4",
+        Some(Place {
+            text: "{\n\t\u{e9}usrs { id }\n}",
+            offset: 5,
+        }),
+        "rule 12 UnknownField 4\nline 2, column 3:\n\t\u{e9}usrs { id }\n\t ^\nThe type at this place has no field usrs.\nAsk for a field that it has, or put this one into a fragment on the type that has it.",
+    ),
+    (
+        "document 2 Unexpected 3",
+        Some(Place {
+            text: "{ a",
+            offset: 3,
+        }),
+        "document 2 Unexpected 3\nline 1, column 4:\n{ a\n   ^\nWhat stands at the mark can't follow what stands before it.\nLook at what stands in front of it: each opening brace and parenthesis has its closing one, and none is empty.",
+    ),
+    (
+        "plan 1 Argument data.a 2 BadValue first",
+        None,
+        "plan 1 Argument data.a 2 BadValue first\nAt data.a the value of the argument first is none of its type.\nWrite a value of the type.",
+    ),
+    (
+        "schema 5 NoQuery",
+        None,
+        "schema 5 NoQuery\nThe schema has no type of queries.\nDefine `type Query`, or name one by `schema { query: NAME }`.",
+    ),
+    ("no refusal", None, "no refusal"),
+];
+
+#[test]
+fn rows(rt: HostRuntime) -> Result<(), Fail> {
+    for (refusal, place, told) in ROWS {
+        let found = told_refusal(rt.alloc(), refusal, *place)?;
+        assert!(rt; found.as_str() == *told);
+    }
+    Ok(())
+}
