@@ -3,3 +3,4 @@ pub mod Texts
 pub mod Outcomes
 pub mod SchemaTexts
 pub mod Check
+pub mod Known

@@ -6,6 +6,7 @@ mod check_laws;
 mod checked;
 mod checking;
 mod inputs;
+mod known;
 mod limits;
 mod outcome;
 mod schema_texts;
@@ -16,8 +17,10 @@ pub use check_laws::a_schema_file_has_one_check;
 pub use checked::{CheckFault, SchemaRefusal, Weighed, weighed_in};
 pub use checking::check;
 pub use inputs::{read_file, read_text};
+pub use known::known_of;
 pub use limits::{
-    CLIENTS_LIMIT, DOCUMENT_LIMIT, REPLY_LIMIT, SCHEMA_LIMIT, SCRIPT_LIMIT, VARIABLES_LIMIT,
+    CLIENTS_LIMIT, DOCUMENT_LIMIT, REPLY_LIMIT, SCHEMA_LIMIT, SCRIPT_LIMIT, TRUSTED_LIMIT,
+    VARIABLES_LIMIT,
 };
 pub use outcome::{
     DONE, DOOR_FAILED, FILE_FAILED, NO_MEMORY, NOT_RESPONSE, Outcome, REFUSED, SIZE_BROKEN,

@@ -12,3 +12,5 @@ pub const CLIENTS_LIMIT: usize = 262_144;
 pub const REPLY_LIMIT: usize = 4_194_304;
 /// How many bytes a script may have.
 pub const SCRIPT_LIMIT: usize = 4_194_304;
+/// How many bytes a list of trusted documents may have.
+pub const TRUSTED_LIMIT: usize = 4_194_304;

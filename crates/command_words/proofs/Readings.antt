@@ -1,16 +1,26 @@
 -- Words that clap read ask for what they give, and words that it refused ask for nothing.
-use Rattle.std.proofs.Common.{◌≡◌, sym, subst, ap, ◌∙◌, List, ℕ, [], Bor, map, Result, Err}
+use Rattle.std.proofs.Common.{◌≡◌, ◌≤◌, refl, sym, subst, ap, ◌∙◌, arith, List, ℕ, [], length, Bor, IsTrue, map, Result, Err}
+use Rattle.std.specs.List.{list_all}
+use Rattle.http_front.specs.Passed.{may_be_passed}
 use Rattle.std.specs.Prelude.{IfOk}
 use Rattle.std.proofs.lemmas.Result.{IfOk-weaker}
 use Rattle.clap.specs.Simple.{App, matches_of}
 use Rattle.clap.specs.Faults.{fault_of}
 use Rattle.command_words.specs.declared.command.Command.{Command}
 use Rattle.command_words.specs.declared.command.WordsFault.{WordsFault}
-use Rattle.command_words.specs.Words.{Rows, Reads}
+use Rattle.command_words.specs.Words.{Rows, ArePassed, Reads}
 
 -- words as texts
 abbrev pub texts : List (Bor (List ℕ)) → List (List ℕ)
 texts words = map (λ (s : Bor (List ℕ)). s.now) words
+
+-- no words give no names
+pub none_passed : (words names : List (List ℕ)) → [] ≡ words → names ≡ [] → ArePassed words names
+none_passed words names none empty = record {
+  given = empty ∙ none;
+  few = subst (λ given. length given ≤ 16) (sym empty) (omega (arith));
+  may_be = subst (λ given. IsTrue (list_all may_be_passed given)) (sym empty) refl;
+}
 
 -- a fault is the same whatever was to be found
 pub same_fault : {A B E : Type 0} (x y : E) → ◌≡◌ {A = Result A E} (Err x) (Err y) → ◌≡◌ {A = Result B E} (Err x) (Err y)

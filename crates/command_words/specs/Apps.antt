@@ -2,7 +2,7 @@
 use Rattle.std.specs.Prelude.{Some, true, codes}
 use Rattle.clap.specs.Walk.{Rule, Text}
 use Rattle.clap.specs.Simple.{App, new_app, new_rule, with_rule, on_top}
-use Rattle.clap.specs.declared.builder.action.ArgAction.TheVariants.{Set, SetTrue}
+use Rattle.clap.specs.declared.builder.action.ArgAction.TheVariants.{Set, Append, SetTrue}
 
 -- a word that must stand
 abbrev pub place : Text → Rule
@@ -19,6 +19,10 @@ required_option id = record (option id) { required = true }
 -- `--` and this, without a value
 abbrev pub flag : Text → Rule
 flag id = record (new_rule id) { long = Some id; action = Some SetTrue }
+
+-- `--` and this, with a value; it may stand several times
+abbrev pub repeated_option : Text → Rule
+repeated_option id = record (option id) { action = Some Append }
 
 -- a command without words so far; no flag asks for help
 abbrev pub top : Text → App
@@ -43,6 +47,14 @@ with_serving app = with_rule (with_rule (with_rule (with_rule app (option (codes
 -- and how it is served for weeks
 abbrev pub with_lasting : App → App
 with_lasting app = with_rule (with_rule (with_rule app (flag (codes "endless"))) (option (codes "idle"))) (option (codes "stop"))
+
+-- the list of trusted documents, and whether only its documents may be asked
+abbrev pub with_list : App → App
+with_list app = with_rule (with_rule app (option (codes "trusted"))) (flag (codes "trusted-only"))
+
+-- what is told to the upstream of a client's request, and to the client of its account
+abbrev pub with_telling : App → App
+with_telling app = with_rule (with_rule app (repeated_option (codes "pass"))) (flag (codes "hints"))
 
 -- `check SCHEMA`
 abbrev pub check_app : App
@@ -70,11 +82,11 @@ meter_app = with_options (with_rule (with_files (top (codes "meter"))) (place (c
 
 -- `replay SCHEMA CLIENTS SCRIPT`
 abbrev pub replay_app : App
-replay_app = with_rule (with_rule (with_rule (with_rule (top (codes "replay")) (place (codes "schema"))) (place (codes "clients"))) (place (codes "script"))) (option (codes "unsized"))
+replay_app = with_list (with_rule (with_rule (with_rule (with_rule (top (codes "replay")) (place (codes "schema"))) (place (codes "clients"))) (place (codes "script"))) (option (codes "unsized")))
 
 -- `serve SCHEMA CLIENTS --listen ADDR --upstream ADDR`
 abbrev pub serve_app : App
-serve_app = with_lasting (with_serving (with_gateway (top (codes "serve"))))
+serve_app = with_telling (with_list (with_lasting (with_serving (with_gateway (top (codes "serve"))))))
 
 -- `exercise N`
 abbrev pub exercise_app : App

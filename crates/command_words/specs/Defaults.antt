@@ -34,3 +34,7 @@ endless_connections = 4294967295
 -- how many clients may wait for their next turn
 abbrev pub greatest_waiting : ℕ
 greatest_waiting = 1000000
+
+-- how many names of fields to pass on may be given
+abbrev pub greatest_passed : ℕ
+greatest_passed = 16

@@ -1,17 +1,20 @@
 -- The commands, and the words that ask for them.
-use Rattle.std.specs.Prelude.{◌≡◌, ◌≤◌, ◌<◌, ◌⊎◌, ⊤, ℕ, List, [], ◌∷◌, Option, None, Some, codes}
+use Rattle.std.specs.Prelude.{◌≡◌, ◌≤◌, ◌<◌, ◌⊎◌, ◌↔◌, ⊤, ℕ, List, [], ◌∷◌, Option, None, Some, IsTrue, length, unwrap_or, codes}
+use Rattle.std.specs.List.{list_all}
 use Rattle.std.specs.Str.Parse.{IsNumeral, digits_value}
-use Rattle.clap.specs.Walk.{Row, first_of}
+use Rattle.clap.specs.Walk.{Row, first_of, all_of}
 use Rattle.clap.specs.Simple.{App, matches_of}
 use Rattle.clap.specs.Faults.{fault_of}
 use Rattle.command_words.specs.declared.command.Command.{Command}
 use Rattle.command_words.specs.declared.command.Command.TheVariants.{Help, Version, Check, Price, Introspect, Worst, Forward, Meter, Replay, Serve, Exercise, Migrate}
 use Rattle.command_words.specs.declared.command.Asked.{Asked}
+use Rattle.http_front.specs.Passed.{may_be_passed}
+use Rattle.command_words.specs.declared.command.AskedList.{AskedList}
 use Rattle.command_words.specs.declared.command.AskedReplay.{AskedReplay}
 use Rattle.command_words.specs.declared.command.AskedServe.{AskedServe}
 use Rattle.response_model.specs.declared.part.Part.{Part}
 use Rattle.response_model.specs.declared.part.Part.TheVariants.{Types, Fields}
-use Rattle.command_words.specs.Defaults.{usual_size, greatest_size, greatest_exercise, usual_target, usual_workers, greatest_workers, greatest_connections, endless_connections, greatest_waiting}
+use Rattle.command_words.specs.Defaults.{usual_size, greatest_size, greatest_exercise, usual_target, usual_workers, greatest_workers, greatest_connections, endless_connections, greatest_waiting, greatest_passed}
 use Rattle.command_words.specs.Apps.{check_app, price_app, introspect_app, worst_app, forward_app, meter_app, replay_app, serve_app, exercise_app, migrate_app}
 
 -- The text is this number, in one decimal digit or more, and it is no greater than that.
@@ -62,6 +65,17 @@ IsConnections rows n =
     (Stands (first_of (codes "endless") rows) × (first_of (codes "connections") rows ≡ None) × (n ≡ endless_connections))
     ⊎ ((Stands (first_of (codes "endless") rows) → ⊥) × IsWithin 1 greatest_connections greatest_connections (first_of (codes "connections") rows) n)
 
+-- the list of trusted documents that is named; that only its documents may be asked is said beside its name alone
+abbrev pub IsList : Rows → Option AskedList → Type 0
+IsList rows None = (first_of (codes "trusted") rows ≡ None) × (Stands (first_of (codes "trusted-only") rows) → ⊥)
+IsList rows (Some list) = (first_of (codes "trusted") rows ≡ Some list.file) × (IsTrue list.only ↔ Stands (first_of (codes "trusted-only") rows))
+
+-- the names of the fields that are passed on are these words, in their order: not too many, and each of fields that may be passed on
+pub record ArePassed (words names : List (List ℕ)) : Type 0 where
+  pub given : names ≡ words
+  pub few : length names ≤ greatest_passed
+  pub may_be : IsTrue (list_all may_be_passed names)
+
 -- They give the files of this operation, and how it is asked for.
 pub record GivesOperation (rows : Rows) (asked : Asked) : Type 0 where
   pub schema : first_of (codes "schema") rows ≡ Some asked.schema
@@ -82,6 +96,7 @@ pub record GivesAskedReplay (rows : Rows) (asked : AskedReplay) : Type 0 where
   pub schema : first_of (codes "schema") rows ≡ Some asked.schema
   pub clients : first_of (codes "clients") rows ≡ Some asked.clients
   pub script : first_of (codes "script") rows ≡ Some asked.script
+  pub is_list : IsList rows asked.list
   pub undeclared : IsUndeclared (first_of (codes "unsized") rows) asked.undeclared
 
 -- They give this serving of a gateway.
@@ -95,6 +110,9 @@ pub record GivesAskedServe (rows : Rows) (asked : AskedServe) : Type 0 where
   pub connections : IsConnections rows asked.connections
   pub waiting : IsWaiting (first_of (codes "idle") rows) asked.waiting
   pub stop : first_of (codes "stop") rows ≡ asked.stop
+  pub is_list : IsList rows asked.list
+  pub are_passed : ArePassed (unwrap_or (all_of (codes "pass") rows) []) asked.passed.items
+  pub hints : IsTrue asked.hints ↔ Stands (first_of (codes "hints") rows)
   pub undeclared : IsUndeclared (first_of (codes "unsized") rows) asked.undeclared
 
 abbrev pub part_word : Part → List ℕ

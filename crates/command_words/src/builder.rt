@@ -3,7 +3,7 @@
 ghost use Rattle.std.specs.Prelude.{◌≡◌, IfOk, false, codes};
 ghost use Rattle.clap.specs.Simple.{app_of, with_rule};
 ghost use Rattle.clap.specs.Walk.{rule_of};
-ghost use Rattle.command_words.specs.Apps.{with_files, with_options, with_gateway, with_serving, with_lasting, check_app, price_app, introspect_app, worst_app, forward_app, meter_app, replay_app, serve_app, exercise_app, migrate_app};
+ghost use Rattle.command_words.specs.Apps.{with_files, with_options, with_gateway, with_serving, with_lasting, with_list, with_telling, check_app, price_app, introspect_app, worst_app, forward_app, meter_app, replay_app, serve_app, exercise_app, migrate_app};
 
 use clap::{Arg, ArgAction, Command};
 use std::alloc::{AllocError, Global};
@@ -41,6 +41,14 @@ fn flag<'a>(alloc: Global, id: &'a str) -> Arg<'a>
     ensures local { result.global ≡ false }
 {
     Arg::new(alloc, id).long(id).action(ArgAction::SetTrue)
+}
+
+// `--` and this, with a value; it may stand several times.
+fn repeated_option<'a>(alloc: Global, id: &'a str) -> Arg<'a>
+    ensures rule { rule_of result ≡ Rattle.command_words.specs.Apps.repeated_option id.entry.now }
+    ensures local { result.global ≡ false }
+{
+    Arg::new(alloc, id).long(id).action(ArgAction::Append)
 }
 
 // A command without words so far.
@@ -103,6 +111,17 @@ fn with_flag<'a>(
     with(command, flag(alloc, id))
 }
 
+// An option that may stand several times, beside those of the command.
+fn with_repeated_option<'a>(
+    alloc: Global,
+    command: Command<'a>,
+    id: &'a str,
+) -> Result<Command<'a>, AllocError>
+    ensures { IfOk result (λ c. app_of c ≡ with_rule (app_of command.entry) (Rattle.command_words.specs.Apps.repeated_option id.entry.now)) }
+{
+    with(command, repeated_option(alloc, id))
+}
+
 // The files of an operation.
 fn with_files<'a>(alloc: Global, command: Command<'a>) -> Result<Command<'a>, AllocError>
     ensures { IfOk result (λ c. app_of c ≡ with_files (app_of command.entry)) }
@@ -147,6 +166,22 @@ fn with_lasting<'a>(alloc: Global, command: Command<'a>) -> Result<Command<'a>, 
     let command = with_flag(alloc, command, "endless")?;
     let command = with_option(alloc, command, "idle")?;
     with_option(alloc, command, "stop")
+}
+
+// The list of trusted documents.
+fn with_list<'a>(alloc: Global, command: Command<'a>) -> Result<Command<'a>, AllocError>
+    ensures { IfOk result (λ c. app_of c ≡ with_list (app_of command.entry)) }
+{
+    let command = with_option(alloc, command, "trusted")?;
+    with_flag(alloc, command, "trusted-only")
+}
+
+// What is told to the upstream of a client's request, and to the client of its account.
+fn with_telling<'a>(alloc: Global, command: Command<'a>) -> Result<Command<'a>, AllocError>
+    ensures { IfOk result (λ c. app_of c ≡ with_telling (app_of command.entry)) }
+{
+    let command = with_repeated_option(alloc, command, "pass")?;
+    with_flag(alloc, command, "hints")
 }
 
 /// `check SCHEMA`
@@ -206,7 +241,8 @@ pub fn replay_command<'a>(alloc: Global) -> Result<Command<'a>, AllocError>
     let command = with_place(alloc, top(alloc, "replay"), "schema")?;
     let command = with_place(alloc, command, "clients")?;
     let command = with_place(alloc, command, "script")?;
-    with_option(alloc, command, "unsized")
+    let command = with_option(alloc, command, "unsized")?;
+    with_list(alloc, command)
 }
 
 /// `serve SCHEMA CLIENTS --listen ADDR --upstream ADDR`
@@ -215,7 +251,9 @@ pub fn serve_command<'a>(alloc: Global) -> Result<Command<'a>, AllocError>
 {
     let command = with_gateway(alloc, top(alloc, "serve"))?;
     let command = with_serving(alloc, command)?;
-    with_lasting(alloc, command)
+    let command = with_lasting(alloc, command)?;
+    let command = with_list(alloc, command)?;
+    with_telling(alloc, command)
 }
 
 /// `exercise N`

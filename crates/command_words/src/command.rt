@@ -23,6 +23,8 @@ pub const GREATEST_CONNECTIONS: u32 = 1_000_000;
 pub const ENDLESS_CONNECTIONS: u32 = 4_294_967_295;
 /// How many clients may wait for their next turn.
 pub const GREATEST_WAITING: u32 = 1_000_000;
+/// How many names of fields to pass on may be given.
+pub const GREATEST_PASSED: usize = 16;
 
 /// An operation, by the names of its files and by how it is asked for.
 #[derive(Drop)]
@@ -37,6 +39,14 @@ pub struct Asked {
     pub undeclared: u32,
 }
 
+/// A list of trusted documents, by the name of its file.
+#[derive(Drop)]
+pub struct AskedList {
+    pub file: Text,
+    /// Whether only its documents may be asked.
+    pub only: bool,
+}
+
 /// A replay, by the names of its files.
 #[derive(Drop)]
 pub struct AskedReplay {
@@ -44,6 +54,8 @@ pub struct AskedReplay {
     pub clients: Text,
     /// The file of the requests, and of what becomes of them.
     pub script: Text,
+    /// The list of trusted documents, if there is one.
+    pub list: Option<AskedList>,
     /// The size of lists that declare none.
     pub undeclared: u32,
 }
@@ -67,6 +79,12 @@ pub struct AskedServe {
     pub waiting: Option<u32>,
     /// The file whose being there asks for the end.
     pub stop: Option<Text>,
+    /// The list of trusted documents, if there is one.
+    pub list: Option<AskedList>,
+    /// The names of the fields of clients' requests that are passed on.
+    pub passed: Vec<Text>,
+    /// Whether a client whose account is short is told when it may try again.
+    pub hints: bool,
     /// The size of lists that declare none.
     pub undeclared: u32,
 }

@@ -19,7 +19,8 @@ use Rattle.operation_commands.specs.declared.own_answers.OwnFault.{OwnFault}
 use Rattle.operation_commands.specs.declared.own_answers.OwnFault.TheVariants.{Refused, Memory}
 use Rattle.operation_commands.specs.declared.own_answers.OwnRefusal.TheVariants as refusal
 use Rattle.operation_commands.specs.Asked.{HoldInputs, request_in}
-use Rattle.operation_commands.specs.OwnAnswers.{AreKnownOf, IsOwn, IsNotOwn, TellsLocal, IfOwnRefused}
+use Rattle.command_outcomes.specs.Known.{AreKnownOf}
+use Rattle.operation_commands.specs.OwnAnswers.{IsOwn, IsNotOwn, TellsLocal, IfOwnRefused}
 use Rattle.operation_commands.specs.Price.{IsUnpricedAs, IsPriceRefusal}
 use Rattle.operation_commands.specs.Introspect.{IsUnansweredOf, IsIntrospectRefusal}
 

@@ -13,13 +13,14 @@ use Rattle.command_words.specs.declared.command.Asked.{Asked}
 use Rattle.command_outcomes.specs.declared.outcome.Outcome.{Outcome}
 use Rattle.command_outcomes.specs.declared.outcome.Outcome.TheVariants.{Memory}
 use Rattle.command_outcomes.specs.Outcomes.{FilesTold, NoFileFailed, IsDone, IsRefusedAs}
+use Rattle.command_outcomes.specs.Known.{AreKnownOf}
 use Rattle.operation_commands.specs.declared.asked.AskedTexts.{AskedTexts}
 use Rattle.operation_commands.specs.declared.asking.Inputs.{Inputs}
 use Rattle.operation_commands.specs.declared.asking.AskedRefusal.TheVariants.{NoOperation}
 use Rattle.operation_commands.specs.declared.own_answers.OwnRefusal.{OwnRefusal}
 use Rattle.operation_commands.specs.declared.own_answers.OwnRefusal.TheVariants as refusal
 use Rattle.operation_commands.specs.Asked.{HoldTexts, HaveNoTexts, HoldInputs, request_in, IsRefusalOf, IsUnreadOf}
-use Rattle.operation_commands.specs.OwnAnswers.{AreKnownOf, own_text}
+use Rattle.operation_commands.specs.OwnAnswers.{own_text}
 
 -- The operation of the texts is answered so from their schema.
 abbrev pub HasAnswer : Asked → AskedTexts → Local → Type 0

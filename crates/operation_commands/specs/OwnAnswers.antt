@@ -1,19 +1,16 @@
 -- Operations that are answered from the schema itself, and why others aren't.
 use Rattle.std.specs.Prelude.{◌≡◌, ◌≢◌, ℕ, List, Option, None, Some, codes}
-use Rattle.schema_facts.specs.Facts.{AreFacts}
-use Rattle.schema_facts.specs.FactsViews.{facts_data}
 use Rattle.static_cost.specs.CostBound.{IsWithin}
 use Rattle.acceptance.specs.Requests.{RequestData}
 use Rattle.operation_class.specs.Routes.{GoesUpstream}
-use Rattle.local_introspection.specs.declared.facts.Facts.{Facts}
 use Rattle.local_introspection.specs.declared.fault.LocalFault.TheVariants.{Memory as NoLocalMemory}
 use Rattle.local_introspection.specs.declared.walk.Local.{Local}
-use Rattle.local_introspection.specs.LocalRequests.{LocalRequest, IsMade}
+use Rattle.local_introspection.specs.LocalRequests.{LocalRequest}
 use Rattle.local_introspection.specs.LocalAnswers.{IsRefusedFor}
 use Rattle.local_introspection.specs.LocalTexts.{local_text}
 use Rattle.local_introspection.specs.AskedHere.{IsAnsweredHere, IsRefusedHere}
 use Rattle.command_words.specs.declared.command.Asked.{Asked}
-use Rattle.command_outcomes.specs.Check.{OfDefinitions}
+use Rattle.command_outcomes.specs.Known.{AreKnownOf}
 use Rattle.operation_commands.specs.declared.asking.AskedFault.{AskedFault}
 use Rattle.operation_commands.specs.declared.asking.AskedFault.TheVariants as asked_fault
 use Rattle.operation_commands.specs.declared.own_answers.OwnRefusal.{OwnRefusal}
@@ -21,11 +18,6 @@ use Rattle.operation_commands.specs.declared.own_answers.OwnRefusal.TheVariants 
 use Rattle.operation_commands.specs.declared.own_answers.OwnFault.{OwnFault}
 use Rattle.operation_commands.specs.declared.own_answers.OwnFault.TheVariants.{Refused, Memory}
 use Rattle.operation_commands.specs.Asked.{asked_text}
-
--- They are what is known of the schema that the text holds.
-pub record AreKnownOf (text : List ℕ) (facts : Facts) : Type 0 where
-  pub known : OfDefinitions text (λ definitions. AreFacts definitions (facts_data facts.known))
-  pub made : IsMade facts
 
 -- what is answered of a request from the schema of the text, if it doesn't go to the upstream
 abbrev pub IsOwn : List ℕ → RequestData → Option Local → Type 0

@@ -13,12 +13,13 @@ use Rattle.local_introspection.specs.AskedHere.{IsAnsweredHere, IsRefusedHere}
 use Rattle.operation_commands.specs.declared.asking.AskedRefusal.TheVariants.{NoOperation}
 use Rattle.operation_commands.specs.declared.own_answers.OwnRefusal.{OwnRefusal}
 use Rattle.operation_commands.specs.declared.own_answers.OwnRefusal.TheVariants as refusal
-use Rattle.operation_commands.specs.OwnAnswers.{AreKnownOf, own_text}
+use Rattle.operation_commands.specs.OwnAnswers.{own_text}
 use Rattle.operation_commands.specs.declared.asked.AskedTexts.{AskedTexts}
 use Rattle.operation_commands.specs.declared.asking.Inputs.{Inputs}
 use Rattle.command_outcomes.specs.declared.outcome.Outcome.{Outcome}
 use Rattle.command_outcomes.specs.declared.outcome.Outcome.TheVariants.{Memory}
 use Rattle.command_outcomes.specs.Outcomes.{FilesTold, NoFileFailed, IsDone, IsRefusedAs}
+use Rattle.command_outcomes.specs.Known.{AreKnownOf}
 use Rattle.operation_commands.specs.Asked.{HoldTexts, HaveNoTexts, HoldInputs, request_in, IsRefusalOf, IsUnreadOf}
 
 -- The operation goes to the upstream and is accepted with this bound, or it is answered from the schema at this cost.

@@ -10,16 +10,15 @@ ghost use Rattle.local_introspection.specs.LocalAnswers.{IsAnsweredWith};
 ghost use Rattle.local_introspection.specs.AskedHere.{asked_at};
 ghost use Rattle.command_outcomes.specs.Reading.{IsText};
 ghost use Rattle.command_outcomes.specs.Outcomes.{IsRefusedAs};
-ghost use Rattle.operation_commands.specs.OwnAnswers.{AreKnownOf, IsOwn, IsOwnWithin, IsNotOwn, TellsLocal, IfOwnRefused, IsAskedFault, own_text};
+ghost use Rattle.operation_commands.specs.OwnAnswers.{IsOwn, IsOwnWithin, IsNotOwn, TellsLocal, IfOwnRefused, IsAskedFault, own_text};
 
 use crate::asked::AskedTexts;
 use crate::asking::{AskedFault, AskedRefusal, refused_asked};
 use acceptance::Request;
-use command_outcomes::{Outcome, SCHEMA_LIMIT, refused_as};
+use command_outcomes::{Outcome, SCHEMA_LIMIT, known_of, refused_as};
 use command_words::Asked;
 use local_introspection::{Facts, Local, LocalFault, answer, local_text};
 use operation_class::{Route, route_of};
-use schema_reader::read_schema_text;
 use std::alloc::{AllocError, Global};
 use thiserror::Error;
 
@@ -55,21 +54,6 @@ pub(crate) fn asked_fault(fault: AskedFault) -> OwnFault
     match fault {
         AskedFault::Refused(refusal) => OwnFault::Refused(OwnRefusal::Asked(refusal)),
         AskedFault::Memory => OwnFault::Memory,
-    }
-}
-
-// What is known of the schema that a text holds. It was read before, so that it fails for want of memory alone.
-fn known_of(alloc: Global, text: &str) -> Result<Facts, AllocError>
-    requires text { IsText SCHEMA_LIMIT text.now }
-    ensures { IfOk result (AreKnownOf text.now) }
-{
-    let definitions = match read_schema_text(alloc, text) {
-        Ok(definitions) => definitions,
-        Err(_) => return Err(AllocError),
-    };
-    match Facts::make(alloc, definitions) {
-        Ok(facts) => Ok(facts),
-        Err(AllocError) => Err(AllocError),
     }
 }
 

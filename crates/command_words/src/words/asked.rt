@@ -1,15 +1,16 @@
 //! The operation or the replay that words ask for.
 
-ghost use Rattle.std.specs.Prelude.{◌≡◌, IfOk, Err, Some, None, option_map, codes, ℕ};
+ghost use Rattle.std.specs.Prelude.{◌≡◌, IfOk, Err, Some, None, Option, option_map, codes, ℕ};
 ghost use Rattle.clap.specs.Walk.{rows_of, first_of};
 ghost use Rattle.clap.specs.Matches.{found_of};
 ghost use Rattle.command_words.specs.declared.command.Asked.{Asked as AskedType};
 ghost use Rattle.command_words.specs.declared.command.AskedReplay.{AskedReplay as AskedReplayType};
-ghost use Rattle.command_words.specs.Words.{IsUndeclared, GivesOperation, GivesAsked, GivesAskedReplay};
+ghost use Rattle.command_words.specs.declared.command.AskedList.{AskedList as AskedListType};
+ghost use Rattle.command_words.specs.Words.{IsUndeclared, IsList, GivesOperation, GivesAsked, GivesAskedReplay};
 
-use crate::command::{Asked, AskedReplay, GREATEST_UNSIZED, UNDECLARED, WordsFault};
+use crate::command::{Asked, AskedList, AskedReplay, GREATEST_UNSIZED, UNDECLARED, WordsFault};
 use crate::number::number_of;
-use crate::words::matches::word_of;
+use crate::words::matches::{stands, word_of};
 use clap::ArgMatches;
 use gql_base::Text;
 use std::alloc::{AllocError, Global};
@@ -114,6 +115,20 @@ pub fn asked_of(alloc: Global, matches: &ArgMatches) -> Result<Asked, WordsFault
     }
 }
 
+/// The list of trusted documents that words name.
+pub fn list_of(alloc: Global, matches: &ArgMatches) -> Result<Option<AskedList>, WordsFault>
+    ensures found { IfOk result (IsList (rows_of (found_of matches.now))) }
+    ensures usage { result ≡ Err WordsFault.Usage → (list : Option AskedListType) → IsList (rows_of (found_of matches.now)) list → ⊥ }
+{
+    let only = stands(matches, "trusted-only");
+    match option_text(alloc, matches, "trusted") {
+        Ok(Some(file)) => Ok(Some(AskedList { file, only })),
+        Ok(None) if only => Err(WordsFault::Usage),
+        Ok(None) => Ok(None),
+        Err(_) => Err(WordsFault::Memory),
+    }
+}
+
 /// The replay that words ask for.
 pub fn asked_replay_of(alloc: Global, matches: &ArgMatches) -> Result<AskedReplay, WordsFault>
     ensures found { IfOk result (λ asked. GivesAskedReplay (rows_of (found_of matches.now)) asked) }
@@ -131,11 +146,16 @@ pub fn asked_replay_of(alloc: Global, matches: &ArgMatches) -> Result<AskedRepla
         Ok(script) => script,
         Err(fault) => return Err(fault),
     };
+    let list = match list_of(alloc, matches) {
+        Ok(list) => list,
+        Err(fault) => return Err(fault),
+    };
     match undeclared_of(matches) {
         Ok(undeclared) => Ok(AskedReplay {
             schema,
             clients,
             script,
+            list,
             undeclared,
         }),
         Err(fault) => Err(fault),

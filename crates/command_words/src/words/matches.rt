@@ -1,10 +1,11 @@
 //! What the words behind a command's name give, by clap.
 
-ghost use Rattle.std.specs.Prelude.{◌≡◌, IfOk, Err, map, true, [], option_map};
+ghost use Rattle.std.specs.Prelude.{◌≡◌, ◌↔◌, IfOk, Err, IsTrue, map, true, [], option_map};
 ghost use Rattle.clap.specs.Simple.{app_of, matches_of};
 ghost use Rattle.clap.specs.Walk.{rows_of, first_of};
 ghost use Rattle.clap.specs.Matches.{found_of};
 ghost use Rattle.clap.specs.Faults.{fault_of, is_simple_and_free};
+ghost use Rattle.command_words.specs.Words.{Stands};
 
 use crate::command::WordsFault;
 use clap::error::ErrorKind;
@@ -37,4 +38,14 @@ pub fn word_of<'a>(matches: &ArgMatches<'a>, id: &str) -> Option<&'a str>
     ensures { option_map (λ s. s.now) result ≡ first_of id.now (rows_of (found_of matches.now)) }
 {
     matches.get_str(id)
+}
+
+/// Whether a flag stands.
+pub fn stands(matches: &ArgMatches, id: &str) -> bool
+    ensures { IsTrue result ↔ Stands (first_of id.now (rows_of (found_of matches.now))) }
+{
+    match word_of(matches, id) {
+        Some(word) => word == "true",
+        None => false,
+    }
 }

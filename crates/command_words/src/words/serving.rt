@@ -1,21 +1,24 @@
 //! The serving of a gateway that words ask for.
 
-ghost use Rattle.std.specs.Prelude.{◌≡◌, ◌↔◌, IfOk, Err, None, codes, ℕ, Option, IsTrue};
+ghost use Rattle.std.specs.Prelude.{◌≡◌, ◌↔◌, IfOk, Err, None, List, [], map, unwrap_or, codes, ℕ, Option, IsTrue};
+ghost use Rattle.std.specs.List.{list_all};
 ghost use Rattle.command_words.specs.Defaults.{endless_connections};
-ghost use Rattle.clap.specs.Walk.{rows_of, first_of};
+ghost use Rattle.clap.specs.Walk.{rows_of, first_of, all_of};
 ghost use Rattle.clap.specs.Matches.{found_of};
+ghost use Rattle.http_front.specs.Passed.{may_be_passed};
 ghost use Rattle.command_words.specs.declared.command.AskedServe.{AskedServe as AskedServeType};
-ghost use Rattle.command_words.specs.Words.{IsTarget, IsWithin, IsWorkers, IsConnections, IsWaiting, Stands, GivesAskedServe};
+ghost use Rattle.command_words.specs.Words.{IsTarget, IsWithin, IsWorkers, IsConnections, IsWaiting, ArePassed, GivesAskedServe};
 
 use crate::command::{
-    AskedServe, ENDLESS_CONNECTIONS, GREATEST_CONNECTIONS, GREATEST_WAITING, GREATEST_WORKERS,
-    TARGET, WORKERS, WordsFault,
+    AskedServe, ENDLESS_CONNECTIONS, GREATEST_CONNECTIONS, GREATEST_PASSED, GREATEST_WAITING,
+    GREATEST_WORKERS, TARGET, WORKERS, WordsFault,
 };
 use crate::number::number_of;
-use crate::words::asked::{option_text, place_text, undeclared_of};
-use crate::words::matches::word_of;
+use crate::words::asked::{list_of, option_text, place_text, undeclared_of};
+use crate::words::matches::{stands, word_of};
 use clap::ArgMatches;
 use gql_base::Text;
+use http_front::may_be_passed;
 use std::alloc::{AllocError, Global};
 
 // The target of requests to the upstream.
@@ -51,16 +54,6 @@ fn workers_of(matches: &ArgMatches) -> Result<u32, WordsFault>
     count_of(matches, "workers", GREATEST_WORKERS, WORKERS)
 }
 
-// Whether there is to be no end.
-fn is_endless(matches: &ArgMatches) -> bool
-    ensures { IsTrue result ↔ Stands (first_of (codes "endless") (rows_of (found_of matches.now))) }
-{
-    match word_of(matches, "endless") {
-        Some(word) => word == "true",
-        None => false,
-    }
-}
-
 // Without an end no number is given.
 fn without_end(matches: &ArgMatches) -> Result<u32, WordsFault>
     ensures found { IfOk result (λ n. (first_of (codes "connections") (rows_of (found_of matches.now)) ≡ None) × (n ≡ endless_connections)) }
@@ -77,7 +70,7 @@ fn connections_of(matches: &ArgMatches) -> Result<u32, WordsFault>
     ensures found { IfOk result (IsConnections (rows_of (found_of matches.now))) }
     ensures usage { result ≡ Err WordsFault.Usage → (n : ℕ) → IsConnections (rows_of (found_of matches.now)) n → ⊥ }
 {
-    if is_endless(matches) {
+    if stands(matches, "endless") {
         return without_end(matches);
     }
     let most = GREATEST_CONNECTIONS;
@@ -99,6 +92,54 @@ fn waiting_of(matches: &ArgMatches) -> Result<Option<u32>, WordsFault>
     }
 }
 
+// Whether fields of each of these names may be passed on.
+fn may_all_be_passed(names: &[&str]) -> bool
+    ensures { result ≡ list_all may_be_passed (map (λ s. s.now) names.now) }
+{
+    'names: for name in names {
+        if !may_be_passed(name) {
+            return false;
+        }
+    }
+    true
+}
+
+// Copies of words.
+fn copies_of(alloc: Global, words: &[&str]) -> Result<Vec<Text>, AllocError>
+    ensures { IfOk result (λ texts. texts.items ≡ map (λ s. s.now) words.now) }
+{
+    let mut texts = Vec::new(alloc);
+    'words: for word in words {
+        texts.push(Text::copy_of(alloc, word)?)?;
+    }
+    Ok(texts)
+}
+
+// The names of the fields that are passed on, by the words that give them.
+fn names_of(alloc: Global, words: &[&str]) -> Result<Vec<Text>, WordsFault>
+    ensures found { IfOk result (λ names. ArePassed (map (λ s. s.now) words.now) names.items) }
+    ensures usage { result ≡ Err WordsFault.Usage → (names : List (List ℕ)) → ArePassed (map (λ s. s.now) words.now) names → ⊥ }
+{
+    if words.len() > GREATEST_PASSED || !may_all_be_passed(words) {
+        return Err(WordsFault::Usage);
+    }
+    match copies_of(alloc, words) {
+        Ok(names) => Ok(names),
+        Err(_) => Err(WordsFault::Memory),
+    }
+}
+
+// The names of the fields that are passed on.
+fn passed_of(alloc: Global, matches: &ArgMatches) -> Result<Vec<Text>, WordsFault>
+    ensures found { IfOk result (λ names. ArePassed (unwrap_or (all_of (codes "pass") (rows_of (found_of matches.now))) []) names.items) }
+    ensures usage { result ≡ Err WordsFault.Usage → (names : List (List ℕ)) → ArePassed (unwrap_or (all_of (codes "pass") (rows_of (found_of matches.now))) []) names → ⊥ }
+{
+    match matches.get_strs("pass") {
+        Some(words) => names_of(alloc, words),
+        None => Ok(Vec::new(alloc)),
+    }
+}
+
 /// The serving that words ask for.
 pub fn asked_serve_of(alloc: Global, matches: &ArgMatches) -> Result<AskedServe, WordsFault>
     ensures found { IfOk result (λ asked. GivesAskedServe (rows_of (found_of matches.now)) asked) }
@@ -111,6 +152,8 @@ pub fn asked_serve_of(alloc: Global, matches: &ArgMatches) -> Result<AskedServe,
     let workers = workers_of(matches)?;
     let connections = connections_of(matches)?;
     let waiting = waiting_of(matches)?;
+    let list = list_of(alloc, matches)?;
+    let passed = passed_of(alloc, matches)?;
     let undeclared = undeclared_of(matches)?;
     let target = target_of(alloc, matches)?;
     let stop = option_text(alloc, matches, "stop")?;
@@ -124,6 +167,9 @@ pub fn asked_serve_of(alloc: Global, matches: &ArgMatches) -> Result<AskedServe,
         connections,
         waiting,
         stop,
+        list,
+        passed,
+        hints: stands(matches, "hints"),
         undeclared,
     })
 }
