@@ -14,7 +14,7 @@ use Rattle.replay_scripts.specs.Faults.{HasFault}
 use Rattle.command_words.specs.declared.command.TheConstants.{UNDECLARED}
 use Rattle.account_commands.specs.declared.rule_inputs.RulesRefusal.TheVariants.{NoSchema, NoClients}
 use Rattle.account_commands.specs.declared.replay_inputs.ReplayRefusal.{ReplayRefusal}
-use Rattle.account_commands.specs.declared.replay_inputs.ReplayRefusal.TheVariants.{NoRules, NoScript}
+use Rattle.account_commands.specs.declared.replay_inputs.ReplayRefusal.TheVariants.{NoRules, NoScript, NoList}
 use Rattle.account_commands.specs.Replay.{IsReplayRefusal}
 use Rattle.account_commands.specs.Exercise.{exercise_texts, IsOfItsSchema}
 use Rattle.account_commands.proofs.ExerciseScripts.{exercise_script}
@@ -28,3 +28,4 @@ module _ (served_or_not : (text : List ℕ) (seconds : ℕ) (clients : List Clie
   schema_alone requests (NoScript fault) small refused =
       let script = exercise_script requests small in
       absurd (script_or_not (script_text requests) script.0 fault script.1 refused.2)
+  schema_alone requests (NoList fault) small refused = absurd refused.3

@@ -1,10 +1,11 @@
 mod Migrations
 mod Replays
 mod RuleRefusals
-mod ReplayRefusals
+pub mod ReplayRefusals
 mod OneRules
 mod OneReplay
 mod ExerciseScripts
 mod ExerciseClients
 mod Exercises
 mod ReplayLines
+pub mod ListFiles

@@ -1,5 +1,5 @@
 -- What an exercise command comes to.
-use Rattle.std.specs.Prelude.{◌≡◌, ◌⊎◌, ℕ, List, ◌++◌, codes}
+use Rattle.std.specs.Prelude.{◌≡◌, ◌⊎◌, ℕ, List, None, ◌++◌, codes}
 use Rattle.std.specs.Fmt.{decimal}
 use Rattle.cost_num.specs.CostText.{cost_text}
 use Rattle.cost_vectors.specs.Texts.{schema_text, clients_text}
@@ -22,6 +22,7 @@ abbrev pub exercise_texts : ℕ → ReplayTexts
 exercise_texts requests = record {
   rules = record { schema = schema_text; clients = clients_text };
   script = script_text requests;
+  list = None;
 }
 
 -- how many steps there were, and how many requests were granted, short and refused

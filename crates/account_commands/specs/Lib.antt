@@ -1,4 +1,5 @@
 pub mod Migrate
 pub mod RuleFiles
+pub mod Lists
 pub mod Replay
 pub mod Exercise

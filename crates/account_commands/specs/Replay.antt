@@ -15,6 +15,7 @@ use Rattle.replay_scripts.specs.Answers.{steps_of}
 use Rattle.replay_scripts.specs.Scripts.{IsScript}
 use Rattle.replay_scripts.specs.Faults.{HasFault}
 use Rattle.replay_scripts.specs.FaultTexts as script_faults
+use Rattle.trusted_documents.specs.FaultTexts as list_faults
 use Rattle.gateway_core.specs.Rules.{Rules, client_limit, greatest}
 use Rattle.gateway_replay.specs.Turns.{Turn}
 use Rattle.gateway_replay.specs.Replays.{all_calls, ReplaysFresh}
@@ -24,7 +25,7 @@ use Rattle.account_commands.specs.declared.rule_texts.RuleTexts.{RuleTexts}
 use Rattle.account_commands.specs.declared.replay_texts.ReplayTexts.{ReplayTexts}
 use Rattle.account_commands.specs.declared.replay_inputs.ReplayInputs.{ReplayInputs}
 use Rattle.account_commands.specs.declared.replay_inputs.ReplayRefusal.{ReplayRefusal}
-use Rattle.account_commands.specs.declared.replay_inputs.ReplayRefusal.TheVariants.{NoRules, NoScript}
+use Rattle.account_commands.specs.declared.replay_inputs.ReplayRefusal.TheVariants.{NoRules, NoScript, NoList}
 use Rattle.account_commands.specs.declared.replay_inputs.ReplayFault.{ReplayFault}
 use Rattle.account_commands.specs.declared.replay_inputs.ReplayFault.TheVariants.{Refused, Memory as NoMemory}
 use Rattle.account_commands.specs.declared.replay_end.ReplayEnd.{ReplayEnd}
@@ -34,6 +35,8 @@ use Rattle.command_outcomes.specs.Texts.{line}
 use Rattle.command_outcomes.specs.Outcomes.{FilesTold, NoFileFailed, IsDone, IsRefusedAs}
 use Rattle.command_outcomes.specs.Reading.{IsTextOf, HasNoText, HoldsText}
 use Rattle.account_commands.specs.RuleFiles.{HoldRuleTexts, HaveNoRules, HoldRules, rules_in, HoldsSchema, HoldsClients, IsRulesRefusal, rules_refusal_text}
+use Rattle.account_commands.specs.declared.list_inputs.ListText.{ListText}
+use Rattle.account_commands.specs.Lists.{IsListText, HasNoListText, HoldsList, HasListFault}
 
 -- ---- the texts of the files
 
@@ -41,15 +44,21 @@ use Rattle.account_commands.specs.RuleFiles.{HoldRuleTexts, HaveNoRules, HoldRul
 pub record HoldReplayTexts (asked : AskedReplay) (content : List ℕ → Option (List ℕ)) (texts : ReplayTexts) : Type 0 where
   pub are_rules : HoldRuleTexts asked.schema asked.clients content texts.rules
   pub is_script : IsTextOf SCRIPT_LIMIT (content asked.script) texts.script
+  pub is_list : IsListText asked.list content texts.list
 
 -- The files of the schema and of the clients are texts.
 abbrev pub HoldBothTexts : AskedReplay → (List ℕ → Option (List ℕ)) → Type 0
 HoldBothTexts asked content = HoldsText SCHEMA_LIMIT (content asked.schema) × HoldsText CLIENTS_LIMIT (content asked.clients)
 
--- The first of the files that was not read, or holds no text: the schema, the clients, the script.
-abbrev pub HaveNoReplay : AskedReplay → FilesTold → Outcome → Type 0
-HaveNoReplay asked files outcome = HaveNoRules asked.schema asked.clients files outcome
+-- The first of these files that was not read, or holds no text: the schema, the clients, the script.
+abbrev pub HaveNoScript : AskedReplay → FilesTold → Outcome → Type 0
+HaveNoScript asked files outcome = HaveNoRules asked.schema asked.clients files outcome
     ⊎ (HoldBothTexts asked files.content × HasNoText SCRIPT_LIMIT asked.script files outcome)
+
+-- One of these was not read, or holds no text; or all of them are texts, and the file of the list was not read, or holds none.
+abbrev pub HaveNoReplay : AskedReplay → FilesTold → Outcome → Type 0
+HaveNoReplay asked files outcome = HaveNoScript asked files outcome
+    ⊎ ((HoldBothTexts asked files.content × HoldsText SCRIPT_LIMIT (files.content asked.script)) × HasNoListText asked.list files outcome)
 
 -- ---- what the texts hold
 
@@ -57,18 +66,25 @@ HaveNoReplay asked files outcome = HaveNoRules asked.schema asked.clients files 
 pub record HoldReplay (texts : ReplayTexts) (undeclared : ℕ) (inputs : ReplayInputs) : Type 0 where
   pub are_rules : HoldRules texts.rules undeclared inputs.rules
   pub is_script : IsScript texts.script (steps_of inputs.script)
+  pub is_list : HoldsList texts.list inputs.list
 
 -- ---- why they are refused
 
--- The first reason in this order: of the schema, of the client file, of the script.
+-- The text of the script is one.
+abbrev pub HoldsScript : ReplayTexts → Type 0
+HoldsScript texts = (steps : List StepData) × IsScript texts.script steps
+
+-- The first reason in this order: of the schema, of the client file, of the script, of the list.
 abbrev pub IsReplayRefusal : ReplayTexts → ℕ → ReplayRefusal → Type 0
 IsReplayRefusal texts undeclared (NoRules refusal) = IsRulesRefusal texts.rules undeclared refusal
 IsReplayRefusal texts undeclared (NoScript fault) = HoldsSchema texts.rules undeclared × HoldsClients texts.rules × HasFault texts.script fault
+IsReplayRefusal texts undeclared (NoList fault) = HoldsSchema texts.rules undeclared × HoldsClients texts.rules × HoldsScript texts × HasListFault texts.list fault
 
 -- the text of a refusal, where the schema's file has this name
 abbrev pub replay_refusal_text : List ℕ → ReplayRefusal → List ℕ
 replay_refusal_text name (NoRules refusal) = rules_refusal_text name refusal
 replay_refusal_text name (NoScript fault) = script_faults.fault_text fault
+replay_refusal_text name (NoList fault) = list_faults.trusted_fault_text fault
 
 -- where it is a refusal, this holds of it
 abbrev pub IfReplayRefused : ReplayFault → (ReplayRefusal → Type 0) → Type 0
@@ -99,7 +115,7 @@ pub record EndsAs (rules : Rules) (script : List StepData) (end : ReplayEnd) : T
 -- The texts hold a replay, and this holds of its end.
 abbrev pub IsReplayed : ReplayTexts → ℕ → (ReplayEnd → Type 0) → Type 0
 IsReplayed texts undeclared P = (inputs : ReplayInputs) × HoldReplay texts undeclared inputs
-    × ((end : ReplayEnd) × EndsAs (rules_in inputs.rules) (steps_of inputs.script) end × P end)
+    × ((end : ReplayEnd) × EndsAs (rules_in inputs.rules inputs.list) (steps_of inputs.script) end × P end)
 
 -- ---- how it is written
 
@@ -148,6 +164,11 @@ HaveNoRulesIn texts undeclared other = ⊥
 abbrev pub IsNoScript : List ℕ → ReplayRefusal → Type 0
 IsNoScript text (NoScript fault) = HasFault text fault
 IsNoScript text other = ⊥
+
+-- The text is no list, for this reason.
+abbrev pub IsNoList : Option ListText → ReplayRefusal → Type 0
+IsNoList text (NoList fault) = HasListFault text fault
+IsNoList text other = ⊥
 
 -- An end that can be written: it has 1 to 1,000 clients, and what was charged is within the cap.
 pub record IsPrintable (end : ReplayEnd) : Type 0 where

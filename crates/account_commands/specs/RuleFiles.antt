@@ -1,5 +1,5 @@
 -- The files of a schema and of clients, by which requests are decided.
-use Rattle.std.specs.Prelude.{◌⊎◌, ℕ, List, Option}
+use Rattle.std.specs.Prelude.{◌⊎◌, ℕ, List, Option, Some, option_map}
 use Rattle.client_files.specs.declared.client.Client.{Client}
 use Rattle.client_files.specs.Lines.{lines_of}
 use Rattle.client_files.specs.ClientFiles.{IsClientFile}
@@ -9,6 +9,8 @@ use Rattle.schema_model.specs.declared.schema.Schema.{Schema}
 use Rattle.schema_model.specs.SchemaViews.{schema_data}
 use Rattle.cost_directives.specs.declared.weights.Weights.{Weights}
 use Rattle.cost_directives.specs.WeightViews.{weights_data}
+use Rattle.trusted_documents.specs.declared.listing.Trusted.{Trusted}
+use Rattle.trusted_documents.specs.Listings.{listing_of}
 use Rattle.gateway_core.specs.Rules.{Rules, rules_with}
 use Rattle.command_outcomes.specs.declared.limits.TheConstants.{SCHEMA_LIMIT, CLIENTS_LIMIT}
 use Rattle.account_commands.specs.declared.rule_texts.RuleTexts.{RuleTexts}
@@ -18,9 +20,10 @@ use Rattle.account_commands.specs.declared.rule_inputs.RulesRefusal.TheVariants.
 use Rattle.account_commands.specs.declared.rule_inputs.RulesFault.{RulesFault}
 use Rattle.account_commands.specs.declared.rule_inputs.RulesFault.TheVariants.{Refused, Memory}
 use Rattle.command_outcomes.specs.declared.outcome.Outcome.{Outcome}
-use Rattle.command_outcomes.specs.Outcomes.{FilesTold, IsRefusedAs}
+use Rattle.command_outcomes.specs.Outcomes.{FilesTold}
 use Rattle.command_outcomes.specs.Reading.{IsTextOf, HasNoText, HoldsText}
 use Rattle.command_outcomes.specs.Check.{HoldsWith, IsUnchecked}
+use Rattle.command_outcomes.specs.Known.{AreKnownOf}
 use Rattle.command_outcomes.specs.SchemaTexts.{schema_refusal_text}
 
 -- ---- the texts of the files
@@ -37,14 +40,18 @@ HaveNoRules schema clients files outcome = HasNoText SCHEMA_LIMIT schema files o
 
 -- ---- what the texts hold
 
--- The texts hold this, where lists that declare no size have this one.
+-- The texts hold this, where lists that declare no size have this one. What is known of the schema is known by the same text.
 pub record HoldRules (texts : RuleTexts) (undeclared : ℕ) (inputs : RuleInputs) : Type 0 where
   pub is_schema : HoldsWith texts.schema undeclared inputs.weighed.schema inputs.weighed.weights
+  pub are_facts : AreKnownOf texts.schema inputs.facts
   pub are_clients : IsClientFile texts.clients inputs.clients.window_seconds inputs.clients.clients.items
 
--- by what requests are decided
-abbrev pub rules_in : RuleInputs → Rules
-rules_in inputs = rules_with (schema_data inputs.weighed.schema) (weights_data inputs.weighed.weights) inputs.clients.clients.items inputs.clients.window_seconds
+-- by what requests are decided, with a list of trusted documents if there is one
+abbrev pub rules_in : RuleInputs → Option Trusted → Rules
+rules_in inputs list = record (rules_with (schema_data inputs.weighed.schema) (weights_data inputs.weighed.weights) inputs.clients.clients.items inputs.clients.window_seconds) {
+  trusted = option_map listing_of list;
+  facts = Some inputs.facts;
+}
 
 -- ---- why they are refused
 
@@ -68,10 +75,6 @@ rules_refusal_text name (NoClients fault) = client_faults.fault_text fault
 abbrev pub IfRulesRefused : RulesFault → (RulesRefusal → Type 0) → Type 0
 IfRulesRefused (Refused refusal) P = P refusal
 IfRulesRefused Memory P = Unit {0}
-
--- The texts are refused, and the text says why.
-abbrev pub AreRulesRefused : List ℕ → RuleTexts → ℕ → Outcome → Type 0
-AreRulesRefused name texts undeclared outcome = (refusal : RulesRefusal) × IsRulesRefusal texts undeclared refusal × IsRefusedAs (rules_refusal_text name refusal) outcome
 
 -- ---- what serves proofs
 

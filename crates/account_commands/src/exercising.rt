@@ -30,6 +30,7 @@ fn texts_of(alloc: Global, requests: u32) -> Result<ReplayTexts, AllocError>
             clients: Text::from(texts.clients),
         },
         script: Text::from(texts.script),
+        list: None,
     })
 }
 

@@ -5,6 +5,8 @@
 mod client_lines;
 mod exercise_laws;
 mod exercising;
+mod gates;
+mod list_inputs;
 mod migrate_laws;
 mod migrating;
 mod replay_end;
@@ -19,6 +21,8 @@ mod rule_texts;
 pub use client_lines::write_clients;
 pub use exercise_laws::an_exercise_is_refused_for_its_schema_alone;
 pub use exercising::exercise;
+pub use gates::gate_by;
+pub use list_inputs::{ListFault, ListText, list_in, read_list, refused_list};
 pub use migrate_laws::{a_client_file_has_one_migration, migrating_twice_is_migrating_once};
 pub use migrating::migrate;
 pub use replay_laws::{refusals_of_replays_are_one_line, refused_texts_have_no_replay};

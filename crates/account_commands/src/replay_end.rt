@@ -13,9 +13,9 @@ ghost use Rattle.command_outcomes.specs.Reading.{IsText};
 ghost use Rattle.account_commands.specs.RuleFiles.{rules_in};
 ghost use Rattle.account_commands.specs.Replay.{EndsAs, IsReplayed, IsReplayRefusal, IfReplayRefused, IsPrintable};
 
+use crate::gates::gate_by;
 use crate::replay_inputs::{ReplayFault, ReplayInputs, replay_inputs_in};
 use crate::replay_texts::ReplayTexts;
-use crate::rule_inputs::RuleInputs;
 use account_shared::Passes;
 use command_outcomes::SCHEMA_LIMIT;
 use gateway_core::{Gate, Settings, Totals, close};
@@ -74,18 +74,15 @@ fn replay_by<Rt: Wait>(
     requires weighed { HasWeights (schema_data inputs.rules.weighed.schema) (weights_data inputs.rules.weighed.weights) }
     requires served { MayBeServed inputs.rules.clients.window_seconds inputs.rules.clients.clients.items }
     requires few { length (steps_of inputs.script) ≤ LINE_LIMIT }
-    ensures { IfOk result (EndsAs (rules_in inputs.entry.rules) (steps_of inputs.entry.script)) }
+    ensures { IfOk result (EndsAs (rules_in inputs.entry.rules inputs.entry.list) (steps_of inputs.entry.script)) }
 {
-    let ReplayInputs { rules, script } = inputs;
-    let RuleInputs { weighed, clients } = rules;
-    let settings = settings_of(alloc, clients.window_seconds);
-    let (gate, passes) = Gate::make(
-        alloc,
-        weighed.schema,
-        weighed.weights,
-        clients.clients,
-        settings,
-    )?;
+    let ReplayInputs {
+        rules,
+        script,
+        list,
+    } = inputs;
+    let settings = settings_of(alloc, rules.clients.window_seconds);
+    let (gate, passes) = gate_by(alloc, rules, list, settings)?;
     replay_fresh(alloc, rt, gate, passes, &script)
 }
 

@@ -8,8 +8,10 @@ ghost use Rattle.replay_scripts.specs.FaultTexts as script_texts;
 ghost use Rattle.command_outcomes.specs.Reading.{IsText};
 ghost use Rattle.command_outcomes.specs.Outcomes.{IsRefusedAs};
 ghost use Rattle.account_commands.specs.RuleFiles.{HoldRules};
-ghost use Rattle.account_commands.specs.Replay.{HoldReplay, IsReplayRefusal, IfReplayRefused, replay_refusal_text, HaveNoRulesIn, IsNoScript};
+ghost use Rattle.account_commands.specs.Replay.{HoldReplay, IsReplayRefusal, IfReplayRefused, replay_refusal_text, HaveNoRulesIn, IsNoScript, IsNoList};
+ghost use Rattle.account_commands.specs.Lists.{HoldsList};
 
+use crate::list_inputs::{ListFault, ListText, list_in, refused_list};
 use crate::replay_texts::ReplayTexts;
 use crate::rule_inputs::{RuleInputs, RulesFault, RulesRefusal, refused_rules, rule_inputs_in};
 use crate::rule_texts::RuleTexts;
@@ -18,12 +20,15 @@ use gql_base::Text;
 use replay_scripts::{Script, ScriptFault, fault_text, read_script};
 use std::alloc::Global;
 use thiserror::Error;
+use trusted_documents::{Trusted, TrustedFault};
 
 /// What is replayed, and by which rules.
 #[derive(Drop)]
 pub struct ReplayInputs<'a> {
     pub rules: RuleInputs,
     pub script: Script<'a>,
+    /// The list of trusted documents, if there is one.
+    pub list: Option<Trusted>,
 }
 
 /// Why the texts of a replay are refused.
@@ -35,6 +40,9 @@ pub enum ReplayRefusal {
     /// The text of the script is none. The fault is not want of memory.
     #[error("the script is refused: {0}")]
     NoScript(ScriptFault),
+    /// The text of the list is none. The fault is not want of memory.
+    #[error("the list of trusted documents is refused: {0}")]
+    NoList(TrustedFault),
 }
 
 /// Why nothing is replayed.
@@ -76,8 +84,20 @@ fn script_of(alloc: Global, text: &str) -> Result<Script<'_>, ReplayFault>
     }
 }
 
-/// What the texts of a replay hold, or why they are refused: the schema is looked at first, then the clients, and then the
-/// script.
+// The list of a text, if there is one.
+fn list_of(alloc: Global, text: &Option<ListText>) -> Result<Option<Trusted>, ReplayFault>
+    ensures held { IfOk result (HoldsList text.now) }
+    ensures refused { IfErr result (λ fault. IfReplayRefused fault (IsNoList text.now)) }
+{
+    match list_in(alloc, text) {
+        Ok(list) => Ok(list),
+        Err(ListFault::Refused(fault)) => Err(ReplayFault::Refused(ReplayRefusal::NoList(fault))),
+        Err(ListFault::Memory) => Err(ReplayFault::Memory),
+    }
+}
+
+/// What the texts of a replay hold, or why they are refused: the schema is looked at first, then the clients, then the script, and
+/// then the list.
 pub fn replay_inputs_in(
     alloc: Global,
     texts: &ReplayTexts,
@@ -92,8 +112,16 @@ pub fn replay_inputs_in(
         Ok(rules) => rules,
         Err(fault) => return Err(fault),
     };
-    match script_of(alloc, texts.script.as_str()) {
-        Ok(script) => Ok(ReplayInputs { rules, script }),
+    let script = match script_of(alloc, texts.script.as_str()) {
+        Ok(script) => script,
+        Err(fault) => return Err(fault),
+    };
+    match list_of(alloc, &texts.list) {
+        Ok(list) => Ok(ReplayInputs {
+            rules,
+            script,
+            list,
+        }),
         Err(fault) => Err(fault),
     }
 }
@@ -115,5 +143,6 @@ pub fn refused_replay(alloc: Global, name: &Text, refusal: ReplayRefusal) -> Out
     match refusal {
         ReplayRefusal::NoRules(refusal) => refused_rules(alloc, name, refusal),
         ReplayRefusal::NoScript(fault) => refused_script(alloc, fault),
+        ReplayRefusal::NoList(fault) => refused_list(alloc, &fault),
     }
 }

@@ -11,16 +11,19 @@ use crate::migrating::refused_clients;
 use crate::rule_texts::RuleTexts;
 use client_files::{Clients, ClientsFault, read_clients};
 use command_outcomes::{
-    CheckFault, Outcome, SCHEMA_LIMIT, SchemaRefusal, Weighed, refused_schema, weighed_in,
+    CheckFault, Outcome, SCHEMA_LIMIT, SchemaRefusal, Weighed, known_of, refused_schema, weighed_in,
 };
 use gql_base::Text;
+use local_introspection::Facts;
 use std::alloc::Global;
 use thiserror::Error;
 
-/// By what requests are decided: a schema with its weights, and clients.
+/// By what requests are decided: a schema with its weights, what is known of it, and clients.
 #[derive(Drop)]
 pub struct RuleInputs {
     pub weighed: Weighed,
+    /// By this, operations that ask for the schema are answered.
+    pub facts: Facts,
     pub clients: Clients,
 }
 
@@ -90,9 +93,17 @@ pub fn rule_inputs_in(
         Ok(weighed) => weighed,
         Err(fault) => return Err(fault),
     };
-    match clients_of(alloc, texts.clients.as_str()) {
-        Ok(clients) => Ok(RuleInputs { weighed, clients }),
-        Err(fault) => Err(fault),
+    let clients = match clients_of(alloc, texts.clients.as_str()) {
+        Ok(clients) => clients,
+        Err(fault) => return Err(fault),
+    };
+    match known_of(alloc, texts.schema.as_str()) {
+        Ok(facts) => Ok(RuleInputs {
+            weighed,
+            facts,
+            clients,
+        }),
+        Err(_) => Err(RulesFault::Memory),
     }
 }
 

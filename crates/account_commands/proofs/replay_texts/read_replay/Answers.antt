@@ -1,19 +1,18 @@
 -- The files before were texts, and reading them changed none.
 use Rattle.std.proofs.Common.{◌∙◌, inl, inr}
-use Rattle.command_outcomes.specs.declared.limits.TheConstants.{SCRIPT_LIMIT}
-use Rattle.command_outcomes.proofs.ReadFiles.{no_text_sooner}
+use Rattle.account_commands.proofs.ListFiles.{no_list_sooner}
 use Rattle.account_commands.proofs.replay_texts.read_replay.Goals as goal
 
 pub returns-in-Err-clause-none : goal.returns-in-Err-clause-none
 returns-in-Err-clause-none g c = inl c.in-Err.ensures.none
 
-pub returns-in-Err-read_text-clause-none : goal.returns-in-Err-read_text-clause-none
-returns-in-Err-read_text-clause-none g c =
+pub returns-in-Err-read_list-clause-none : goal.returns-in-Err-read_list-clause-none
+returns-in-Err-read_list-clause-none g c =
     inr (
-      ((c.in-Ok.rules.schema, c.in-Ok.ensures.held.is_schema), (c.in-Ok.rules.clients, c.in-Ok.ensures.held.are_clients)),
-      no_text_sooner (g.F.Files.content c.args.files.now) (g.F.Files.content c.read_rules.new.files) (g.F.Files.faults c.args.files.now) (g.F.Files.faults c.read_rules.new.files) (g.F.Files.faults c.read_text.new.files)
-          c.in-Ok.ensures.same c.in-Ok.ensures.still SCRIPT_LIMIT c.args.asked.now.script c.in-Err-read_text.outcome c.in-Err-read_text.ensures.none,
+      (((c.in-Ok.texts.rules.schema, c.in-Ok.ensures.rules.is_schema), (c.in-Ok.texts.rules.clients, c.in-Ok.ensures.rules.are_clients)), (c.in-Ok.texts.script, c.in-Ok.ensures.script)),
+      no_list_sooner (g.F.Files.content c.args.files.now) (g.F.Files.content c.read_script.new.files) (g.F.Files.faults c.args.files.now) (g.F.Files.faults c.read_script.new.files) (g.F.Files.faults c.read_list.new.files)
+          c.in-Ok.ensures.same c.in-Ok.ensures.still c.args.asked.now.list c.in-Err-read_list.outcome c.in-Err-read_list.ensures.none,
     )
 
-pub returns-in-Ok-read_text-clause-still : goal.returns-in-Ok-read_text-clause-still
-returns-in-Ok-read_text-clause-still g c name = c.in-Ok-read_text.ensures.still name ∙ c.in-Ok.ensures.still name
+pub returns-in-Ok-read_list-clause-still : goal.returns-in-Ok-read_list-clause-still
+returns-in-Ok-read_list-clause-still g c name = c.in-Ok-read_list.ensures.still name ∙ c.in-Ok.ensures.still name
