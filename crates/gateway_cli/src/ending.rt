@@ -1,6 +1,6 @@
 //! What the process ends with.
 
-ghost use Rattle.std.specs.Prelude.{◌≡◌, ◌≤◌};
+ghost use Rattle.std.specs.Prelude.{◌≡◌, ◌≤◌, IfOk, IfErr};
 ghost use Rattle.std.specs.Process.{exit_status};
 ghost use Rattle.gateway_run.specs.Endings.{stream_told, Ends};
 ghost use Rattle.gateway_run.specs.Serve.{doors_call};
@@ -24,8 +24,8 @@ pub(crate) fn end_for<K: Sink, E: Sink>(fault: WordsFault, out: &mut K, err: &mu
     ExitCode::from(end_without_command(fault, out, err))
 }
 
-/// Does what the words ask for, and ends with the status of that run.
-pub(crate) fn end<Rt: Threads + Wait + Sync, F: Files, D: Doors, K: Sink, E: Sink>(
+// Does what words ask for, and ends with the status of that run.
+fn end_run<Rt: Threads + Wait + Sync, F: Files, D: Doors, K: Sink, E: Sink>(
     rt: &Rt,
     alloc: Global,
     words: &[Text],
@@ -43,4 +43,29 @@ pub(crate) fn end<Rt: Threads + Wait + Sync, F: Files, D: Doors, K: Sink, E: Sin
 {
     a_status_says_what_was_done();
     ExitCode::from(run(rt, alloc, words, files, doors, out, err))
+}
+
+/// Ends with the status of what the words ask for, or of why they could not be had.
+pub(crate) fn end<Rt: Threads + Wait + Sync, F: Files, D: Doors, K: Sink, E: Sink>(
+    rt: &Rt,
+    alloc: Global,
+    words: Result<Vec<Text>, WordsFault>,
+    files: &mut F,
+    doors: &mut D,
+    out: &mut K,
+    err: &mut E,
+) -> ExitCode
+    requires idle { D.running doors.old ≡ 0 }
+    ensures ran { IfOk words (λ words. Runs words.items (exit_status result) (files_call F.content F.faults files.old files.new)
+        (doors_call D.faults D.asked D.running D.stopped doors.old doors.new)
+        (stream_told K.written K.faults out.old out.new)
+        (stream_told E.written E.faults err.old err.new)) }
+    ensures unread { IfErr words (λ fault. Ends (no_command fault) (exit_status result) (stream_told K.written K.faults out.old out.new)
+        (stream_told E.written E.faults err.old err.new)) }
+    ensures known { exit_status result ≤ DOOR_FAILED }
+{
+    match words {
+        Ok(words) => end_run(rt, alloc, &words, files, doors, out, err),
+        Err(fault) => end_for(fault, out, err),
+    }
 }

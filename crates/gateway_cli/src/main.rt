@@ -23,16 +23,13 @@ fn main(rt: HostRuntime) -> ExitCode {
     let Ok(for_doors) = rt.clone() else {
         return end_for(WordsFault::Memory, &mut out, &mut err);
     };
-    let words = match words_given(&rt, alloc) {
-        Ok(words) => words,
-        Err(fault) => return end_for(fault, &mut out, &mut err),
-    };
+    let words = words_given(&rt, alloc);
     let mut doors = match doors_for(for_doors, alloc, &words) {
         Ok(doors) => doors,
         Err(fault) => return end_for(fault, &mut out, &mut err),
     };
     let mut files = StdFiles::new(for_files);
     end(
-        &rt, alloc, &words, &mut files, &mut doors, &mut out, &mut err,
+        &rt, alloc, words, &mut files, &mut doors, &mut out, &mut err,
     )
 }

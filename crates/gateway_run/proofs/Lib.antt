@@ -2,3 +2,5 @@ mod Statuses
 mod WordEnds
 mod Services
 mod ReadFiles
+mod ServeRefusals
+mod ServedRules

@@ -8,11 +8,15 @@ use Rattle.command_outcomes.specs.Reading.{HasNoText}
 use Rattle.command_words.specs.declared.command.Command.{Command}
 use Rattle.command_words.specs.declared.command.Command.TheVariants.{Help, Version, Check, Price, Introspect, Worst, Forward, Meter, Replay, Serve, Exercise, Migrate}
 use Rattle.command_words.specs.declared.command.Asked.{Asked}
+use Rattle.command_words.specs.declared.command.AskedList.{AskedList}
 use Rattle.command_words.specs.declared.command.AskedReplay.{AskedReplay}
+use Rattle.command_words.specs.declared.command.AskedServe.{AskedServe}
 use Rattle.operation_commands.specs.Asked.{HasNoVariables, HaveNoOperation, HaveNoTexts}
 use Rattle.operation_commands.specs.Meter.{HasNoReply, HaveNoMetering}
 use Rattle.account_commands.specs.RuleFiles.{HaveNoRules}
-use Rattle.account_commands.specs.Replay.{HaveNoReplay}
+use Rattle.account_commands.specs.Lists.{HasNoListText}
+use Rattle.account_commands.specs.Replay.{HaveNoScript, HaveNoReplay}
+use Rattle.gateway_run.specs.ServeFiles.{HaveNoServeTexts}
 use Rattle.gateway_run.specs.Endings.{StreamTold, Ends}
 use Rattle.gateway_run.specs.Serve.{DoorsCall}
 use Rattle.gateway_run.specs.Program.{AnswerCameTo, CommandCameTo, ComeTo}
@@ -72,9 +76,21 @@ module _ (files : FilesTold) where
   no_rules schema clients outcome (inl none) = no_text _ schema outcome none
   no_rules schema clients outcome (inr none) = no_text _ clients outcome none.1
 
+  no_list : (asked : Option AskedList) (outcome : Outcome) → HasNoListText asked files outcome → NamesOne files outcome
+  no_list None outcome none = absurd none
+  no_list (Some asked) outcome none = no_text _ asked.file outcome none
+
+  no_script : (asked : AskedReplay) (outcome : Outcome) → HaveNoScript asked files outcome → NamesOne files outcome
+  no_script asked outcome (inl none) = no_rules asked.schema asked.clients outcome none
+  no_script asked outcome (inr none) = no_text _ asked.script outcome none.1
+
   no_replay : (asked : AskedReplay) (outcome : Outcome) → HaveNoReplay asked files outcome → NamesOne files outcome
-  no_replay asked outcome (inl none) = no_rules asked.schema asked.clients outcome none
-  no_replay asked outcome (inr none) = no_text _ asked.script outcome none.1
+  no_replay asked outcome (inl none) = no_script asked outcome none
+  no_replay asked outcome (inr none) = no_list asked.list outcome none.1
+
+  no_serve : (asked : AskedServe) (outcome : Outcome) → HaveNoServeTexts asked files outcome → NamesOne files outcome
+  no_serve asked outcome (inl none) = no_rules asked.schema asked.clients outcome none
+  no_serve asked outcome (inr none) = no_list asked.list outcome none.1
 
   answer : (command : Command) (outcome : Outcome) → AnswerCameTo command files outcome → NamesOne files outcome
   answer Help outcome came = none_failed outcome came.1
@@ -110,7 +126,7 @@ module _ (files : FilesTold) where
   came (Replay asked) doors outcome came_to = answer (Replay asked) outcome came_to.0
   came (Exercise requests) doors outcome came_to = answer (Exercise requests) outcome came_to.0
   came (Migrate clients) doors outcome came_to = answer (Migrate clients) outcome came_to.0
-  came (Serve asked) doors outcome (inl none) = no_rules asked.schema asked.clients outcome none.0
+  came (Serve asked) doors outcome (inl none) = no_serve asked outcome none.0
   came (Serve asked) doors outcome (inr read) = none_failed outcome read.3
 
   come : (words : List (List ℕ)) (doors : DoorsCall) (outcome : Outcome) → ComeTo words files doors outcome → NamesOne files outcome

@@ -1,18 +1,19 @@
 -- What a run with a status says.
 use Rattle.std.proofs.Common.{◌≡◌, ◌≤◌, ◌⊎◌, inl, inr, refl, sym, subst, ℕ, List, Option, None, Some, Bool, true, false, Result, Ok, Err, Vec, arith}
-use Rattle.command_outcomes.specs.declared.limits.TheConstants.{SCHEMA_LIMIT, DOCUMENT_LIMIT, VARIABLES_LIMIT, CLIENTS_LIMIT, SCRIPT_LIMIT}
+use Rattle.command_outcomes.specs.declared.limits.TheConstants.{SCHEMA_LIMIT, DOCUMENT_LIMIT, VARIABLES_LIMIT, CLIENTS_LIMIT, SCRIPT_LIMIT, TRUSTED_LIMIT}
 use Rattle.std.specs.declared.alloc.Global.{Global}
 use Rattle.outside.specs.Faults.{Rose}
 use Rattle.command_outcomes.specs.Texts.{line}
 use Rattle.command_words.specs.declared.command.Command.{Command}
 use Rattle.command_words.specs.declared.command.Command.TheVariants.{Help, Version, Check, Price, Introspect, Worst, Forward, Meter, Replay, Serve, Exercise, Migrate}
 use Rattle.command_words.specs.declared.command.Asked.{Asked}
+use Rattle.command_words.specs.declared.command.AskedList.{AskedList}
 use Rattle.command_words.specs.declared.command.AskedReplay.{AskedReplay}
 use Rattle.command_words.specs.declared.command.AskedServe.{AskedServe}
 use Rattle.gateway_serving.specs.declared.ending.ServeEnd.{ServeEnd}
 use Rattle.gateway_serving.specs.declared.ending.ServeFault.{ServeFault}
 use Rattle.gateway_serving.specs.declared.ending.ServeFault.TheVariants.{NotStarted as NoDoors, Memory as NoMemory}
-use Rattle.account_commands.specs.declared.rule_texts.RuleTexts.{RuleTexts}
+use Rattle.gateway_run.specs.declared.serve_inputs.ServeTexts.{ServeTexts}
 use Rattle.command_outcomes.specs.declared.outcome.Outcome.{Outcome}
 use Rattle.command_outcomes.specs.declared.outcome.Outcome.TheVariants.{Done, Refused, FileFailed, Faulty, Served, NotStarted, Usage, Memory}
 use Rattle.command_outcomes.specs.declared.outcome.TheConstants.{DONE, REFUSED, USAGE, FILE_FAILED, STREAM_FAILED, NO_MEMORY, SIZE_BROKEN, NOT_RESPONSE, DOOR_FAILED}
@@ -31,11 +32,13 @@ use Rattle.operation_commands.specs.Forward.{ForwardOf}
 use Rattle.operation_commands.specs.Meter.{status_of, IsReplyFault, HasNoReply, HaveNoMetering, MeterOfPlan, MeterOf}
 use Rattle.account_commands.specs.declared.replay_texts.ReplayTexts.{ReplayTexts}
 use Rattle.account_commands.specs.RuleFiles.{HaveNoRules}
-use Rattle.account_commands.specs.Replay.{HaveNoReplay, ReplayOf}
+use Rattle.account_commands.specs.Lists.{HasNoListText}
+use Rattle.account_commands.specs.Replay.{HaveNoScript, HaveNoReplay, ReplayOf}
+use Rattle.gateway_run.specs.ServeFiles.{HaveNoServeTexts}
 use Rattle.gateway_run.specs.Serve.{DoorsCall, IsTold, ServeOf, ServeCameTo}
 use Rattle.account_commands.specs.Exercise.{ExerciseCameTo}
 use Rattle.account_commands.specs.Migrate.{MigrateOf}
-use Rattle.gateway_run.specs.Program.{AnswerCameTo, CommandCameTo, IsCommandOf, ComeTo, IsAskedFile, IsReplayFile, IsServeFile, IsFileOf, NamesFile, OneFailed, PrintsOutput, PrintsRefusal, PrintsFault, TellsDoor, IsSilent}
+use Rattle.gateway_run.specs.Program.{AnswerCameTo, CommandCameTo, IsCommandOf, ComeTo, IsAskedFile, IsListFile, IsReplayFile, IsServeFile, IsFileOf, NamesFile, OneFailed, PrintsOutput, PrintsRefusal, PrintsFault, TellsDoor, IsSilent}
 
 -- the statuses of faulty replies
 abbrev IsReplyStatus : ℕ → Type 0
@@ -114,9 +117,21 @@ module _ (IsName : List ℕ → Type 0) (files : FilesTold) where
   no_rules_answer schema clients outcome is also (inl none) = no_text_answer SCHEMA_LIMIT schema outcome is none
   no_rules_answer schema clients outcome is also (inr none) = no_text_answer CLIENTS_LIMIT clients outcome also none.1
 
+  no_list_answer : (asked : Option AskedList) (outcome : Outcome) → ((name : List ℕ) → IsListFile asked name → IsName name) → HasNoListText asked files outcome → IsAnswer IsName files outcome
+  no_list_answer None outcome is none = absurd none
+  no_list_answer (Some asked) outcome is none = no_text_answer TRUSTED_LIMIT asked.file outcome (is asked.file refl) none
+
+  no_script_answer : (asked : AskedReplay) (outcome : Outcome) → ((name : List ℕ) → IsReplayFile asked name → IsName name) → HaveNoScript asked files outcome → IsAnswer IsName files outcome
+  no_script_answer asked outcome is (inl none) = no_rules_answer asked.schema asked.clients outcome (is asked.schema (inl refl)) (is asked.clients (inr (inl refl))) none
+  no_script_answer asked outcome is (inr none) = no_text_answer SCRIPT_LIMIT asked.script outcome (is asked.script (inr (inr (inl refl)))) none.1
+
   no_replay_answer : (asked : AskedReplay) (outcome : Outcome) → ((name : List ℕ) → IsReplayFile asked name → IsName name) → HaveNoReplay asked files outcome → IsAnswer IsName files outcome
-  no_replay_answer asked outcome is (inl none) = no_rules_answer asked.schema asked.clients outcome (is asked.schema (inl refl)) (is asked.clients (inr (inl refl))) none
-  no_replay_answer asked outcome is (inr none) = no_text_answer SCRIPT_LIMIT asked.script outcome (is asked.script (inr (inr refl))) none.1
+  no_replay_answer asked outcome is (inl none) = no_script_answer asked outcome is none
+  no_replay_answer asked outcome is (inr none) = no_list_answer asked.list outcome (λ name own. is name (inr (inr (inr own)))) none.1
+
+  no_serve_answer : (asked : AskedServe) (outcome : Outcome) → ((name : List ℕ) → IsServeFile asked name → IsName name) → HaveNoServeTexts asked files outcome → IsAnswer IsName files outcome
+  no_serve_answer asked outcome is (inl none) = no_rules_answer asked.schema asked.clients outcome (is asked.schema (inl refl)) (is asked.clients (inr (inl refl))) none
+  no_serve_answer asked outcome is (inr none) = no_list_answer asked.list outcome (λ name own. is name (inr (inr own))) none.1
 
   -- ---- what they hold
 
@@ -255,13 +270,13 @@ told_answer IsName files (Err NoMemory) outcome told = none_answer outcome told
     none_answer NotStarted told = tt
     none_answer Usage told = told
 
-serve_of_answer : (asked : AskedServe) (texts : RuleTexts) (files : FilesTold) (doors : DoorsCall) (outcome : Outcome) → ServeOf asked texts doors outcome → IsAnswer (IsServeFile asked) files outcome
+serve_of_answer : (asked : AskedServe) (texts : ServeTexts) (files : FilesTold) (doors : DoorsCall) (outcome : Outcome) → ServeOf asked texts doors outcome → IsAnswer (IsServeFile asked) files outcome
 serve_of_answer asked texts files doors outcome (inl memory) = memory_answer (IsServeFile asked) files outcome memory.0
 serve_of_answer asked texts files doors outcome (inr (inl refused)) = refused_answer (IsServeFile asked) files _ outcome refused.0.2
 serve_of_answer asked texts files doors outcome (inr (inr served)) = told_answer (IsServeFile asked) files served.2.0 outcome served.2.2
 
 serve_answer : (asked : AskedServe) (files : FilesTold) (doors : DoorsCall) (outcome : Outcome) → ServeCameTo asked files doors outcome → IsAnswer (IsServeFile asked) files outcome
-serve_answer asked files doors outcome (inl none) = no_rules_answer (IsServeFile asked) files asked.schema asked.clients outcome (inl refl) (inr refl) none.0
+serve_answer asked files doors outcome (inl none) = no_serve_answer (IsServeFile asked) files asked outcome (λ name is. is) none.0
 serve_answer asked files doors outcome (inr read) = serve_of_answer asked read.0 files doors outcome read.2
 
 came : (command : Command) (files : FilesTold) (doors : DoorsCall) (outcome : Outcome) → CommandCameTo command files doors outcome → IsAnswer (IsFileOf command) files outcome

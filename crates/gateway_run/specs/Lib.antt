@@ -1,3 +1,4 @@
 pub mod Endings
+pub mod ServeFiles
 pub mod Serve
 pub mod Program

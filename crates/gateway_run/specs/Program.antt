@@ -1,9 +1,10 @@
 -- What the program does.
-use Rattle.std.specs.Prelude.{◌≡◌, ◌⊎◌, ℕ, List, Option, Some, Vec, true, false}
+use Rattle.std.specs.Prelude.{◌≡◌, ◌⊎◌, ℕ, List, Option, None, Some, Vec, true, false}
 use Rattle.std.specs.declared.alloc.Global.{Global}
 use Rattle.command_words.specs.declared.command.Command.{Command}
 use Rattle.command_words.specs.declared.command.Command.TheVariants.{Help, Version, Check, Price, Introspect, Worst, Forward, Meter, Replay, Serve, Exercise, Migrate}
 use Rattle.command_words.specs.declared.command.Asked.{Asked}
+use Rattle.command_words.specs.declared.command.AskedList.{AskedList}
 use Rattle.command_words.specs.declared.command.AskedReplay.{AskedReplay}
 use Rattle.command_words.specs.declared.command.AskedServe.{AskedServe}
 use Rattle.command_words.specs.declared.command.WordsFault.{WordsFault}
@@ -78,13 +79,18 @@ EveryRunWith status Holds = (words : List (List ℕ)) (files : FilesTold) (doors
 abbrev pub IsAskedFile : Asked → List ℕ → Type 0
 IsAskedFile asked name = (name ≡ asked.schema) ⊎ (name ≡ asked.document) ⊎ (asked.variables ≡ Some name)
 
+-- The name of the file of a list, if there is one.
+abbrev pub IsListFile : Option AskedList → List ℕ → Type 0
+IsListFile None name = ⊥
+IsListFile (Some list) name = name ≡ list.file
+
 -- The names of a replay's files.
 abbrev pub IsReplayFile : AskedReplay → List ℕ → Type 0
-IsReplayFile asked name = (name ≡ asked.schema) ⊎ (name ≡ asked.clients) ⊎ (name ≡ asked.script)
+IsReplayFile asked name = (name ≡ asked.schema) ⊎ (name ≡ asked.clients) ⊎ (name ≡ asked.script) ⊎ IsListFile asked.list name
 
 -- The names of the files by which a gateway is served.
 abbrev pub IsServeFile : AskedServe → List ℕ → Type 0
-IsServeFile asked name = (name ≡ asked.schema) ⊎ (name ≡ asked.clients)
+IsServeFile asked name = (name ≡ asked.schema) ⊎ (name ≡ asked.clients) ⊎ IsListFile asked.list name
 
 -- The names of the command's files.
 abbrev pub IsFileOf : Command → List ℕ → Type 0

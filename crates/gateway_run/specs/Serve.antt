@@ -1,5 +1,5 @@
 -- What a serve command comes to.
-use Rattle.std.specs.Prelude.{◌≡◌, ◌⊎◌, ◌++◌, ℕ, false, List, [], Option, Result, Ok, Err, codes, nat_lt}
+use Rattle.std.specs.Prelude.{◌≡◌, ◌⊎◌, ◌++◌, ℕ, List, Option, Result, Ok, Err, codes, nat_lt}
 use Rattle.std.specs.Fmt.{decimal}
 use Rattle.doors.specs.Starts.{Asked, Stopped}
 use Rattle.gateway_serving.specs.Decisions.{Service, WorkDone}
@@ -10,13 +10,14 @@ use Rattle.gateway_serving.specs.declared.ending.ServeFault.TheVariants.{NotStar
 use Rattle.gateway_serving.specs.Telling.{DoorsTold, doors_told}
 use Rattle.gateway_serving.specs.Ends.{ComesTo}
 use Rattle.command_words.specs.declared.command.AskedServe.{AskedServe}
-use Rattle.account_commands.specs.declared.rule_texts.RuleTexts.{RuleTexts}
-use Rattle.account_commands.specs.declared.rule_inputs.RuleInputs.{RuleInputs}
 use Rattle.command_outcomes.specs.declared.outcome.Outcome.{Outcome}
 use Rattle.command_outcomes.specs.declared.outcome.Outcome.TheVariants.{Served, NotStarted, Memory}
 use Rattle.command_outcomes.specs.Outcomes.{FilesTold, NoFileFailed}
-use Rattle.account_commands.specs.RuleFiles.{HaveNoRules, HoldRuleTexts, HoldRules, rules_in, AreRulesRefused}
+use Rattle.account_commands.specs.RuleFiles.{rules_in}
 use Rattle.account_commands.specs.Replay.{client_lines}
+use Rattle.gateway_run.specs.declared.serve_inputs.ServeTexts.{ServeTexts}
+use Rattle.gateway_run.specs.declared.serve_inputs.ServeInputs.{ServeInputs}
+use Rattle.gateway_run.specs.ServeFiles.{HoldServeTexts, HaveNoServeTexts, HoldServe, IsServeRefused}
 
 -- What the doors tell before and after a call.
 pub record DoorsCall : Type 0 where
@@ -32,9 +33,9 @@ doors_call faults asked running stopped before now = record {
 abbrev pub AreUntouched : DoorsCall → Type 0
 AreUntouched doors = doors.now ≡ doors.before
 
--- by what requests are decided, and where they are forwarded to: with no field of the client's request, and with no hints
-abbrev pub service_by : AskedServe → RuleInputs → Service
-service_by asked inputs = record { rules = rules_in inputs; host = asked.upstream; target = asked.target; passed = []; hints = false }
+-- by what requests are decided, where they are forwarded to and with which fields, and whether hints are told
+abbrev pub service_by : AskedServe → ServeInputs → Service
+service_by asked inputs = record { rules = rules_in inputs.rules inputs.list; host = asked.upstream; target = asked.target; passed = asked.passed.items; hints = asked.hints }
 
 -- what the doors are started with
 pub record IsServingOf (asked : AskedServe) (serving : Serving) : Type 0 where
@@ -56,7 +57,7 @@ closing_text end = client_lines end.totals.clients.items.items end.totals.accoun
 -- ---- what serving comes to
 
 -- By these rules it came to this.
-abbrev pub ServesTo : AskedServe → RuleInputs → DoorsCall → Result ServeEnd ServeFault → Type 0
+abbrev pub ServesTo : AskedServe → ServeInputs → DoorsCall → Result ServeEnd ServeFault → Type 0
 ServesTo asked inputs doors result = (serving : Serving) × IsServingOf asked serving
     × ComesTo (service_by asked inputs) serving doors.before doors.now result
 
@@ -69,14 +70,14 @@ IsTold (Err NoMemory) Memory = Unit {0}
 IsTold result other = ⊥
 
 -- By the texts: it was served by their rules, or they are refused, or there was no memory for them.
-abbrev pub ServeOf : AskedServe → RuleTexts → DoorsCall → Outcome → Type 0
+abbrev pub ServeOf : AskedServe → ServeTexts → DoorsCall → Outcome → Type 0
 ServeOf asked texts doors outcome = ((outcome ≡ Memory) × AreUntouched doors)
-    ⊎ (AreRulesRefused asked.schema texts asked.undeclared outcome × AreUntouched doors)
-    ⊎ ((inputs : RuleInputs) × HoldRules texts asked.undeclared inputs
+    ⊎ (IsServeRefused asked.schema texts asked.undeclared outcome × AreUntouched doors)
+    ⊎ ((inputs : ServeInputs) × HoldServe texts asked.undeclared inputs
     × ((result : Result ServeEnd ServeFault) × ServesTo asked inputs doors result × IsTold result outcome))
 
 -- The files hold no texts; or they do, and came to that, and none failed.
 abbrev pub ServeCameTo : AskedServe → FilesTold → DoorsCall → Outcome → Type 0
-ServeCameTo asked files doors outcome = (HaveNoRules asked.schema asked.clients files outcome × AreUntouched doors)
-    ⊎ ((texts : RuleTexts) × HoldRuleTexts asked.schema asked.clients files.content texts × ServeOf asked texts doors outcome
+ServeCameTo asked files doors outcome = (HaveNoServeTexts asked files outcome × AreUntouched doors)
+    ⊎ ((texts : ServeTexts) × HoldServeTexts asked files.content texts × ServeOf asked texts doors outcome
     × NoFileFailed files)

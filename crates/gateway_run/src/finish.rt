@@ -26,9 +26,9 @@ usage: tellcrock forward SCHEMA DOCUMENT [--variables FILE] [--operation NAME] [
   prints the request that is sent on for an operation
 usage: tellcrock meter SCHEMA DOCUMENT REPLY [--variables FILE] [--operation NAME] [--unsized N]
   prints what a reply cost, and the answer for its client
-usage: tellcrock replay SCHEMA CLIENTS SCRIPT [--unsized N]
+usage: tellcrock replay SCHEMA CLIENTS SCRIPT [--trusted FILE [--trusted-only]] [--unsized N]
   prints what becomes of each request of a script, and of the clients' accounts
-usage: tellcrock serve SCHEMA CLIENTS --listen ADDR --upstream ADDR [--target PATH] [--workers N] [--connections N | --endless] [--idle N] [--stop FILE] [--unsized N]
+usage: tellcrock serve SCHEMA CLIENTS --listen ADDR --upstream ADDR [--target PATH] [--workers N] [--connections N | --endless] [--idle N] [--stop FILE] [--trusted FILE [--trusted-only]] [--pass NAME].. [--hints] [--unsized N]
   serves clients over HTTP within their budgets, and forwards what they cover; prints the accounts at the end
 usage: tellcrock exercise N
   prints a summary of a replay of N requests of one client

@@ -5,6 +5,7 @@
 
 mod finish;
 mod program;
+mod serve_inputs;
 mod serve_laws;
 mod serving;
 mod status_laws;

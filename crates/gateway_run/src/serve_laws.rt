@@ -4,9 +4,9 @@ ghost use Rattle.std.specs.Prelude.{◌≡◌};
 ghost use Rattle.command_words.specs.declared.command.AskedServe.{AskedServe};
 ghost use Rattle.gateway_connections.specs.Exchanges.{Exchange};
 ghost use Rattle.gateway_connections.specs.Measured.{Metered, UpstreamReply, WasExchanged, WasBrought, IsDue, WasGivenOr500};
-ghost use Rattle.account_commands.specs.declared.rule_texts.RuleTexts.{RuleTexts};
-ghost use Rattle.account_commands.specs.declared.rule_inputs.RuleInputs.{RuleInputs};
-ghost use Rattle.account_commands.specs.RuleFiles.{HoldRules};
+ghost use Rattle.gateway_run.specs.declared.serve_inputs.ServeTexts.{ServeTexts};
+ghost use Rattle.gateway_run.specs.declared.serve_inputs.ServeInputs.{ServeInputs};
+ghost use Rattle.gateway_run.specs.ServeFiles.{HoldServe};
 ghost use Rattle.gateway_run.specs.Serve.{service_by};
 
 use gateway_connections::a_response_is_given_where_it_is_due;
@@ -15,9 +15,9 @@ use gateway_core::types_of_built_schemas_differ;
 /// Where requests are decided by the rules that texts hold, a response that is due is given with 200 and settled at its cost, or
 /// memory was wanting; and for one body and one reply of the upstream there are not both 200 and 502.
 pub fn served_responses_are_those_due()
-    ensures given { (asked : AskedServe) (texts : RuleTexts) (inputs : RuleInputs) (x : Exchange) (metered : Metered) → HoldRules texts asked.undeclared inputs
+    ensures given { (asked : AskedServe) (texts : ServeTexts) (inputs : ServeInputs) (x : Exchange) (metered : Metered) → HoldServe texts asked.undeclared inputs
         → WasExchanged (service_by asked inputs) x → IsDue (service_by asked inputs) x metered → WasGivenOr500 (service_by asked inputs) x metered }
-    ensures not_both { (asked : AskedServe) (texts : RuleTexts) (inputs : RuleInputs) (x y : Exchange) (reply : UpstreamReply) → HoldRules texts asked.undeclared inputs
+    ensures not_both { (asked : AskedServe) (texts : ServeTexts) (inputs : ServeInputs) (x y : Exchange) (reply : UpstreamReply) → HoldServe texts asked.undeclared inputs
         → WasExchanged (service_by asked inputs) x → WasExchanged (service_by asked inputs) y → x.ask.body.items ≡ y.ask.body.items
         → WasBrought reply x → WasBrought reply y → x.reply.status ≡ 200 → y.reply.status ≡ 502 → ⊥ }
 {

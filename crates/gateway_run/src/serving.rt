@@ -1,6 +1,6 @@
 //! The command `serve SCHEMA CLIENTS --listen ADDR --upstream ADDR`.
 
-ghost use Rattle.std.specs.Prelude.{◌≡◌, ◌≤◌, ◌<◌, [], false, IfOk, IfErr, length};
+ghost use Rattle.std.specs.Prelude.{◌≡◌, ◌≤◌, ◌<◌, IfOk, IfErr, length};
 ghost use Rattle.schema_model.specs.SchemaViews.{schema_data};
 ghost use Rattle.cost_directives.specs.WeightViews.{weights_data};
 ghost use Rattle.client_files.specs.ClientFiles.{MayBeServed};
@@ -12,13 +12,14 @@ ghost use Rattle.command_outcomes.specs.Reading.{IsText};
 ghost use Rattle.command_outcomes.specs.Outcomes.{files_told};
 ghost use Rattle.gateway_run.specs.Serve.{doors_call, ServesTo, IsTold, closing_text, ServeOf, ServeCameTo};
 
-use account_commands::{
-    RuleInputs, RuleTexts, RulesFault, read_rules, refused_rules, rule_inputs_in, write_clients,
+use crate::serve_inputs::{
+    InputsFault, ServeInputs, ServeTexts, read_serve, refused_serve, serve_inputs_in,
 };
+use account_commands::{gate_by, write_clients};
 use command_outcomes::{Outcome, SCHEMA_LIMIT};
 use command_words::AskedServe;
 use doors::Doors;
-use gateway_serving::{Gate, ServeEnd, ServeFault, Serving, Settings};
+use gateway_serving::{ServeEnd, ServeFault, Serving, Settings};
 use gql_base::Text;
 use outside::Files;
 use plan_model::laws::built_schemas_can_be_filled;
@@ -26,7 +27,18 @@ use std::alloc::{AllocError, Global};
 use std::sync::Wait;
 use std::thread::Threads;
 
-// How long windows are, and where requests are forwarded to. No field of a client's request is passed on, and no hints are told.
+// Copies of texts.
+fn copies_of(alloc: Global, texts: &[Text]) -> Result<Vec<Text>, AllocError>
+    ensures { IfOk result (λ copies. copies.items ≡ texts.now) }
+{
+    let mut copies = Vec::new(alloc);
+    'texts: for text in texts {
+        copies.push(Text::copy_of(alloc, text.as_str())?)?;
+    }
+    Ok(copies)
+}
+
+// How long windows are, where requests are forwarded to and with which fields, and whether hints are told.
 fn settings_of(
     alloc: Global,
     asked: &AskedServe,
@@ -35,15 +47,15 @@ fn settings_of(
     ensures window { IfOk result (λ settings. settings.window_seconds ≡ window_seconds) }
     ensures host { IfOk result (λ settings. settings.host ≡ asked.now.upstream) }
     ensures target { IfOk result (λ settings. settings.target ≡ asked.now.target) }
-    ensures passed { IfOk result (λ settings. settings.passed.items ≡ []) }
-    ensures hints { IfOk result (λ settings. settings.hints ≡ false) }
+    ensures passed { IfOk result (λ settings. settings.passed.items ≡ asked.now.passed.items) }
+    ensures hints { IfOk result (λ settings. settings.hints ≡ asked.now.hints) }
 {
     Ok(Settings {
         window_seconds,
         host: Text::copy_of(alloc, asked.upstream.as_str())?,
         target: Text::copy_of(alloc, asked.target.as_str())?,
-        passed: Vec::new(alloc),
-        hints: false,
+        passed: copies_of(alloc, &asked.passed)?,
+        hints: asked.hints,
     })
 }
 
@@ -52,12 +64,12 @@ fn serve_by<Rt: Threads + Wait + Sync, D: Doors>(
     alloc: Global,
     rt: &Rt,
     asked: &AskedServe,
-    inputs: RuleInputs,
+    inputs: ServeInputs,
     doors: &mut D,
 ) -> Result<ServeEnd, ServeFault>
     requires limits { ServesWithinLimits (Serve asked.now) }
-    requires weighed { HasWeights (schema_data inputs.weighed.schema) (weights_data inputs.weighed.weights) }
-    requires served { MayBeServed inputs.clients.window_seconds inputs.clients.clients.items }
+    requires weighed { HasWeights (schema_data inputs.rules.weighed.schema) (weights_data inputs.rules.weighed.weights) }
+    requires served { MayBeServed inputs.rules.clients.window_seconds inputs.rules.clients.clients.items }
     requires idle { D.running doors.old ≡ 0 }
     ensures { ServesTo asked.now inputs (doors_call D.faults D.asked D.running D.stopped doors.old doors.new) result }
 {
@@ -67,17 +79,11 @@ fn serve_by<Rt: Threads + Wait + Sync, D: Doors>(
         workers: asked.workers,
         connections: asked.connections,
     };
-    let Ok(settings) = settings_of(alloc, asked, inputs.clients.window_seconds) else {
+    let ServeInputs { rules, list } = inputs;
+    let Ok(settings) = settings_of(alloc, asked, rules.clients.window_seconds) else {
         return Err(ServeFault::Memory);
     };
-    let RuleInputs { weighed, clients } = inputs;
-    let made = Gate::make(
-        alloc,
-        weighed.schema,
-        weighed.weights,
-        clients.clients,
-        settings,
-    );
+    let made = gate_by(alloc, rules, list, settings);
     let Ok((gate, passes)) = made else {
         return Err(ServeFault::Memory);
     };
@@ -115,28 +121,28 @@ fn told(alloc: Global, came_to: Result<ServeEnd, ServeFault>) -> Outcome
     }
 }
 
-// What the texts of the rules come to.
+// What the texts come to.
 fn serve_of<Rt: Threads + Wait + Sync, D: Doors>(
     alloc: Global,
     rt: &Rt,
     asked: &AskedServe,
-    texts: &RuleTexts,
+    texts: &ServeTexts,
     doors: &mut D,
 ) -> Outcome
     requires limits { ServesWithinLimits (Serve asked.now) }
-    requires text { IsText SCHEMA_LIMIT texts.now.schema }
+    requires text { IsText SCHEMA_LIMIT texts.now.rules.schema }
     requires idle { D.running doors.old ≡ 0 }
     ensures { ServeOf asked.now texts.now (doors_call D.faults D.asked D.running D.stopped doors.old doors.new) result }
 {
     built_schemas_can_be_filled();
-    match rule_inputs_in(alloc, texts, asked.undeclared) {
+    match serve_inputs_in(alloc, texts, asked.undeclared) {
         Ok(inputs) => told(alloc, serve_by(alloc, rt, asked, inputs, doors)),
-        Err(RulesFault::Refused(refusal)) => refused_rules(alloc, &asked.schema, refusal),
-        Err(RulesFault::Memory) => Outcome::Memory,
+        Err(InputsFault::Refused(refusal)) => refused_serve(alloc, &asked.schema, refusal),
+        Err(InputsFault::Memory) => Outcome::Memory,
     }
 }
 
-/// Serves clients over HTTP, by the schema and the clients of files, until each door has given all its connections or failed.
+/// Serves clients over HTTP, by the schema, the clients and the list of trusted documents of files, until each door has given all its connections or failed.
 ///
 /// It asks that no doors run, that there are 1 to 16 workers, and that each serves at most 4,294,967,295 connections. All doors that
 /// were started are stopped at the end.
@@ -152,7 +158,7 @@ pub fn serve<Rt: Threads + Wait + Sync, F: Files, D: Doors>(
     ensures { ServeCameTo asked.now (files_told (F.content files.old) (F.faults files.old) (F.faults files.new))
         (doors_call D.faults D.asked D.running D.stopped doors.old doors.new) result }
 {
-    match read_rules(alloc, &asked.schema, &asked.clients, files) {
+    match read_serve(alloc, asked, files) {
         Ok(texts) => serve_of(alloc, rt, asked, &texts, doors),
         Err(outcome) => outcome,
     }

@@ -84,23 +84,28 @@ pub(crate) fn doors_for(
     Ok(doors)
 }
 
-// The first line of a text.
-fn first_line(text: &[u8]) -> &[u8] {
-    match text.iter().position(|byte| *byte == b'\r') {
-        Some(at) => &text[..at],
-        None => text,
+// Adds the lines of a head, with a mark before each.
+fn push_head(into: &mut Vec<u8>, mark: &[u8], message: &[u8]) -> Result<(), AllocError> {
+    for line in message.split(|byte| *byte == b'\n') {
+        let line = line.trim_ascii_end();
+        if line.is_empty() {
+            return Ok(());
+        }
+        into.extend_from_slice(mark)?;
+        into.extend_from_slice(line)?;
+        into.push(b'\n')?;
     }
+    Ok(())
 }
 
-/// Adds the first line of what each worker sent to the upstream.
-pub(crate) fn push_asked(into: &mut Vec<u8>, doors: &RowDoors) -> Result<(), AllocError> {
+/// Adds the heads of what each worker sent to the upstream, and of what it replied.
+pub(crate) fn push_heads(into: &mut Vec<u8>, doors: &RowDoors) -> Result<(), AllocError> {
     for stopped in doors.stopped() {
         for visit in stopped.door.visits() {
             if let Some(dial) = &visit.back.wire.latest {
-                into.extend_from_slice(b"^ ")?;
-                into.extend_from_slice(first_line(&dial.sent))?;
-                into.push(b'\n')?;
+                push_head(into, b"^ ", &dial.sent)?;
             }
+            push_head(into, b"< ", &visit.back.sink.written)?;
         }
     }
     Ok(())

@@ -6,8 +6,8 @@
 //! there are four doors, and the word `?` alone stands for words that the system
 //! didn't give. Every other line is a heading or a note.
 //! The transcript has all lines of the list; below a row stand what it wrote on its output, each line behind `> `, and on its
-//! error stream, behind `! `, and then its status, behind `= `. Where there are four doors, the first lines of what was sent to the upstream
-//! stand below that, behind `^ `.
+//! error stream, behind `! `, and then its status, behind `= `. Where there are four doors, the head of what was sent to the upstream on
+//! each connection stands below that, behind `^ `, and the head of what was replied, behind `< `.
 #![tactic(auto)]
 
 mod doors_of_rows;

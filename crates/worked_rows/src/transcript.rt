@@ -2,7 +2,7 @@
 
 ghost use Rattle.std.specs.Prelude.{◌≡◌};
 
-use crate::doors_of_rows::{Exchange, doors_for, push_asked};
+use crate::doors_of_rows::{Exchange, doors_for, push_heads};
 use crate::padded_files::PaddedFiles;
 use gateway_run::{WordsFault, end_without_command, run};
 use gql_base::Text;
@@ -91,7 +91,7 @@ fn outcome_of<W: Threads + Wait + Sync>(
     push_marked(&mut text, b"! ", &err.written)?;
     text.extend_from_slice(format!(in alloc; "= {status}\n")?.as_bytes())?;
     if mark == "*" {
-        push_asked(&mut text, &doors)?;
+        push_heads(&mut text, &doors)?;
     }
     Ok(text)
 }

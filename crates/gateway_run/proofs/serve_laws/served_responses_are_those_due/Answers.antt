@@ -5,9 +5,9 @@ use Rattle.gateway_run.proofs.serve_laws.served_responses_are_those_due.Goals as
 pub returns-clause-given : goal.returns-clause-given
 returns-clause-given c asked texts inputs x metered held =
     c.a_response_is_given_where_it_is_due.ensures.given (service_by asked inputs) x metered
-    (c.types_of_built_schemas_differ.ensures.differ held.is_schema.0.0 inputs.weighed.schema held.is_schema.0.2)
+    (c.types_of_built_schemas_differ.ensures.differ held.are_rules.is_schema.0.0 inputs.rules.weighed.schema held.are_rules.is_schema.0.2)
 
 pub returns-clause-not_both : goal.returns-clause-not_both
 returns-clause-not_both c asked texts inputs x y reply held =
     c.a_response_is_given_where_it_is_due.ensures.not_both (service_by asked inputs) x y reply
-    (c.types_of_built_schemas_differ.ensures.differ held.is_schema.0.0 inputs.weighed.schema held.is_schema.0.2)
+    (c.types_of_built_schemas_differ.ensures.differ held.are_rules.is_schema.0.0 inputs.rules.weighed.schema held.are_rules.is_schema.0.2)

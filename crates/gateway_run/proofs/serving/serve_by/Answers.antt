@@ -27,6 +27,6 @@ returns g c =
       record { listen = c.as_str.ensures; upstream = c.as_str-2.ensures; workers = refl; connections = refl },
       subst (λ s. ComesTo s serving (doors_told g.D.Doors.faults g.D.Doors.asked g.D.Doors.running g.D.Doors.stopped c.args.doors.now)
           (doors_told g.D.Doors.faults g.D.Doors.asked g.D.Doors.running g.D.Doors.stopped c.serve.new.doors) c.serve.result)
-          (same_service c.in-Ok-made.gate c.args.asked.now c.args.inputs c.in-Ok.settings c.in-Ok-made.ensures.rules c.in-Ok.ensures.window c.in-Ok-made.ensures.settings c.in-Ok.ensures.host c.in-Ok.ensures.target c.in-Ok.ensures.passed c.in-Ok.ensures.hints)
+          (same_service c.in-Ok-made.gate c.args.asked.now c.args.inputs c.in-Ok.settings c.in-Ok-made.ensures.rules c.in-Ok-made.ensures.settings c.in-Ok.ensures.host c.in-Ok.ensures.target c.in-Ok.ensures.passed c.in-Ok.ensures.hints)
           c.serve.ensures.came_to,
     )
