@@ -13,9 +13,10 @@ import sys
 
 TOP = os.path.dirname(os.path.dirname(os.path.abspath(__file__)))
 RELEASED = f"{TOP}/release/tellcrock"
-OPTIONS = ["variables", "operation", "unsized", "listen", "upstream", "target", "workers", "connections", "endless", "idle", "stop", "help", "limit"]
+OPTIONS = ["variables", "operation", "unsized", "listen", "upstream", "target", "workers", "connections", "endless", "idle", "stop", "trusted", "trusted-only",
+           "pass", "hints", "help", "limit"]
 NUMBERS = ["0", "1", "00010", "16", "17", "5000", "5001", "1000000", "1000001", "99999999999999999999", "+4", "-1", "1.0", "", "ten"]
-FILES = ["books.graphql", "titles.graphql", "search.json", "reply.json", "day.clients", "minute.script", "not_there", "-", ""]
+FILES = ["books.graphql", "titles.graphql", "search.json", "reply.json", "day.clients", "minute.script", "trusted.json", "not_there", "-", ""]
 # What an option takes, so that most lists are nearly right.
 VALUES = {
     "variables": FILES,
@@ -28,6 +29,8 @@ VALUES = {
     "connections": NUMBERS,
     "idle": NUMBERS,
     "stop": ["not_there", ""],
+    "trusted": ["trusted.json", "trusted.json", *FILES],
+    "pass": ["x-trace", "authorization", "Host", "proxy-x", "x:y", "x y", "", "'", "*", "-x", "é"],
 }
 # The usual arguments of each command.
 USUAL = {
@@ -46,8 +49,8 @@ USUAL = {
 OWN = {
     **dict.fromkeys(["price", "worst", "forward", "meter"], ["variables", "operation", "unsized"]),
     "introspect": ["variables", "operation"],
-    "replay": ["unsized"],
-    "serve": ["target", "workers", "connections", "endless", "idle", "stop", "unsized"],
+    "replay": ["unsized", "trusted", "trusted-only"],
+    "serve": ["target", "workers", "connections", "endless", "idle", "stop", "trusted", "trusted-only", "pass", "pass", "hints", "unsized"],
 }
 
 

@@ -6,7 +6,8 @@
 Each family of documents is built at four lengths, the longest of them the longest body that the gateway takes, and priced by the built program
 (`crates/gateway_cli/out/gateway_cli`, or the one that is named) under a bound of time and memory. A line says the processor seconds and the megabytes
 at each length, and by what factor the seconds grow from the last length but one, which is half as long. The status is 1 where a document takes more
-than 2 seconds or 200 MB, as those with sets in orders, with defaults and with great variables do today (docs/operating.md says from which length on).
+than 2 seconds or 200 MB, as those with sets in orders, with calls that all differ and with thousands of types do today (docs/operating.md says from
+which length on).
 With names, only these families are tried.
 """
 import argparse
@@ -112,12 +113,33 @@ def defaults(count):
     return "type Query { o(i: [I]): Int } input I { z: Int %s }" % " ".join("f%d: Int = 1" % i for i in range(count))
 
 
+def nested_defaults():
+    """An input object whose defaults have 20,000 nodes."""
+    return "type Query { o(i: I): Int } input I { z: Int %s } input J { %s }" % (" ".join("f%d: J = {}" % i for i in range(19)), " ".join("g%d: Int = 1" % i for i in range(998)))
+
+
+def many_arguments(count):
+    return "type Query { o(z: Int %s): Int }" % " ".join("a%d: Int = 1" % i for i in range(count))
+
+
+def own_calls(text, head=""):
+    """Keys whose calls all differ."""
+    return lambda n: head + "{%s}" % filled(n - len(head) - 2, lambda i: "k%d:o(%s)" % (i, text % i))
+
+
+def in_two_orders(i):
+    """A key with a call of its own, written in two ways."""
+    items = "{}" * 18
+    return "k%d:o(i:[{z:%d f0:2}%s])k%d:o(i:[{f0:2 z:%d}%s])" % (i, i, items, i, i, items)
+
+
 def great(a, b):
     """Two variables of as many values as an argument may have."""
     return json.dumps({"a": [a] * 19990, "b": [b] * 19990}, separators=(",", ":"))
 
 
 ONE_LIST = "type Query { o(i: [Int]): Int }"
+TWO_LISTS = "type Query { o(i: [Int], j: [Int]): Int }"
 FAMILIES = {
     "conditions": (ONE, lambda n: halves(n, key("...F"), lambda i: "...on N{a}")),
     "conditions of no type": (ONE, lambda n: halves(n, key("...F"), lambda i: "...{a}")),
@@ -143,8 +165,16 @@ FAMILIES = {
     "chain with keys of its own": (ONE, own_keys),
     "chain of two ways": (ONE, two_ways),
     "possible types": (many_types(4900), lambda n: "{%s}fragment F on I{%s}" % ("".join("k%d:n{...F}" % i for i in range(4)), filled(n - 80, lambda i: "...on T%d{a}" % (i % 4900)))),
+    "types without a field": (many_types(4900), lambda n: "{%s}fragment F on I{...on T0{a}}" % filled(n - 40, key("...F"))),
     "calls with defaults": (defaults(901), lambda n: "{%s}" % filled(n - 2, lambda i: "k%d:o(i:[%s])" % (i, "{}" * (20 + i % 2)))),
     "variables by turns": (ONE_LIST, by_turns("o(i:$a)", "o(i:$b)"), great(1, 2)),
+    "calls that all differ": (defaults(901), own_calls("i:[{z:%%d}%s]" % ("{}" * 21))),
+    "calls with a variable": (defaults(901), own_calls("i:[{z:$v}{z:%%d}%s]" % ("{}" * 20), "query($v:Int)"), '{"v":1}'),
+    "calls of thirty kinds": (defaults(901), lambda n: "{%s}" % filled(n - 2, lambda i: "k%d:o(i:[{z:%d}%s])" % (i, i % 30, "{}" * 21))),
+    "calls in two orders": (defaults(901), lambda n: "{%s}" % filled(n - 2, in_two_orders)),
+    "defaults of defaults": (nested_defaults(), own_calls("i:{z:%d}")),
+    "many arguments": (many_arguments(5000), own_calls("z:%d")),
+    "a great variable": (TWO_LISTS, own_calls("i:$a,j:[%d]", "query($a:[Int])"), great(1, 1)),
     "equal variables": (ONE_LIST, lambda n: "query($a:[Int],$b:[Int]){%s}" % filled(n // 3 * 2, lambda i: "k%d:o(i:$a)k%d:o(i:$b)" % (i, i)), great(1, 1)),
 }
 
