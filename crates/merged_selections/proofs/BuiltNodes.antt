@@ -26,9 +26,9 @@ use Rattle.collected_fields.specs.Gathering.{IsReady, planning_of, written_at}
 use Rattle.merged_selections.specs.declared.stop.Stop.{Stop}
 use Rattle.merged_selections.specs.declared.node.Looked.{Looked}
 use Rattle.merged_selections.specs.declared.building.Building.{Building}
-use Rattle.merged_selections.specs.declared.call.Call.{Call}
+use Rattle.merged_selections.specs.declared.calls.Calls.{Calls}
 use Rattle.merged_selections.specs.NodeParts.{handed_data, types_at, when_true}
-use Rattle.merged_selections.specs.NodeTests.{IsThere, IsFound, IsKept}
+use Rattle.merged_selections.specs.NodeTests.{IsThere, IsFound, AreKept}
 use Rattle.merged_selections.specs.Outcomes.{Outcome, has_left, used_up, unless_fault, outcome, under_outcome, IsStop}
 use Rattle.merged_selections.specs.Stages.{levels_from, key_seen, types_rows, node_visits, node_row, node_rows, Frame, frame, setting_built, CanBuild, CanBuildNode, BuildsRows, BuildsTypes, number_below, row_looked, PushesRow}
 use Rattle.merged_selections.proofs.VisitedParts.{node_past_limit, deep_past_limit, deep_outcome, node_outcome, same_stop}
@@ -195,24 +195,24 @@ row_pushed old new depth T first all looked (Err failed) row h is = tt
 
 -- ---- frames
 
-pub frames : (old : Building) (c : Collector) → planning_of c ≡ planning_of old.collector → written_at c ≡ written_at old.collector → frame (record { collector = c; plan = old.plan; left = old.left; last = old.last }) ≡ frame old
+pub frames : (old : Building) (c : Collector) → planning_of c ≡ planning_of old.collector → written_at c ≡ written_at old.collector → frame (record { collector = c; plan = old.plan; left = old.left; calls = old.calls }) ≡ frame old
 frames old c planning written = ap (λ (pl : Planning). (pl, written_at c, setting_in old.plan, old.plan.root.number, old.plan.schema.now, old.plan.weights.now)) planning ∙ ap (λ (w : ℕ → WrittenSelections). (planning_of old.collector, w, setting_in old.plan, old.plan.root.number, old.plan.schema.now, old.plan.weights.now)) written
 
-pub can_after : (old : Building) (c : Collector) → planning_of c ≡ planning_of old.collector → (IsReady old.collector → IsReady c) → CanBuild old → CanBuild (record { collector = c; plan = old.plan; left = old.left; last = old.last })
+pub can_after : (old : Building) (c : Collector) → planning_of c ≡ planning_of old.collector → (IsReady old.collector → IsReady c) → CanBuild old → CanBuild (record { collector = c; plan = old.plan; left = old.left; calls = old.calls })
 can_after old c planning ready can = record {
   collector = ready can.collector;
   plan = can.plan ∙ ap (λ (pl : Planning). setting_without_values (setting_of_planning pl).schema (setting_of_planning pl).weights) (sym planning);
-  last = subst (λ (pl : Planning). IsKept (setting_of_planning pl) old.last) (sym planning) can.last;
+  calls = subst (λ (pl : Planning). AreKept (setting_of_planning pl) old.calls) (sym planning) can.calls;
 }
 
--- the last call, where a node is looked at
-pub kept_before : (old : Building) (pl : Planning) → pl ≡ planning_of old.collector → CanBuild old → IsKept (setting_of_planning pl) old.last
-kept_before old pl is can = subst (λ (x : Planning). IsKept (setting_of_planning x) old.last) (sym is) can.last
+-- the calls that were made, where a node is looked at
+pub kept_before : (old : Building) (pl : Planning) → pl ≡ planning_of old.collector → CanBuild old → AreKept (setting_of_planning pl) old.calls
+kept_before old pl is can = subst (λ (x : Planning). AreKept (setting_of_planning x) old.calls) (sym is) can.calls
 
-pub can_still : (old : Building) (pl : Planning) (left : ℕ) (last : Option Call) → pl ≡ planning_of old.collector → (IsKept (setting_of_planning pl) old.last → IsKept (setting_of_planning pl) last) → CanBuild old
-    → CanBuild (record { collector = old.collector; plan = old.plan; left = left; last = last })
-can_still old pl left last is kept can = record {
+pub can_still : (old : Building) (pl : Planning) (left : ℕ) (calls : Calls) → pl ≡ planning_of old.collector → (AreKept (setting_of_planning pl) old.calls → AreKept (setting_of_planning pl) calls) → CanBuild old
+    → CanBuild (record { collector = old.collector; plan = old.plan; left = left; calls = calls })
+can_still old pl left calls is kept can = record {
   collector = can.collector;
   plan = can.plan;
-  last = subst (λ (x : Planning). IsKept (setting_of_planning x) last) is (kept (kept_before old pl is can));
+  calls = subst (λ (x : Planning). AreKept (setting_of_planning x) calls) is (kept (kept_before old pl is can));
 }

@@ -1,5 +1,5 @@
 -- The plan of an operation, from what is built at its root.
-use Rattle.std.proofs.Common.{◌≡◌, ℕ, suc, List, [], ◌∷◌, ◌++◌, map, Option, Some, None, Result, Ok, Err, Bor, refl, sym, ap, ◌∙◌, subst}
+use Rattle.std.proofs.Common.{◌≡◌, ℕ, suc, List, [], ◌∷◌, ◌++◌, map, Some, None, Result, Ok, Err, Bor, refl, sym, ap, ◌∙◌, subst}
 use Rattle.document_reader.specs.declared.trees.Fragment.{Fragment}
 use Rattle.document_reader.specs.declared.trees.Selection.{Selection}
 use Rattle.document_reader.specs.Documents.{SelectionTrees}
@@ -32,11 +32,10 @@ use Rattle.collected_fields.specs.Gathering.{IsReady, written_at}
 use Rattle.merged_selections.specs.declared.stop.Stop.{Stop}
 use Rattle.merged_selections.specs.declared.fault.PlanFault.{PlanFault}
 use Rattle.merged_selections.specs.declared.building.Building.{Building}
-use Rattle.merged_selections.specs.declared.call.Call.{Call}
 use Rattle.merged_selections.specs.Faults.{IsTold, AnswersPlan}
 use Rattle.merged_selections.specs.Building.{setting_for, answer_for, IsPlanned, setting_beside, answer_on, planned_on, AnswersSelections}
 use Rattle.merged_selections.specs.Outcomes.{Outcome, has_left, outcome, answer_from, IsStop}
-use Rattle.merged_selections.specs.NodeTests.{IsKept}
+use Rattle.merged_selections.specs.NodeTests.{AreKept}
 use Rattle.merged_selections.specs.Stages.{types_rows, Frame, frame, setting_built, position_built, CanBuild, BuildsRows, BuildsTypes}
 use Rattle.merged_selections.proofs.VisitedParts.{answer_of_outcome}
 
@@ -50,12 +49,12 @@ has_rows e l root p plan is weighs rows = ((sym is, weighs), rows)
 
 module _ (e : Setting) (root : ℕ) (selections : SelectionTrees) (building new : Building) (list : ℕ) (setting_there : setting_built building ≡ e) (acyclic : IsAcyclic e (position_on root selections))
     (ready : IsReady building.collector) (written : written_at building.collector list ≡ (Some root, selections)) (tied : setting_in building.plan ≡ setting_without_values e.schema e.weights)
-    (plan_root : building.plan.root.number ≡ root) (no_rows : table_rows building.plan ≡ []) (left : building.left ≡ node_limit) (no_call : building.last ≡ None) (same : frame new ≡ frame building) where
+    (plan_root : building.plan.root.number ≡ root) (no_rows : table_rows building.plan ≡ []) (left : building.left ≡ node_limit) (no_call : AreKept (setting_built building) building.calls) (same : frame new ≡ frame building) where
   position_there : position_built building (list ∷ []) None ≡ position_on root selections
   position_there = ap (λ (w : WrittenSelections). record { selections = w ∷ []; handed = None }) written
 
   can_begin : CanBuild building
-  can_begin = record { collector = ready; plan = tied ∙ ap (λ (x : Setting). setting_without_values x.schema x.weights) (sym setting_there); last = subst (λ (call : Option Call). IsKept (setting_built building) call) (sym no_call) tt }
+  can_begin = record { collector = ready; plan = tied ∙ ap (λ (x : Setting). setting_without_values x.schema x.weights) (sym setting_there); calls = no_call }
 
   acyclic_there : IsAcyclic (setting_built building) (position_built building (list ∷ []) None)
   acyclic_there = subst (λ (x : Setting). IsAcyclic x (position_built building (list ∷ []) None)) (sym setting_there) (subst (λ (p : Position). IsAcyclic e p) (sym position_there) acyclic)

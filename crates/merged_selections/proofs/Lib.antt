@@ -1,4 +1,6 @@
 pub mod AlikeArguments
+pub mod KeptCalls
+pub mod ComparedCalls
 pub mod BuiltNodes
 pub mod BuiltParts
 pub mod BuiltPlans

@@ -1,5 +1,5 @@
 -- The tests of a node, one after another, and what is found of it where it passes them.
-use Rattle.std.specs.Prelude.{◌≡◌, ℕ, Bool, not, List, ◌∷◌, map, option_map, Option, None, Some, Result, Ok, Err, if◌then◌else◌}
+use Rattle.std.specs.Prelude.{◌≡◌, ℕ, Bool, true, not, List, ◌∷◌, map, option_map, ◌++◌, All, IfSome, slice_get, Option, None, Some, Result, Ok, Err, if◌then◌else◌}
 use Rattle.std.specs.List.{list_any}
 use Rattle.std.specs.Str.{bytes_eq}
 use Rattle.cost_num.specs.Capped.{capped}
@@ -24,6 +24,7 @@ use Rattle.collected_fields.specs.declared.collected.Collected.{Collected}
 use Rattle.collected_fields.specs.Views.{setting_of_planning, collected_field}
 use Rattle.plan_table.specs.Tables.{meaning_of}
 use Rattle.merged_selections.specs.declared.call.Call.{Call}
+use Rattle.merged_selections.specs.declared.calls.Calls.{Calls}
 use Rattle.merged_selections.specs.declared.lookups.Handed.{Handed}
 use Rattle.merged_selections.specs.declared.node.Looked.{Looked}
 use Rattle.merged_selections.specs.declared.why.Why.{Why}
@@ -116,18 +117,58 @@ pub record IsCall (e : Setting) (field : ℕ) (f : CollectedField) (call : Call)
   pub hands : handed_data call.hands ≡ handed_by e field (args_data call.args)
 
 -- A call that is kept is that of its own field.
-abbrev pub IsKept : Setting → Option Call → Type 0
-IsKept e None = Unit {0}
-IsKept e (Some call) = IsCall e call.of.number (collected_field call.field) call
+abbrev pub IsKept : Setting → Call → Type 0
+IsKept e call = IsCall e call.of.number (collected_field call.field) call
+
+-- One stands at this place, of which this holds.
+abbrev pub IsThereWith : (Call → Type 0) → Option Call → Type 0
+IsThereWith Holds None = ⊥
+IsThereWith Holds (Some call) = Holds call
+
+-- whether the arguments of two calls are equal
+abbrev pub same_calls : Call → Call → Bool
+same_calls call other = same_arguments (args_data call.args) (args_data other.args)
+
+abbrev pub IsSamePair : List Call → ℕ × ℕ → Type 0
+IsSamePair calls pair = IsThereWith (λ call. IsThereWith (λ other. same_calls call other ≡ true) (slice_get calls pair.1)) (slice_get calls pair.0)
+
+-- The call at a place is equal to this one.
+abbrev pub IsSameAsAt : List Call → ℕ → Call → Type 0
+IsSameAsAt calls at other = IsThereWith (λ call. same_calls call other ≡ true) (slice_get calls at)
+
+-- So are they all, and the pairs that are noted are of equal calls.
+abbrev pub AreKept : Setting → Calls → Type 0
+AreKept e calls = All (IsKept e) calls.made.items × All (IsSamePair calls.made.items) calls.same.items
+
+-- whether the calls at two places are equal
+abbrev pub AreSameAt : List Call → ℕ → ℕ → Bool → Type 0
+AreSameAt calls at place same = IfSome (slice_get calls at) (λ call. IfSome (slice_get calls place) (λ other. same ≡ same_calls call other))
 
 -- The call is of the field of this number, whose arguments are given alike.
 abbrev pub IsAlike : Call → ℕ → CollectedField → Type 0
 IsAlike call field f = (call.of.number ≡ field) × AreGivenAlike (collected_field call.field).call.arguments f.call.arguments
 
 -- A call of a field that may be kept, or what its arguments are refused for.
-abbrev pub Calls : Setting → ℕ → CollectedField → Result Call ArgFault → Type 0
-Calls e field f (Ok call) = IsCall e field f call × IsKept e (Some call)
-Calls e field f (Err fault) = IsTold (argument_told fault) (coerced_of e field f)
+abbrev pub MakesCall : Setting → ℕ → CollectedField → Result Call ArgFault → Type 0
+MakesCall e field f (Ok call) = IsCall e field f call × IsKept e call
+MakesCall e field f (Err fault) = IsTold (argument_told fault) (coerced_of e field f)
+
+-- ---- calls at their places
+
+abbrev pub IsAlikeAt : List Call → ℕ → ℕ → CollectedField → Type 0
+IsAlikeAt calls at field f = IsThereWith (λ call. IsAlike call field f) (slice_get calls at)
+
+abbrev pub IsCallAt : Setting → List Call → ℕ → ℕ → CollectedField → Type 0
+IsCallAt e calls at field f = IsThereWith (IsCall e field f) (slice_get calls at)
+
+-- The place of a call of a field, or what its arguments are refused for.
+abbrev pub FindsCall : Setting → ℕ → CollectedField → List Call → Result ℕ ArgFault → Type 0
+FindsCall e field f calls (Ok at) = IsCallAt e calls at field f
+FindsCall e field f calls (Err fault) = IsTold (argument_told fault) (coerced_of e field f)
+
+-- Some stand behind these now, or none.
+abbrev pub Grows : List Call → List Call → Type 0
+Grows calls now = (more : List Call) × (now ≡ calls ++ more)
 
 -- ---- what the calls on a field say
 
@@ -135,14 +176,19 @@ module _ (p : Planning) (of : FieldId) where
   abbrev pub setting_seen : Setting
   setting_seen = setting_of_planning p
 
-  -- whether another field's arguments differ from those of the first
-  abbrev pub ComparesOne : Collected → List ArgData → Collected → Result Bool ArgFault → Type 0
-  ComparesOne first args other result =
-      coerced_of setting_seen of.number (collected_field first) ≡ Ok args → Compares result (refused_in setting_seen of.number (collected_field other)) (differs_from setting_seen of.number args (collected_field other))
+  -- the call at a place
+  module _ (calls : List Call) (at : ℕ) where
+    abbrev pub ForCallAt : (Call → Type 0) → Type 0
+    ForCallAt Holds = IfSome (slice_get calls at) Holds
 
-  abbrev pub ComparesAll : Collected → List ArgData → List Collected → Result Bool ArgFault → Type 0
-  ComparesAll first args others result =
-      coerced_of setting_seen of.number (collected_field first) ≡ Ok args → Compares result (first_refused setting_seen of.number (map collected_field others)) (differ_from setting_seen of.number args (map collected_field others))
+    -- whether another field's arguments differ from those of the call
+    abbrev pub ComparesAt : Collected → Result Bool ArgFault → Type 0
+    ComparesAt other result =
+        ForCallAt (λ call. Compares result (refused_in setting_seen of.number (collected_field other)) (differs_from setting_seen of.number (args_data call.args) (collected_field other)))
+
+    abbrev pub ComparesAll : List Collected → Result Bool ArgFault → Type 0
+    ComparesAll others result =
+        ForCallAt (λ call. Compares result (first_refused setting_seen of.number (map collected_field others)) (differ_from setting_seen of.number (args_data call.args) (map collected_field others)))
 
   abbrev pub name_seen : Collected → List ℕ
   name_seen first = (collected_field first).call.name
@@ -161,8 +207,11 @@ module _ (p : Planning) (of : FieldId) where
     abbrev pub LooksAfterArguments : Result Looked Why → Type 0
     LooksAfterArguments result = IsCallHere → Looks IsFoundHere result (fault_after_arguments setting_seen of.number (handed_data handed) (name_seen first) (args_data call.args))
 
-    abbrev pub LooksAfterFirst : List Collected → Result Looked Why → Type 0
-    LooksAfterFirst others result = IsCallHere → Looks IsFoundHere result (fault_of_others setting_seen of.number (handed_data handed) (name_seen first) (args_data call.args) (map collected_field others))
+    abbrev pub LooksBeforeOthers : List Collected → Result Looked Why → Type 0
+    LooksBeforeOthers others result = IsCallHere → Looks IsFoundHere result (fault_of_others setting_seen of.number (handed_data handed) (name_seen first) (args_data call.args) (map collected_field others))
+
+  abbrev pub LooksAfterFirst : Option Handed → Collected → List Call → ℕ → List Collected → Result Looked Why → Type 0
+  LooksAfterFirst handed first calls at others result = ForCallAt calls at (λ call. LooksBeforeOthers handed first call others result)
 
   abbrev pub LooksAfterNames : Option Handed → Collected → List Collected → Result Looked Why → Type 0
   LooksAfterNames handed first others result =

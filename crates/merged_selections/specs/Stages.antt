@@ -22,7 +22,7 @@ use Rattle.plan_table.specs.Tables.{setting_without_values, meaning_of, below_at
 use Rattle.merged_selections.specs.declared.node.Looked.{Looked}
 use Rattle.merged_selections.specs.declared.stop.Stop.{Stop}
 use Rattle.merged_selections.specs.declared.building.Building.{Building}
-use Rattle.merged_selections.specs.NodeTests.{IsKept}
+use Rattle.merged_selections.specs.NodeTests.{AreKept}
 use Rattle.merged_selections.specs.Outcomes.{has_left, outcome, IsStop}
 
 -- how many levels may stand below nodes of this depth, with these themselves
@@ -102,11 +102,11 @@ setting_built b = setting_at b.collector
 abbrev pub position_built : Building → List ℕ → HandedSize → Position
 position_built b lists handed = record { selections = map (written_at b.collector) lists; handed = handed }
 
--- The collector may be asked, the plan is of the same schema and weights, and the last call is what was made of it.
+-- The collector may be asked, the plan is of the same schema and weights, and the calls are what was made of them.
 pub record CanBuild (b : Building) : Type 0 where
   pub collector : IsReady b.collector
   pub plan : setting_in b.plan ≡ setting_without_values (setting_built b).schema (setting_built b).weights
-  pub last : IsKept (setting_built b) b.last
+  pub calls : AreKept (setting_built b) b.calls
 
 abbrev pub CanBuildAt : Building → List ℕ → Type 0
 CanBuildAt b lists = CanBuild b × IsAcyclic (setting_built b) (position_built b lists None)

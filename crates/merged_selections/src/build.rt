@@ -11,6 +11,7 @@ ghost use Rattle.merged_selections.specs.Building.{answer_for, IsPlanned, settin
 
 use crate::NODE_LIMIT;
 use crate::building::Building;
+use crate::calls::Calls;
 use crate::fault::PlanFault;
 use crate::few::are_few;
 use crate::stop::fault_of;
@@ -61,7 +62,7 @@ fn build_from<'a, 'b>(
         collector,
         plan: Plan::new(alloc, schema, weights, root),
         left: NODE_LIMIT,
-        last: None,
+        calls: Calls::new(alloc),
     };
     match building.build_types(alloc, 1, &[root], &[list], None) {
         Ok(()) => Ok(building.into_plan()),

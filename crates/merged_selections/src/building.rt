@@ -7,7 +7,7 @@ ghost use Rattle.merged_selections.specs.NodeParts.{handed_data, types_at};
 ghost use Rattle.merged_selections.specs.Stages.{frame, CanBuild, BuildsTypes, BuildsType, BuildsGroups, BuildsGroup, BuildsNode, number_below, PushesRow};
 
 use crate::LEVEL_LIMIT;
-use crate::call::Call;
+use crate::calls::Calls;
 use crate::lookups::{Handed, any_asks, key_of, name_of, types_below};
 use crate::node::{Looked, look};
 use crate::stop::{Stop, stopped, under};
@@ -26,8 +26,8 @@ pub struct Building<'p, 'a> {
     pub plan: Plan<'a>,
     /// How many nodes may still be planned.
     pub left: usize,
-    /// The last call that was made.
-    pub last: Option<Call<'p>>,
+    /// The calls that were made.
+    pub calls: Calls<'p>,
 }
 
 /// The numbers of the selections of these fields.
@@ -210,7 +210,7 @@ impl<'p, 'a> Building<'p, 'a> {
             return Err(stopped(alloc, key, Why::TooDeep));
         }
         let planning = self.collector.planning();
-        match look(alloc, &planning, of, handed, field, others, &mut self.last) {
+        match look(alloc, &planning, of, handed, field, others, &mut self.calls) {
             Err(why) => Err(stopped(alloc, key, why)),
             Ok(looked) => {
                 self.push_row(alloc, depth, of, first, field, others, &looked)?;

@@ -1,11 +1,10 @@
-//! A field's call: its coerced arguments, and what a node takes of them. The last one is kept for the next node.
+//! A field's call: its coerced arguments, and what a node takes of them.
 
-ghost use Rattle.std.specs.Prelude.{◌≡◌, IsTrue, IfOk, IfSome, None, Some};
+ghost use Rattle.std.specs.Prelude.{◌≡◌, IsTrue};
 ghost use Rattle.schema_model.specs.Arguments.{args_data};
-ghost use Rattle.variable_coercion.specs.Calls.{AnswersRefusal, argument_told};
 ghost use Rattle.collected_fields.specs.Views.{setting_of_planning, collected_field};
 ghost use Rattle.merged_selections.specs.NodeParts.{handed_data};
-ghost use Rattle.merged_selections.specs.NodeTests.{coerced_of, handed_by, Calls, IsKept, IsAlike};
+ghost use Rattle.merged_selections.specs.NodeTests.{handed_by, IsAlike, MakesCall};
 
 use crate::arguments::arguments_of;
 use crate::lookups::Handed;
@@ -41,42 +40,21 @@ fn hands<'a>(planning: &Planning<'a>, of: FieldId, args: &Args) -> Option<Handed
 }
 
 /// Whether a call is of this field, with arguments that are written alike.
-fn is_alike(call: &Call<'_>, of: FieldId, field: &Collected<'_>) -> bool
+pub fn is_alike(call: &Call<'_>, of: FieldId, field: &Collected<'_>) -> bool
     ensures { IsTrue result → IsAlike call.now of.number (collected_field field.now) }
 {
     let written = call.field.field.arguments.as_slice();
     call.of == of && alike_arguments(written, field.field.arguments.as_slice())
 }
 
-/// The last call, if it is one of this field with arguments that are written alike. None is kept then.
-fn take_alike<'a>(
-    last: &mut Option<Call<'a>>,
-    of: FieldId,
-    field: &Collected<'_>,
-) -> Option<Call<'a>>
-    ensures alike { IfSome result (λ call. (last.old ≡ Some call) × IsAlike call of.number (collected_field field.now)) }
-    ensures none { last.new ≡ None }
-{
-    match last.take() {
-        Some(call) => {
-            if is_alike(&call, of, field) {
-                Some(call)
-            } else {
-                None
-            }
-        }
-        None => None,
-    }
-}
-
-/// A call that is made anew.
-fn new_call<'a>(
+/// A field's call.
+pub fn new_call<'a>(
     alloc: Global,
     planning: &Planning<'a>,
     of: FieldId,
     field: &Collected<'a>,
 ) -> Result<Call<'a>, ArgFault>
-    ensures { Calls (setting_of_planning planning.now) of.number (collected_field field.now) result }
+    ensures { MakesCall (setting_of_planning planning.now) of.number (collected_field field.now) result }
 {
     match arguments_of(alloc, planning, of, field) {
         Ok(args) => Ok(Call {
@@ -87,23 +65,5 @@ fn new_call<'a>(
             args,
         }),
         Err(fault) => Err(fault),
-    }
-}
-
-/// The call of a field. The last one is taken where it comes to the same, so that one call is made for all that are written
-/// alike and follow each other, however great the values of their variables are.
-pub fn call_of<'a>(
-    alloc: Global,
-    planning: &Planning<'a>,
-    of: FieldId,
-    field: &Collected<'a>,
-    last: &mut Option<Call<'a>>,
-) -> Result<Call<'a>, ArgFault>
-    ensures call { IsKept (setting_of_planning planning.now) last.old → Calls (setting_of_planning planning.now) of.number (collected_field field.now) result }
-    ensures none { last.new ≡ None }
-{
-    match take_alike(last, of, field) {
-        Some(call) => Ok(call),
-        None => new_call(alloc, planning, of, field),
     }
 }

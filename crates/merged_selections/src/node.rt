@@ -1,11 +1,12 @@
 //! The tests of a node, in their order, and what is found of one that passes them.
 
-ghost use Rattle.std.specs.Prelude.{◌≡◌, map};
+ghost use Rattle.std.specs.Prelude.{◌≡◌, ◌<◌, length, map};
 ghost use Rattle.collected_fields.specs.Views.{setting_of_planning, collected_field};
-ghost use Rattle.merged_selections.specs.NodeTests.{IsKept, LooksAfterSize, LooksAfterArguments, LooksAfterFirst, LooksAfterNames, LooksAt, fields_seen, names_not, size_of};
+ghost use Rattle.merged_selections.specs.NodeTests.{AreKept, LooksAfterSize, LooksAfterArguments, LooksAfterFirst, LooksAfterNames, LooksAt, fields_seen, names_not, size_of};
 
 use crate::arguments::any_differs;
-use crate::call::{Call, call_of};
+use crate::call::Call;
+use crate::calls::Calls;
 use crate::lookups::{Handed, Meaning, handed_in, has_lists, lacks_types, meaning_on, name_of};
 use crate::why::Why;
 use collected_fields::{Collected, Planning};
@@ -79,15 +80,19 @@ fn after_first<'a>(
     planning: &Planning<'a>,
     of: FieldId,
     handed: Option<Handed<'_>>,
-    call: &Call<'a>,
+    at: usize,
     first: &Collected<'a>,
     others: &[Collected<'a>],
+    calls: &mut Calls<'a>,
 ) -> Result<Looked<'a>, Why>
-    ensures { LooksAfterFirst planning.now of handed.entry first.now call.now others.now result }
+    requires there { at < length calls.old.made.items }
+    ensures kept { AreKept (setting_of_planning planning.now) calls.old → AreKept (setting_of_planning planning.now) calls.new }
+    ensures looks { AreKept (setting_of_planning planning.now) calls.old → LooksAfterFirst planning.now of handed.entry first.now calls.old.made.items at others.now result }
 {
-    match any_differs(alloc, planning, of, first, &call.args, others) {
+    let looked = after_arguments(planning, of, &calls.made[at], handed, first);
+    match any_differs(alloc, planning, of, at, others, calls) {
         Ok(true) => Err(Why::Conflict),
-        Ok(false) => after_arguments(planning, of, call, handed, first),
+        Ok(false) => looked,
         Err(fault) => Err(Why::Argument(fault)),
     }
 }
@@ -99,17 +104,13 @@ fn after_names<'a>(
     handed: Option<Handed<'_>>,
     first: &Collected<'a>,
     others: &[Collected<'a>],
-    last: &mut Option<Call<'a>>,
+    calls: &mut Calls<'a>,
 ) -> Result<Looked<'a>, Why>
-    ensures kept { IsKept (setting_of_planning planning.now) last.old → IsKept (setting_of_planning planning.now) last.new }
-    ensures looks { IsKept (setting_of_planning planning.now) last.old → LooksAfterNames planning.now of handed.entry first.now others.now result }
+    ensures kept { AreKept (setting_of_planning planning.now) calls.old → AreKept (setting_of_planning planning.now) calls.new }
+    ensures looks { AreKept (setting_of_planning planning.now) calls.old → LooksAfterNames planning.now of handed.entry first.now others.now result }
 {
-    match call_of(alloc, planning, of, first, last) {
-        Ok(call) => {
-            let looked = after_first(alloc, planning, of, handed, &call, first, others);
-            *last = Some(call);
-            looked
-        }
+    match calls.call_of(alloc, planning, of, first) {
+        Ok(at) => after_first(alloc, planning, of, handed, at, first, others, calls),
         Err(fault) => Err(Why::Argument(fault)),
     }
 }
@@ -125,8 +126,8 @@ fn names_differ(fields: &[Collected<'_>], name: &str) -> bool
     false
 }
 
-/// What is found of the node whose fields these are, for objects of a type, or the first test that it doesn't pass. `last` is
-/// the last call that was made.
+/// What is found of the node whose fields these are, for objects of a type, or the first test that it doesn't pass. `calls` are
+/// those that were made before.
 pub fn look<'a>(
     alloc: Global,
     planning: &Planning<'a>,
@@ -134,17 +135,17 @@ pub fn look<'a>(
     handed: Option<Handed<'_>>,
     first: &Collected<'a>,
     others: &[Collected<'a>],
-    last: &mut Option<Call<'a>>,
+    calls: &mut Calls<'a>,
 ) -> Result<Looked<'a>, Why>
-    ensures kept { IsKept (setting_of_planning planning.now) last.old → IsKept (setting_of_planning planning.now) last.new }
-    ensures looks { IsKept (setting_of_planning planning.now) last.old → LooksAt (setting_of_planning planning.now) of.number handed.entry (fields_seen first.now others.now) result }
+    ensures kept { AreKept (setting_of_planning planning.now) calls.old → AreKept (setting_of_planning planning.now) calls.new }
+    ensures looks { AreKept (setting_of_planning planning.now) calls.old → LooksAt (setting_of_planning planning.now) of.number handed.entry (fields_seen first.now others.now) result }
 {
     let name = name_of(first);
     if names_differ(others, name) {
         return Err(Why::Conflict);
     }
     match meaning_on(planning.schema, of, name) {
-        Meaning::Known(field) => after_names(alloc, planning, field, handed, first, others, last),
+        Meaning::Known(field) => after_names(alloc, planning, field, handed, first, others, calls),
         Meaning::NameOfType => Ok(Looked {
             field: None,
             size: None,

@@ -44,9 +44,9 @@ build_groups-returns-clause-built t c =
 
 pub build_type-returns-clause-built : goal.build_type-returns-clause-built
 build_type-returns-clause-built t c =
-    type_built c.args.self.now (record { collector = c.collect.new.self; plan = c.args.self.now.plan; left = c.args.self.now.left; last = c.args.self.now.last }) c.build_groups.new.self (frames c.args.self.now c.collect.new.self c.collect.ensures.planning c.collect.ensures.written) refl refl c.args.depth c.args.of.number c.args.lists.now (handed_data c.args.handed) c.in_ok-groups.groups.items c.build_groups.result
+    type_built c.args.self.now (record { collector = c.collect.new.self; plan = c.args.self.now.plan; left = c.args.self.now.left; calls = c.args.self.now.calls }) c.build_groups.new.self (frames c.args.self.now c.collect.new.self c.collect.ensures.planning c.collect.ensures.written) refl refl c.args.depth c.args.of.number c.args.lists.now (handed_data c.args.handed) c.in_ok-groups.groups.items c.build_groups.result
     (can_after c.args.self.now c.collect.new.self c.collect.ensures.planning c.collect.ensures.ready) (λ can. c.in_ok-groups.ensures.found can.collector) c.in_ok-groups.ensures.filled (λ can. c.in_ok-groups.ensures.below can.collector)
-    (subst (λ (gs : List Group). BuildsGroups (record { collector = c.collect.new.self; plan = c.args.self.now.plan; left = c.args.self.now.left; last = c.args.self.now.last }) c.args.depth c.build_groups.result c.build_groups.new.self c.args.of.number gs (handed_data c.args.handed)) c.as_slice.ensures.value c.build_groups.ensures.built)
+    (subst (λ (gs : List Group). BuildsGroups (record { collector = c.collect.new.self; plan = c.args.self.now.plan; left = c.args.self.now.left; calls = c.args.self.now.calls }) c.args.depth c.build_groups.result c.build_groups.new.self c.args.of.number gs (handed_data c.args.handed)) c.as_slice.ensures.value c.build_groups.ensures.built)
 
 pub build_node-returns-then-self-eq0-clause-built : goal.build_node-returns-then-self-eq0-clause-built
 build_node-returns-then-self-eq0-clause-built t c = λ can. past_limit (setting_built c.args.self.now) c.args.of.number (handed_data c.args.handed) (map collected_field (c.args.field.now ∷ c.args.others.now)) (levels_from c.args.depth) c.args.self.now.left c.if-self-eq0.true
@@ -62,7 +62,7 @@ build_node-returns-in-Err-clause-built t c = λ can. fault_stops (setting_built 
 pub build_node-returns-in-Ok-build_types-clause-built : goal.build_node-returns-in-Ok-build_types-clause-built
 build_node-returns-in-Ok-build_types-clause-built t c = λ can.
     let here = below_built c.args.self.now c.push_row.new.self c.build_types.new.self c.args.depth c.args.of.number c.args.first c.args.field.now c.args.others.now (handed_data c.args.handed) c.in-Ok.looked c.types_at-types.result.now c.as_slice.result.now c.in_ok-push_row-in-Ok.ensures.frame (subst (λ (pl : Planning). IsFound (setting_of_planning pl) c.args.of.number (handed_data c.args.handed) (collected_field c.args.field.now).call c.in-Ok.looked) c.planning-planning.ensures (c.in-Ok.ensures.looks (kept_before c.args.self.now _ c.planning-planning.ensures can.0)).1)
-    (c.types_at-types.ensures ∙ ap (λ (pl : Planning). types_at (setting_of_planning pl).schema c.in-Ok.looked.field) c.planning-planning.ensures) (c.as_slice.ensures.value ∙ c.in_ok-lists-in-Ok.ensures) can.1 (Ok c.in-Ok-build_types.field-0) (c.in_ok-push_row-in-Ok.ensures.ready (can_still c.args.self.now _ _ c.look.new.last c.planning-planning.ensures c.in-Ok.ensures.kept can.0)) c.in-Ok-build_types.ensures.built in (
+    (c.types_at-types.ensures ∙ ap (λ (pl : Planning). types_at (setting_of_planning pl).schema c.in-Ok.looked.field) c.planning-planning.ensures) (c.as_slice.ensures.value ∙ c.in_ok-lists-in-Ok.ensures) can.1 (Ok c.in-Ok-build_types.field-0) (c.in_ok-push_row-in-Ok.ensures.ready (can_still c.args.self.now _ _ c.look.new.calls c.planning-planning.ensures c.in-Ok.ensures.kept can.0)) c.in-Ok-build_types.ensures.built in (
       below_fine (setting_built c.args.self.now) c.args.of.number (handed_data c.args.handed) (map collected_field (c.args.field.now ∷ c.args.others.now)) c.args.self.now.left c.if-self-eq0.false c.key_of-key.result.now c.key_of-key.ensures (levels_from c.args.depth) (levels_from (c.args.depth + 1)) c.build_types.new.self.left (levels_more c.args.depth c.if-depth-gt-LEVEL_LIMIT.false) (ap (λ (pl : Planning). fault_of (setting_of_planning pl) c.args.of.number (handed_data c.args.handed) (map collected_field (c.args.field.now ∷ c.args.others.now))) (sym c.planning-planning.ensures) ∙ (c.in-Ok.ensures.looks (kept_before c.args.self.now _ c.planning-planning.ensures can.0)).0)
           (ap (λ n. outcome n (below_visits (setting_built c.args.self.now) c.args.of.number (handed_data c.args.handed) (map collected_field (c.args.field.now ∷ c.args.others.now)) (levels_from (c.args.depth + 1)))) (sym c.in_ok-push_row-in-Ok.ensures.left) ∙ here.0),
       rows_there c.args.self.now c.push_row.new.self c.build_types.new.self c.args.depth c.args.of.number c.args.first c.args.field.now c.args.others.now (handed_data c.args.handed) c.in-Ok.looked c.types_at-types.result.now c.as_slice.result.now c.in_ok-push_row-in-Ok.ensures.frame (subst (λ (pl : Planning). IsFound (setting_of_planning pl) c.args.of.number (handed_data c.args.handed) (collected_field c.args.field.now).call c.in-Ok.looked) c.planning-planning.ensures (c.in-Ok.ensures.looks (kept_before c.args.self.now _ c.planning-planning.ensures can.0)).1)
@@ -74,5 +74,20 @@ build_node-returns-clause-built t c = λ can.
     below_stops (setting_built c.args.self.now) c.args.of.number (handed_data c.args.handed) (map collected_field (c.args.field.now ∷ c.args.others.now)) c.args.self.now.left c.if-self-eq0.false c.key_of-key.result.now c.key_of-key.ensures (levels_from c.args.depth) (levels_from (c.args.depth + 1)) (levels_more c.args.depth c.if-depth-gt-LEVEL_LIMIT.false) (ap (λ (pl : Planning). fault_of (setting_of_planning pl) c.args.of.number (handed_data c.args.handed) (map collected_field (c.args.field.now ∷ c.args.others.now))) (sym c.planning-planning.ensures) ∙ (c.in-Ok.ensures.looks (kept_before c.args.self.now _ c.planning-planning.ensures can.0)).0) c.in-Err-build_types.stop c.under.result
     (subst (λ n. IsStop c.in-Err-build_types.stop (outcome n (below_visits (setting_built c.args.self.now) c.args.of.number (handed_data c.args.handed) (map collected_field (c.args.field.now ∷ c.args.others.now)) (levels_from (c.args.depth + 1))))) c.in_ok-push_row-in-Ok.ensures.left
     (below_built c.args.self.now c.push_row.new.self c.build_types.new.self c.args.depth c.args.of.number c.args.first c.args.field.now c.args.others.now (handed_data c.args.handed) c.in-Ok.looked c.types_at-types.result.now c.as_slice.result.now c.in_ok-push_row-in-Ok.ensures.frame (subst (λ (pl : Planning). IsFound (setting_of_planning pl) c.args.of.number (handed_data c.args.handed) (collected_field c.args.field.now).call c.in-Ok.looked) c.planning-planning.ensures (c.in-Ok.ensures.looks (kept_before c.args.self.now _ c.planning-planning.ensures can.0)).1)
-    (c.types_at-types.ensures ∙ ap (λ (pl : Planning). types_at (setting_of_planning pl).schema c.in-Ok.looked.field) c.planning-planning.ensures) (c.as_slice.ensures.value ∙ c.in_ok-lists-in-Ok.ensures) can.1 (Err c.in-Err-build_types.stop) (c.in_ok-push_row-in-Ok.ensures.ready (can_still c.args.self.now _ _ c.look.new.last c.planning-planning.ensures c.in-Ok.ensures.kept can.0)) c.in-Err-build_types.ensures.built))
+    (c.types_at-types.ensures ∙ ap (λ (pl : Planning). types_at (setting_of_planning pl).schema c.in-Ok.looked.field) c.planning-planning.ensures) (c.as_slice.ensures.value ∙ c.in_ok-lists-in-Ok.ensures) can.1 (Err c.in-Err-build_types.stop) (c.in_ok-push_row-in-Ok.ensures.ready (can_still c.args.self.now _ _ c.look.new.calls c.planning-planning.ensures c.in-Ok.ensures.kept can.0)) c.in-Err-build_types.ensures.built))
     c.under.ensures
+
+pub build_node-returns-in_err-push_row-in-Ok-clause-ready : goal.build_node-returns-in_err-push_row-in-Ok-clause-ready
+build_node-returns-in_err-push_row-in-Ok-clause-ready t c = λ can. c.in_err-push_row-in-Ok.ensures.ready (can_still c.args.self.now _ _ c.look.new.calls c.planning-planning.ensures c.in-Ok.ensures.kept can)
+
+pub build_node-returns-in_err-lists-in-Ok-clause-ready : goal.build_node-returns-in_err-lists-in-Ok-clause-ready
+build_node-returns-in_err-lists-in-Ok-clause-ready t c = λ can. c.in_ok-push_row-in-Ok.ensures.ready (can_still c.args.self.now _ _ c.look.new.calls c.planning-planning.ensures c.in-Ok.ensures.kept can)
+
+pub build_node-returns-in-Ok-build_types-clause-ready : goal.build_node-returns-in-Ok-build_types-clause-ready
+build_node-returns-in-Ok-build_types-clause-ready t c = λ can. c.in-Ok-build_types.ensures.ready (c.in_ok-push_row-in-Ok.ensures.ready (can_still c.args.self.now _ _ c.look.new.calls c.planning-planning.ensures c.in-Ok.ensures.kept can))
+
+pub build_node-returns-clause-ready : goal.build_node-returns-clause-ready
+build_node-returns-clause-ready t c = λ can. c.in-Err-build_types.ensures.ready (c.in_ok-push_row-in-Ok.ensures.ready (can_still c.args.self.now _ _ c.look.new.calls c.planning-planning.ensures c.in-Ok.ensures.kept can))
+
+pub build_type-returns-clause-ready : goal.build_type-returns-clause-ready
+build_type-returns-clause-ready t c = λ can. c.build_groups.ensures.ready (can_after c.args.self.now c.collect.new.self c.collect.ensures.planning c.collect.ensures.ready can)

@@ -1,0 +1,168 @@
+-- Calls that are kept: found at their places, and known to be equal.
+use Rattle.std.proofs.Common.{◌≡◌, ◌<◌, ℕ, zero, suc, Bool, true, false, not, arith, List, [], ◌∷◌, ◌++◌, length, get_or, All, Option, Some, None, Ok, refl, sym, ap, ◌∙◌, subst}
+use Rattle.std.specs.Prelude.{IfSome}
+use Rattle.std.specs.List.{slice_get}
+use Rattle.std.proofs.lemmas.List.Elements.{All-push}
+use Rattle.std.proofs.lemmas.Option.{slice_get_within, get_or_from_slice_get, slice_get_read}
+use Rattle.schema_model.specs.Arguments.{args_data}
+use Rattle.plan_model.specs.SelectedFields.{Setting, refusal_of, if_coerced}
+use Rattle.plan_model.specs.Collecting.{CollectedField}
+use Rattle.plan_model.specs.SameArguments.{same_arguments}
+use Rattle.plan_model.proofs.GivenArguments.{coerced_alike}
+use Rattle.collected_fields.specs.Views.{collected_field}
+use Rattle.merged_selections.specs.declared.call.Call.{Call}
+use Rattle.merged_selections.specs.NodeTests.{refused_in, differs_from, IsCall, IsKept, IsAlike, IsThereWith, IsAlikeAt, IsCallAt, same_calls, IsSamePair, IsSameAsAt, AreSameAt, Compares}
+use Rattle.merged_selections.proofs.NodeFaults.{same_themselves}
+
+-- ---- what stands at a place
+
+at_place : (P : Call → Type 0) (calls : List Call) (at : ℕ) (call : Call) → slice_get calls at ≡ Some call → All P calls → P call
+at_place P calls at call is all = subst P (get_or_from_slice_get calls at call call is) (all at call (slice_get_within calls at call is))
+
+-- a call of a field that is given alike is one of this field
+called_alike : (e : Setting) (field : ℕ) (f : CollectedField) (call : Call) → IsAlike call field f → IsKept e call → IsCall e field f call
+called_alike e field f call alike own = subst (λ (n : ℕ). IsCall e n f call) alike.0 (record {
+  coerced = sym (coerced_alike e.schema call.of.number e.values (collected_field call.field).call.arguments f.call.arguments alike.1) ∙ own.coerced;
+  cost = own.cost;
+  hands = own.hands;
+})
+
+-- so is the one at a place where one is given alike
+pub call_at : (e : Setting) (field : ℕ) (f : CollectedField) (calls : List Call) (at : ℕ) → All (IsKept e) calls → IsAlikeAt calls at field f → IsCallAt e calls at field f
+call_at e field f calls at kept = there (slice_get calls at) refl
+  where
+    there : (found : Option Call) → slice_get calls at ≡ found → IsThereWith (λ call. IsAlike call field f) found → IsThereWith (IsCall e field f) found
+    there None is alike = alike
+    there (Some call) is alike = called_alike e field f call alike (at_place (IsKept e) calls at call is kept)
+
+no_none : (calls : List Call) (at : ℕ) → at < length calls → slice_get calls at ≡ None → ⊥
+no_none [] at within none = absurd (omega arith)
+no_none (c ∷ calls) zero within none = absurd (cc)
+no_none (c ∷ calls) (suc at) within none = no_none calls at (omega arith) none
+
+-- ---- more calls
+
+pub still_there : (P : Call → Type 0) (calls more : List Call) (at : ℕ) → IsThereWith P (slice_get calls at) → slice_get (calls ++ more) at ≡ slice_get calls at
+still_there P [] more at h = absurd h
+still_there P (c ∷ calls) more zero h = refl
+still_there P (c ∷ calls) more (suc at) h = still_there P calls more at h
+
+pair_still : (calls more : List Call) (pair : ℕ × ℕ) → IsSamePair calls pair → IsSamePair (calls ++ more) pair
+pair_still calls more pair h = first (slice_get calls pair.0) refl h
+  where
+    second : Call → Option Call → Type 0
+    second call found = IsThereWith (λ other. same_calls call other ≡ true) found
+
+    first : (found : Option Call) → slice_get calls pair.0 ≡ found → IsThereWith (λ call. second call (slice_get calls pair.1)) found → IsSamePair (calls ++ more) pair
+    first None is h = absurd h
+    first (Some call) is h =
+        subst (λ (o : Option Call). IsThereWith (λ c. second c (slice_get (calls ++ more) pair.1)) o) (sym (still_there (λ c. Unit {0}) calls more pair.0 (subst (λ (o : Option Call). IsThereWith (λ c. Unit {0}) o) (sym is) tt) ∙ is))
+        (subst (second call) (sym (still_there (λ other. same_calls call other ≡ true) calls more pair.1 h)) h)
+
+pairs_still : (calls more : List Call) (pairs : List (ℕ × ℕ)) → All (IsSamePair calls) pairs → All (IsSamePair (calls ++ more)) pairs
+pairs_still calls more pairs all = λ k d within. pair_still calls more (get_or pairs k d) (all k d within)
+
+-- one more is kept
+pub kept_more : (e : Setting) (made now : List Call) (same : List (ℕ × ℕ)) (call : Call) → now ≡ made ++ call ∷ [] → All (IsKept e) made × All (IsSamePair made) same → IsKept e call → All (IsKept e) now × All (IsSamePair now) same
+kept_more e made now same call is kept own = (
+  subst (All (IsKept e)) (sym is) (All-push (IsKept e) made call kept.0 own),
+  subst (λ (calls : List Call). All (IsSamePair calls) same) (sym is) (pairs_still made (call ∷ []) same kept.1),
+)
+
+-- the one that was put last
+pub put_last : (P : Call → Type 0) (calls : List Call) (call : Call) → P call → IsThereWith P (slice_get (calls ++ call ∷ []) (length calls))
+put_last P [] call h = h
+put_last P (c ∷ calls) call h = put_last P calls call h
+
+-- so it is the call there
+pub put_call : (e : Setting) (field : ℕ) (f : CollectedField) (calls now : List Call) (at : ℕ) (call : Call) → at ≡ length calls → now ≡ calls ++ call ∷ [] → IsCall e field f call → IsCallAt e now at field f
+put_call e field f calls now at call last is own = subst (λ (n : ℕ). IsCallAt e now n field f) (sym last) (subst (λ (cs : List Call). IsCallAt e cs (length calls) field f) (sym is) (put_last (IsCall e field f) calls call own))
+
+-- ---- what is compared
+
+pub alike_within : (calls : List Call) (at field : ℕ) (f : CollectedField) → IsAlikeAt calls at field f → at < length calls
+alike_within calls at field f = there (slice_get calls at) refl
+  where
+    there : (found : Option Call) → slice_get calls at ≡ found → IsThereWith (λ call. IsAlike call field f) found → at < length calls
+    there None is h = absurd h
+    there (Some call) is h = slice_get_within calls at call is
+
+there_at : (P : Call → Type 0) (calls : List Call) (at : ℕ) (call : Call) → at < length calls → call ≡ get_or calls at call → P call → IsThereWith P (slice_get calls at)
+there_at P calls at call within is h = subst (λ (o : Option Call). IsThereWith P o) (sym (slice_get_read calls (length calls) at call refl within is)) h
+
+-- a call is equal to the one at a place where their arguments were found equal
+pub same_as_at : (calls : List Call) (at : ℕ) (call other : Call) → at < length calls → call ≡ get_or calls at call → same_calls call other ≡ true → IsSameAsAt calls at other
+same_as_at calls at call other within is same = there_at (λ c. same_calls c other ≡ true) calls at call within is same
+
+-- the pair of a call and of one that was put behind the others
+pair_put : (calls now : List Call) (at : ℕ) (other : Call) → now ≡ calls ++ other ∷ [] → IsSameAsAt calls at other → IsSamePair now (at, length calls)
+pair_put calls now at other is same = subst (λ (cs : List Call). IsSamePair cs (at, length calls)) (sym is) (first (slice_get calls at) refl same)
+  where
+    first : (found : Option Call) → slice_get calls at ≡ found → IsThereWith (λ call. same_calls call other ≡ true) found → IsSamePair (calls ++ other ∷ []) (at, length calls)
+    first None none h = absurd h
+    first (Some call) found h =
+        subst (λ (o : Option Call). IsThereWith (λ c. IsThereWith (λ d. same_calls c d ≡ true) (slice_get (calls ++ other ∷ []) (length calls))) o) (sym (still_there (λ c. Unit {0}) calls (other ∷ []) at (subst (λ (o : Option Call). IsThereWith (λ c. Unit {0}) o) (sym found) tt) ∙ found))
+        (put_last (λ d. same_calls call d ≡ true) calls other h)
+
+pub pair_put_at : (calls now : List Call) (at place : ℕ) (other : Call) → place ≡ length calls → now ≡ calls ++ other ∷ [] → IsSameAsAt calls at other → IsSamePair now (at, place)
+pair_put_at calls now at place other last is same = subst (λ (n : ℕ). IsSamePair now (at, n)) (sym last) (pair_put calls now at other is same)
+
+-- the pair of two calls that were found equal
+pub pair_found : (calls listed : List Call) (at place : ℕ) (same : Bool) → at < length calls → place < length calls → listed ≡ calls → AreSameAt listed at place same → same ≡ true → IsSamePair calls (at, place)
+pair_found calls listed at place same within within_too is h found_so =
+    first (slice_get calls at) refl (subst (λ (b : Bool). AreSameAt calls at place b) found_so (subst (λ (cs : List Call). AreSameAt cs at place same) is h))
+  where
+    second : (call : Call) (found : Option Call) → slice_get calls place ≡ found → IfSome found (λ other. true ≡ same_calls call other) → IsThereWith (λ other. same_calls call other ≡ true) found
+    second call None none h = absurd (no_none calls place within_too none)
+    second call (Some other) found h = sym h
+
+    first : (found : Option Call) → slice_get calls at ≡ found → IfSome found (λ call. IfSome (slice_get calls place) (λ other. true ≡ same_calls call other)) → IsThereWith (λ call. IsThereWith (λ other. same_calls call other ≡ true) (slice_get calls place)) found
+    first None none h = absurd (no_none calls at within none)
+    first (Some call) found h = second call (slice_get calls place) refl h
+
+-- the calls of a pair are equal
+pub pair_is_same : (calls : List Call) (at place : ℕ) → IsSamePair calls (at, place) → AreSameAt calls at place true
+pair_is_same calls at place h = first (slice_get calls at) h
+  where
+    second : (call : Call) (found : Option Call) → IsThereWith (λ other. same_calls call other ≡ true) found → IfSome found (λ other. true ≡ same_calls call other)
+    second call None h = tt
+    second call (Some other) h = sym h
+
+    first : (found : Option Call) → IsThereWith (λ call. IsThereWith (λ other. same_calls call other ≡ true) (slice_get calls place)) found → IfSome found (λ call. IfSome (slice_get calls place) (λ other. true ≡ same_calls call other))
+    first None h = tt
+    first (Some call) h = second call (slice_get calls place) h
+
+-- a field whose own call is known differs from another call where the two aren't equal
+other_compares : (e : Setting) (field : ℕ) (f : CollectedField) (call other : Call) (same : Bool) → IsCall e field f other → same ≡ same_calls call other → Compares (Ok (not same)) (refused_in e field f) (differs_from e field (args_data call.args) f)
+other_compares e field f call other same own is = (
+  ap refusal_of own.coerced,
+  ap not is ∙ sym (ap (λ a. not (same_arguments (args_data call.args) (if_coerced a))) own.coerced),
+)
+
+-- one that is written as a call doesn't differ from it
+pub alike_compares : (e : Setting) (field : ℕ) (f : CollectedField) (calls : List Call) (at : ℕ) → All (IsKept e) calls → IsAlikeAt calls at field f
+    → IfSome (slice_get calls at) (λ call. Compares (Ok false) (refused_in e field f) (differs_from e field (args_data call.args) f))
+alike_compares e field f calls at kept alike = there (slice_get calls at) (call_at e field f calls at kept alike)
+  where
+    there : (found : Option Call) → IsThereWith (IsCall e field f) found → IfSome found (λ call. Compares (Ok false) (refused_in e field f) (differs_from e field (args_data call.args) f))
+    there None own = tt
+    there (Some call) own = other_compares e field f call call true own (sym (same_themselves (args_data call.args)))
+
+-- one whose own call is made differs from the call at a place where the two aren't equal
+pub made_compares : (e : Setting) (field : ℕ) (f : CollectedField) (calls : List Call) (at : ℕ) (call other : Call) (same : Bool) → at < length calls → call ≡ get_or calls at call → IsCall e field f other → same ≡ same_calls call other
+    → IfSome (slice_get calls at) (λ c. Compares (Ok (not same)) (refused_in e field f) (differs_from e field (args_data c.args) f))
+made_compares e field f calls at call other same within found own is =
+    subst (λ (o : Option Call). IfSome o (λ c. Compares (Ok (not same)) (refused_in e field f) (differs_from e field (args_data c.args) f))) (sym (slice_get_read calls (length calls) at call refl within found)) (other_compares e field f call other same own is)
+
+pub known_compares : (e : Setting) (field : ℕ) (f : CollectedField) (calls : List Call) (at place : ℕ) (same : Bool) → IsCallAt e calls place field f → AreSameAt calls at place same
+    → IfSome (slice_get calls at) (λ call. Compares (Ok (not same)) (refused_in e field f) (differs_from e field (args_data call.args) f))
+known_compares e field f calls at place same = first (slice_get calls at)
+  where
+    second : (call : Call) (found : Option Call) → IsThereWith (IsCall e field f) found → IfSome found (λ other. same ≡ same_calls call other) → Compares (Ok (not same)) (refused_in e field f) (differs_from e field (args_data call.args) f)
+    second call None own is = absurd own
+    second call (Some other) own is = other_compares e field f call other same own is
+
+    first : (found : Option Call) → IsThereWith (IsCall e field f) (slice_get calls place) → IfSome found (λ call. IfSome (slice_get calls place) (λ other. same ≡ same_calls call other))
+        → IfSome found (λ call. Compares (Ok (not same)) (refused_in e field f) (differs_from e field (args_data call.args) f))
+    first None own is = tt
+    first (Some call) own is = second call (slice_get calls place) own is

@@ -1,0 +1,11 @@
+use Rattle.std.proofs.Common.{arith}
+use Rattle.merged_selections.proofs.KeptCalls.{pair_put_at}
+use Rattle.merged_selections.proofs.calls.Calls.put_same.Goals as goal
+
+pub returns-in_err-note_same-clause-kept : goal.returns-in_err-note_same-clause-kept
+returns-in_err-note_same-clause-kept c = λ e kept own same. c.in_err-note_same.ensures.kept e (c.in_ok-put.ensures.kept e kept own)
+    (pair_put_at c.args.self.now.made.items c.put.new.self.made.items c.args.at c.len-place.result c.args.call (let e = c.len-place.ensures in omega arith) c.in_ok-put.ensures.put same)
+
+pub returns-clause-kept : goal.returns-clause-kept
+returns-clause-kept c = λ e kept own same. c.in_ok-note_same.ensures.kept e (c.in_ok-put.ensures.kept e kept own)
+    (pair_put_at c.args.self.now.made.items c.put.new.self.made.items c.args.at c.len-place.result c.args.call (let e = c.len-place.ensures in omega arith) c.in_ok-put.ensures.put same)
