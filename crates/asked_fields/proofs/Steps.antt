@@ -1,6 +1,6 @@
 -- What is found at a type, of the fields of a key, and below a node is what is asked there.
-use Rattle.std.proofs.Common.{◌≡◌, ℕ, zero, suc, ◌+◌, ◌-◌, ◌<◌, ◌≤◌, List, [], ◌∷◌, ◌++◌, map, drop, get_or, length, All, None, Option, Some, Result, append_assoc, append-nil, refl, sym, ap, ◌∙◌, subst, arith}
-use Rattle.std.proofs.lemmas.List.{drop_all, length-map}
+use Rattle.std.proofs.Common.{◌≡◌, inl, inr, ℕ, zero, suc, ◌+◌, ◌-◌, ◌<◌, ◌≤◌, List, [], ◌∷◌, ◌++◌, map, flat_map, drop, get_or, length, All, None, Option, Some, Result, append_assoc, append-nil, refl, sym, ap, ◌∙◌, subst, arith}
+use Rattle.std.proofs.lemmas.List.{drop_all}
 use Rattle.std.proofs.lemmas.List.Elements.{All-head, All-tail, All-cons, All-get_or}
 use Rattle.gql_base.proofs.Lists.{at_front}
 use Rattle.gql_base.specs.declared.parts.trees.Argument.{Argument as WrittenArgument}
@@ -13,8 +13,9 @@ use Rattle.variable_coercion.specs.Arguments.{arguments_answer}
 use Rattle.variable_coercion.specs.Calls.{AnswersRefusal, argument_told}
 use Rattle.plan_model.specs.SelectedFields.{Setting, HandedSize, Place, leaf_place, object_place, place_at, coerced_arguments, arguments_at, if_coerced}
 use Rattle.plan_model.specs.Collecting.{CollectedField, WrittenSelections, nesting}
-use Rattle.plan_model.specs.Merging.{Position, keys_of, fields_of_key, keys_at, first_call, call_under, below_key, selections_below, position_below}
-use Rattle.plan_model.specs.MergingWalk.{IsAcyclic, AllRanked}
+use Rattle.plan_model.specs.Merging.{Position, keys_of, fields_at, fields_of_key, keys_at, call_under, below_key, selections_below, position_below}
+use Rattle.plan_model.specs.MergingWalk.{IsAcyclic, AreRanked, AllRanked}
+use Rattle.plan_model.specs.Repeats.{IsThinned, LeavesOutRepeats}
 use Rattle.plan_model.proofs.GivenArguments.{same_arguments_written}
 use Rattle.plan_model.proofs.RankedBelow.{acyclic_below}
 use Rattle.plan_model.proofs.SameNodes.{same_keys_at, same_call_under, same_selected_under, less_below}
@@ -22,14 +23,17 @@ use Rattle.collected_fields.specs.declared.planning.Planning.{Planning}
 use Rattle.collected_fields.specs.declared.collected.Collected.{Collected}
 use Rattle.collected_fields.specs.declared.collected.Group.{Group}
 use Rattle.collected_fields.specs.declared.collector.Collector.{Collector}
-use Rattle.collected_fields.specs.Views.{collected_field, group_view, groups_view}
-use Rattle.collected_fields.specs.Gathering.{Gathers, HasField, planning_of, written_at}
+use Rattle.collected_fields.specs.Views.{setting_of_planning, collected_field}
+use Rattle.collected_fields.specs.Groups.{GroupData, AreGroupsOf}
+use Rattle.collected_fields.specs.Lists.{HasMore}
+use Rattle.collected_fields.specs.Gathering.{Gathers, IsReady, setting_at, planning_of, written_at, meaning_at, IsNumber, position_at, group_seen, groups_seen, IsGroupAt, GivesGroups}
+use Rattle.collected_fields.proofs.GrowingLaws.{same_meanings, still_known}
 use Rattle.asked_fields.specs.declared.asked.Argument.{Argument}
 use Rattle.asked_fields.specs.declared.asked.AskedNode.{AskedNode}
 use Rattle.asked_fields.specs.AskedNodes.{AskedNodes, nothing_asked, asked_then, AskedOne, asked_from, asked_node, asked_nodes}
-use Rattle.asked_fields.specs.Asked.{AskedBelow, fields_asked, asked_at, asked, groups_asked}
+use Rattle.asked_fields.specs.Asked.{AskedBelow, fields_asked, group_position, asked_at, asked, groups_asked}
 use Rattle.asked_fields.specs.Arguments.{argument_kept}
-use Rattle.asked_fields.specs.Asking.{first_type, number_below, kept_of, kept_below, deeper, asked_for_type, asked_below, asked_by, Frame, frame, setting_in, position_in, IsAcyclicAt, HaveNumbers, IsAcyclicBelow, CanAskBelow, CanAskGroup}
+use Rattle.asked_fields.specs.Asking.{first_type, kept_of, kept_below, deeper, asked_for_type, asked_below, asked_by, Frame, frame, CanAsk, CanAskGroup, AsksGroups, AsksGroup}
 use Rattle.asked_fields.proofs.Alike.{KeepsNodes, IsAlike, asked_alike}
 use Rattle.asked_fields.proofs.Gathered.{gathered_asked}
 
@@ -38,26 +42,6 @@ nothing_before P = λ k d lt. absurd (none k lt)
   where
     none : (k : ℕ) → k < 0 → ⊥
     none k lt = omega arith
-
-module _ {A : Type 0} where
-  all_back : {B : Type 0} (P : B → Type 0) (f : A → B) (xs : List A) → All P (map f xs) → All (λ x. P (f x)) xs
-  all_back P f [] h = nothing_before (λ (x : A). P (f x))
-  all_back P f (x ∷ xs) h = All-cons (λ y. P (f y)) x xs (All-head P (f x) (map f xs) h) (all_back P f xs (All-tail P (f x) (map f xs) h))
-
-  all_there : {B : Type 0} (P : B → Type 0) (f : A → B) (xs : List A) → ((x : A) → P (f x)) → All P (map f xs)
-  all_there P f [] h = nothing_before P
-  all_there P f (x ∷ xs) h = All-cons P (f x) (map f xs) (h x) (all_there P f xs h)
-
-  all_three : (P Q R S : A → Type 0) (xs : List A) → ((x : A) → P x → Q x → R x → S x) → All P xs → All Q xs → All R xs → All S xs
-  all_three P Q R S [] h a b c = nothing_before S
-  all_three P Q R S (x ∷ xs) h a b c = All-cons S x xs (h x (All-head P x xs a) (All-head Q x xs b) (All-head R x xs c)) (all_three P Q R S xs h (All-tail P x xs a) (All-tail Q x xs b) (All-tail R x xs c))
-
-filled_views : (groups : List Group) → All HasField groups → All (λ fields. 0 < length fields) (groups_view groups)
-filled_views [] h = nothing_before (λ (fields : List CollectedField). 0 < length fields)
-filled_views (g ∷ groups) h = All-cons (λ (fields : List CollectedField). 0 < length fields) (group_view g) (groups_view groups) (one g (All-head HasField g groups h)) (filled_views groups (All-tail HasField g groups h))
-  where
-    one : (g : Group) → 0 < length g.fields.items → 0 < length (group_view g)
-    one g lt = subst (λ n. 0 < n) (sym (length-map g.fields.items collected_field)) lt
 
 -- ---- what is asked, level by level
 
@@ -104,99 +88,134 @@ module _ (place : List ℕ → Option ℕ) (e : Setting) where
 
   -- ---- groups
 
-  groups_kept : (levels T : ℕ) (handed : HandedSize) (groups : List (List CollectedField)) → asked_from (map (asked_by place e levels T) groups) ≡ kept_of place (groups_asked e (deeper place e levels) T handed groups)
+  groups_kept : (levels T : ℕ) (handed : HandedSize) (groups : List GroupData) → asked_from (map (asked_by place e levels T) groups) ≡ kept_of place (groups_asked e (deeper place e levels) T handed groups)
   groups_kept levels T handed [] = refl
-  groups_kept levels T handed (fields ∷ groups) =
-      ap (λ (others : AskedNodes). asked_then (asked_by place e levels T fields).key (asked_by place e levels T fields).name (asked_by place e levels T fields).argument (asked_by place e levels T fields).below others) (groups_kept levels T handed groups)
+  groups_kept levels T handed (g ∷ groups) =
+      ap (λ (others : AskedNodes). asked_then (asked_by place e levels T g).key (asked_by place e levels T g).name (asked_by place e levels T g).argument (asked_by place e levels T g).below others) (groups_kept levels T handed groups)
 
-  type_kept : (levels T : ℕ) (p : Position) (groups : List (List CollectedField)) → Gathers e T p groups → All (λ g. 0 < length g) groups → asked_from (map (asked_by place e levels T) groups) ≡ asked_for_type place e levels T p
-  type_kept levels T p groups g filled = groups_kept levels T p.handed groups ∙ ap (kept_of place) (gathered_asked e (deeper place e levels) (deeper_alike levels) T p groups g filled)
+  type_kept : (levels T : ℕ) (p : Position) (groups : List GroupData) → Gathers e T p groups → asked_from (map (asked_by place e levels T) groups) ≡ asked_for_type place e levels T p
+  type_kept levels T p groups g = groups_kept levels T p.handed groups ∙ ap (kept_of place) (gathered_asked e (deeper place e levels) (deeper_alike levels) T p groups g)
 
 abbrev node_of : List ℕ → List ℕ → Argument → AskedNodes → AskedOne
 node_of key name argument below = record { key = key; name = name; argument = argument; below = below }
 
--- ---- by frames
+-- ---- while a collector grows
 
-numbered_below : (f : Frame) (cs : List Collected) → HaveNumbers f cs → map f.1 (map number_below cs) ≡ map (selections_below (setting_in f)) (map collected_field cs)
-numbered_below f [] h = refl
-numbered_below f (c ∷ cs) h =
-    ap (λ w. w ∷ map f.1 (map number_below cs)) (All-head (λ c. f.1 c.below ≡ selections_below (setting_in f) (collected_field c)) c cs h)
-    ∙ ap (λ ws. selections_below (setting_in f) (collected_field c) ∷ ws) (numbered_below f cs (All-tail (λ c. f.1 c.below ≡ selections_below (setting_in f) (collected_field c)) c cs h))
+abbrev pub setting_of : Frame → Setting
+setting_of f = setting_of_planning f.0
 
-module _ (place : List ℕ → Option ℕ) (f : Frame) (levels T : ℕ) where
-  abbrev one_asked : List CollectedField → AskedOne
-  one_asked = asked_by place (setting_in f) levels T
+module _ (old now : Collector) (same : frame now ≡ frame old) (more : HasMore old.joins now.joins) where
+  pub same_setting : setting_at now ≡ setting_at old
+  same_setting = ap setting_of same
 
-  -- ---- a type
+  same_written : written_at now ≡ written_at old
+  same_written = ap (λ (f : Frame). f.1) same
 
-  groups_acyclic : (p : Position) (groups : List Group) → IsAcyclic (setting_in f) p → Gathers (setting_in f) T p (groups_view groups) → All (λ g. IsAcyclicBelow f T g.fields.items) groups
-  groups_acyclic p groups acyclic g = all_back (λ fields. IsAcyclic (setting_in f) (position_below (setting_in f) T fields)) group_view groups
-      (subst (λ gs. All (λ fields. IsAcyclic (setting_in f) (position_below (setting_in f) T fields)) gs) (sym g.grouped)
-      (all_there (λ fields. IsAcyclic (setting_in f) (position_below (setting_in f) T fields)) (λ key. fields_of_key key g.fields) (keys_of g.fields)
-      (λ key. acyclic_below acyclic.rank (setting_in f) T acyclic.fragments p g.fields g.repeats acyclic.spreads key)))
+  same_below : (numbers : List ℕ) → All (IsNumber old) numbers → flat_map (meaning_at now) numbers ≡ flat_map (meaning_at old) numbers
+  same_below numbers known = same_meanings old now same_written more numbers known
 
-  can_ask : (p : Position) (groups : List Group) → IsAcyclic (setting_in f) p → Gathers (setting_in f) T p (groups_view groups) → All HasField groups → All (λ g. HaveNumbers f g.fields.items) groups → All (CanAskGroup f T) groups
-  can_ask p groups acyclic g filled numbers = all_three HasField (λ x. HaveNumbers f x.fields.items) (λ x. IsAcyclicBelow f T x.fields.items) (CanAskGroup f T) groups
-      (λ x a b c. record { filled = a; below = record { numbers = b; acyclic = c } }) filled numbers (groups_acyclic p groups acyclic g)
+  pub same_position : (numbers : List ℕ) → All (IsNumber old) numbers → position_at now numbers ≡ position_at old numbers
+  same_position numbers known = ap (λ (ws : List WrittenSelections). record { selections = ws; handed = None }) (same_below numbers known)
 
-  -- the nodes that are found for the groups, by what the collector keeps
-  abbrev AreFoundIn : Frame → List Group → List AskedNode → Type 0
-  AreFoundIn x groups nodes = All (CanAskGroup x T) groups → map asked_node nodes ≡ map (asked_by place (setting_in x) levels T) (groups_view groups)
+  pub same_group : (g : Group) → All (IsNumber old) g.below.items → group_seen now g ≡ group_seen old g
+  same_group g known = ap (λ (ws : List WrittenSelections). record { fields = map collected_field g.fields.items; below = ws }) (same_below g.below.items known)
 
-  pub type_found : (lists : List ℕ) (groups listed : List Group) (nodes : List AskedNode) (now : Frame) → now ≡ f → listed ≡ groups → IsAcyclicAt f lists → Gathers (setting_in f) T (position_in f lists) (groups_view groups) → All HasField groups
-      → All (λ g. HaveNumbers f g.fields.items) groups → AreFoundIn now listed nodes → asked_nodes nodes ≡ asked_for_type place (setting_in f) levels T (position_in f lists)
-  type_found lists groups listed nodes now same is_listed acyclic g filled numbers h =
-      let can : All (CanAskGroup f T) groups = can_ask (position_in f lists) groups acyclic g filled numbers in
-      let can_now : All (CanAskGroup now T) listed = subst (λ (gs : List Group). All (CanAskGroup now T) gs) (sym is_listed) (subst (λ (x : Frame). All (CanAskGroup x T) groups) (sym same) can) in
-      ap asked_from (subst (λ (x : Frame). map asked_node nodes ≡ map (asked_by place (setting_in x) levels T) (groups_view groups)) same
-      (subst (λ (gs : List Group). map asked_node nodes ≡ map (asked_by place (setting_in now) levels T) (groups_view gs)) is_listed (h can_now)))
-      ∙ type_kept place (setting_in f) levels T (position_in f lists) (groups_view groups) g (filled_views groups filled)
+  pub can_still : (numbers : List ℕ) → CanAsk old numbers → CanAsk now numbers
+  can_still numbers can = (
+    still_known old now same_written more numbers can.0,
+    subst (λ (x : Setting). IsAcyclic x (position_at now numbers)) (sym same_setting) (subst (λ (p : Position). IsAcyclic (setting_at old) p) (sym (same_position numbers can.0)) can.1),
+  )
+
+  pub can_group : (g : Group) → CanAskGroup old g → CanAskGroup now g
+  can_group g can = record { filled = can.filled; below = can_still g.below.items can.below }
+
+-- ---- a type
+
+-- what stands below the groups may be asked
+ranked_left : (rank : List ℕ → ℕ) (bound : ℕ) (xs ys seen : List WrittenSelections) → IsThinned seen xs ys → AllRanked rank bound xs → AllRanked rank bound ys
+ranked_left rank bound [] [] seen t r = tt
+ranked_left rank bound [] (y ∷ ys) seen t r = absurd t
+ranked_left rank bound (x ∷ xs) [] seen t r = tt
+ranked_left rank bound (x ∷ xs) (y ∷ ys) seen (inl stays) r = (subst (λ (w : WrittenSelections). AreRanked rank bound w.1) stays.0 r.0, ranked_left rank bound xs ys (x ∷ seen) stays.1 r.1)
+ranked_left rank bound (x ∷ xs) (y ∷ ys) seen (inr goes) r = ranked_left rank bound xs (y ∷ ys) seen goes.1 r.1
+
+groups_can : (c : Collector) (T : ℕ) (p : Position) (fields : List CollectedField) → LeavesOutRepeats (fields_at (setting_at c) T p) fields → IsAcyclic (setting_at c) p → (keys : List (List ℕ)) (groups : List Group) → AreGroupsOf (setting_at c) fields keys (groups_seen c groups) → All (IsGroupAt c) groups → All (CanAskGroup c) groups
+groups_can c T p fields less acyclic [] [] of at = nothing_before (CanAskGroup c)
+groups_can c T p fields less acyclic [] (g ∷ groups) of at = absurd of
+groups_can c T p fields less acyclic (key ∷ keys) [] of at = absurd of
+groups_can c T p fields less acyclic (key ∷ keys) (g ∷ groups) of at =
+    let e : Setting = setting_at c in
+    let below : IsAcyclic e (position_below e T (fields_of_key key fields)) = acyclic_below acyclic.rank e T acyclic.fragments p fields less acyclic.spreads key in
+    let here : IsGroupAt c g = All-head (IsGroupAt c) g groups at in
+    All-cons (CanAskGroup c) g groups
+    (record {
+      filled = here.filled;
+      below = (
+        here.known,
+        record {
+          rank = below.rank;
+          fragments = below.fragments;
+          spreads = ranked_left below.rank (nesting e) (map (selections_below e) (fields_of_key key fields)) (flat_map (meaning_at c) g.below.items) [] of.0.below below.spreads;
+        },
+      );
+    })
+    (groups_can c T p fields less acyclic keys groups of.1 (All-tail (IsGroupAt c) g groups at))
+
+module _ (place : List ℕ → Option ℕ) (old : Collector) (levels T : ℕ) where
+  abbrev one_asked : Setting → GroupData → AskedOne
+  one_asked e = asked_by place e levels T
+
+  -- the nodes that are found for the groups
+  pub type_found : (mid : Collector) → frame mid ≡ frame old → (lists : List ℕ) (groups listed : List Group) (nodes : List AskedNode) → listed ≡ groups → GivesGroups old mid T lists groups → IsReady old → CanAsk old lists → AsksGroups place mid levels T listed nodes
+      → asked_nodes nodes ≡ asked_for_type place (setting_at old) levels T (position_at old lists)
+  type_found mid same lists groups listed nodes is gives ready can h =
+      let e : Setting = setting_at old in
+      let there : setting_at mid ≡ e = ap setting_of same in
+      let g : Gathers e T (position_at old lists) (groups_seen mid groups) = gives.found ready can.1 in
+      let may : All (CanAskGroup mid) groups = groups_can mid T (position_at old lists) g.fields (subst (λ (x : Setting). LeavesOutRepeats (fields_at x T (position_at old lists)) g.fields) (sym there) g.repeats) (subst (λ (x : Setting). IsAcyclic x (position_at old lists)) (sym there) can.1) (keys_of g.fields) groups
+      (subst (λ (x : Setting). AreGroupsOf x g.fields (keys_of g.fields) (groups_seen mid groups)) (sym there) g.grouped) (gives.right ready can.1) in
+      ap asked_from (subst (λ (x : Setting). map asked_node nodes ≡ map (one_asked x) (groups_seen mid groups)) there (subst (λ (gs : List Group). All (CanAskGroup mid) gs → map asked_node nodes ≡ map (one_asked (setting_at mid)) (groups_seen mid gs)) is h may))
+      ∙ type_kept place e levels T (position_at old lists) (groups_seen mid groups) g
 
   -- ---- groups one after another
 
   module _ (groups : List Group) (at : ℕ) (before : List AskedNode) where
     abbrev GoesOn : ℕ → List AskedNode → Type 0
-    GoesOn i nodes = All (CanAskGroup f T) groups → map asked_node nodes ++ map one_asked (groups_view (drop i groups)) ≡ map one_asked (groups_view groups)
+    GoesOn i nodes = All (CanAskGroup old) groups → map asked_node nodes ++ map (one_asked (setting_at old)) (groups_seen old (drop i groups)) ≡ map (one_asked (setting_at old)) (groups_seen old groups)
 
     module _ (so_far : GoesOn at before) where
-      pub groups_go : (g : Group) (within : at < length groups) (is : g ≡ get_or groups at g) (now : Frame) (after : List AskedNode) → now ≡ f
-          → (CanAskGroup now T g → map asked_node after ≡ map asked_node before ++ (asked_by place (setting_in now) levels T (group_view g) ∷ [])) → GoesOn (at + 1) after
-      groups_go g within is now after same h all =
-          let rest : List AskedOne = map one_asked (groups_view (drop (at + 1) groups)) in
-          let here : CanAskGroup f T g = subst (λ x. CanAskGroup f T x) (sym is) (All-get_or (CanAskGroup f T) groups at g within all) in
-          let pushed : map asked_node after ≡ map asked_node before ++ (one_asked (group_view g) ∷ []) = subst (λ (x : Frame). map asked_node after ≡ map asked_node before ++ (asked_by place (setting_in x) levels T (group_view g) ∷ [])) same (h (subst (λ (x : Frame). CanAskGroup x T g) (sym same) here)) in
+      pub groups_go : (g : Group) (within : at < length groups) (is : g ≡ get_or groups at g) (now : Collector) (after : List AskedNode) → frame now ≡ frame old → HasMore old.joins now.joins → AsksGroup place now levels T g before after → GoesOn (at + 1) after
+      groups_go g within is now after same more h all =
+          let rest : List AskedOne = map (one_asked (setting_at old)) (groups_seen old (drop (at + 1) groups)) in
+          let can : CanAskGroup old g = subst (λ x. CanAskGroup old x) (sym is) (All-get_or (CanAskGroup old) groups at g within all) in
+          let pushed : map asked_node after ≡ map asked_node before ++ (one_asked (setting_at old) (group_seen old g) ∷ []) =
+          subst (λ (x : Setting). map asked_node after ≡ map asked_node before ++ (one_asked x (group_seen old g) ∷ [])) (same_setting old now same more)
+          (subst (λ (d : GroupData). map asked_node after ≡ map asked_node before ++ (one_asked (setting_at now) d ∷ [])) (same_group old now same more g can.below.0) (h (can_group old now same more g can))) in
           ap (λ (l : List AskedOne). l ++ rest) pushed
-          ∙ (append_assoc (map asked_node before) (one_asked (group_view g) ∷ []) rest
-          ∙ (ap (λ (gs : List Group). map asked_node before ++ map one_asked (groups_view gs)) (sym (at_front groups at g within is)) ∙ so_far all))
+          ∙ (append_assoc (map asked_node before) (one_asked (setting_at old) (group_seen old g) ∷ []) rest
+          ∙ (ap (λ (gs : List Group). map asked_node before ++ map (one_asked (setting_at old)) (groups_seen old gs)) (sym (at_front groups at g within is)) ∙ so_far all))
 
-      pub groups_end : length groups ≤ at → All (CanAskGroup f T) groups → map asked_node before ≡ map one_asked (groups_view groups)
-      groups_end past all = sym (append-nil (map asked_node before)) ∙ (ap (λ (gs : List Group). map asked_node before ++ map one_asked (groups_view gs)) (sym (drop_all at groups past)) ∙ so_far all)
+      pub groups_end : length groups ≤ at → All (CanAskGroup old) groups → map asked_node before ≡ map (one_asked (setting_at old)) (groups_seen old groups)
+      groups_end past all = sym (append-nil (map asked_node before)) ∙ (ap (λ (gs : List Group). map asked_node before ++ map (one_asked (setting_at old)) (groups_seen old gs)) (sym (drop_all at groups past)) ∙ so_far all)
 
   -- ---- a node
 
-  module _ (fields : List Collected) (lists : List ℕ) (is_lists : lists ≡ map number_below fields) (can : CanAskBelow f T fields) where
-    selections_there : map f.1 lists ≡ map (selections_below (setting_in f)) (map collected_field fields)
-    selections_there = ap (map f.1) is_lists ∙ numbered_below f fields can.numbers
+  module _ (first : Collected) (lists : List ℕ) where
+    abbrev seen : GroupData
+    seen = record { fields = collected_field first ∷ []; below = flat_map (meaning_at old) lists }
 
-    pub lists_acyclic : IsAcyclicAt f lists
-    lists_acyclic = record {
-      rank = can.acyclic.rank;
-      fragments = can.acyclic.fragments;
-      spreads = subst (λ (ss : List WrittenSelections). AllRanked can.acyclic.rank (nesting (setting_in f)) ss) (sym selections_there) can.acyclic.spreads;
-    }
-
-    pub node_found : (of : Option ℕ) (key name : List ℕ) (argument : Argument) (below : AskedNodes) → key ≡ (one_asked (map collected_field fields)).key → name ≡ (one_asked (map collected_field fields)).name
-        → argument ≡ (one_asked (map collected_field fields)).argument → of ≡ first_type (place_at (setting_in f) T (first_call (map collected_field fields))) → below ≡ asked_below place (setting_in f) levels of (position_in f lists)
-        → node_of key name argument below ≡ one_asked (map collected_field fields)
+    pub node_found : (of : Option ℕ) (key name : List ℕ) (argument : Argument) (below : AskedNodes) → key ≡ (one_asked (setting_at old) seen).key → name ≡ (one_asked (setting_at old) seen).name
+        → argument ≡ (one_asked (setting_at old) seen).argument → of ≡ first_type (place_at (setting_at old) T (collected_field first).call) → below ≡ asked_below place (setting_at old) levels of (position_at old lists)
+        → node_of key name argument below ≡ one_asked (setting_at old) seen
     node_found of key name argument below a b c d g =
-        let one : AskedOne = one_asked (map collected_field fields) in
-        let at : Place = place_at (setting_in f) T (first_call (map collected_field fields)) in
+        let one : AskedOne = one_asked (setting_at old) seen in
+        let at : Place = place_at (setting_at old) T (collected_field first).call in
         ap (λ (k : List ℕ). node_of k name argument below) a
         ∙ (ap (λ (n : List ℕ). node_of one.key n argument below) b
         ∙ (ap (λ (x : Argument). node_of one.key one.name x below) c
         ∙ ap (λ (x : AskedNodes). node_of one.key one.name one.argument x)
-        (g ∙ (ap (λ (o : Option ℕ). asked_below place (setting_in f) levels o (position_in f lists)) d
-        ∙ below_there place (setting_in f) levels at (map f.1 lists) (map (selections_below (setting_in f)) (map collected_field fields)) None (position_below (setting_in f) T (map collected_field fields)).handed selections_there))))
+        (g ∙ (ap (λ (o : Option ℕ). asked_below place (setting_at old) levels o (position_at old lists)) d
+        ∙ below_there place (setting_at old) levels at (flat_map (meaning_at old) lists) (flat_map (meaning_at old) lists) None (group_position (setting_at old) T seen).handed refl))))
 
 -- ---- below a node
 

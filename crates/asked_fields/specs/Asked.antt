@@ -7,14 +7,15 @@ use Rattle.response_model.specs.Response.{Tree, Fits}
 use Rattle.response_model.specs.Cost.{Part}
 use Rattle.schema_model.specs.Arguments.{ArgData}
 use Rattle.document_reader.specs.declared.trees.Operation.{Operation}
-use Rattle.plan_model.specs.SelectedFields.{Setting, FieldCall, HandedSize, Place, leaf_place, object_place, holds, place_at, arguments_at, if_coerced}
+use Rattle.plan_model.specs.SelectedFields.{Setting, FieldCall, HandedSize, Place, leaf_place, object_place, holds, place_at, hands_at, arguments_at, if_coerced}
 use Rattle.plan_model.specs.Collecting.{CollectedField}
-use Rattle.plan_model.specs.Merging.{Position, keys_at, first_call, call_under, selected_by, selected_under, position_below, below_key}
+use Rattle.plan_model.specs.Merging.{Position, keys_at, first_call, call_under, selected_by, selected_under, below_key}
 use Rattle.plan_model.specs.Plans.{with_capped, type_weight}
 use Rattle.plan_model.specs.Visits.{level_limit}
 use Rattle.plan_model.specs.Responses.{FitsSelections}
 use Rattle.plan_model.specs.Operations.{root_place, root_position, IsPlannedWell}
 use Rattle.plan_model.specs.PlanLaws.{CostsAsPlanned}
+use Rattle.collected_fields.specs.Groups.{GroupData}
 
 mutual
   -- nodes, one after another
@@ -88,16 +89,20 @@ abbrev pub key_of_fields : List CollectedField → List ℕ
 key_of_fields [] = []
 key_of_fields (f ∷ fields) = f.key
 
-module _ (e : Setting) (deeper : Place → Position → AskedBelow) (T : ℕ) (handed : HandedSize) where
-  -- the node of the fields of one key, in front of others
-  abbrev pub group_then : List CollectedField → Asked → Asked
-  group_then fields others =
-      field_then (with_capped (selected_by e T (key_of_fields fields) handed fields)) (if_coerced (arguments_at e T (first_call fields))) (deeper (place_at e T (first_call fields)) (position_below e T fields)) others
+-- what stands below them
+abbrev pub group_position : Setting → ℕ → GroupData → Position
+group_position e T g = record { selections = g.below; handed = hands_at e T (first_call g.fields) }
 
-  abbrev pub groups_asked : List (List CollectedField) → Asked
+module _ (e : Setting) (deeper : Place → Position → AskedBelow) (T : ℕ) (handed : HandedSize) where
+  -- their node, in front of others
+  abbrev pub group_then : GroupData → Asked → Asked
+  group_then g others =
+      field_then (with_capped (selected_by e T (key_of_fields g.fields) handed g.fields)) (if_coerced (arguments_at e T (first_call g.fields))) (deeper (place_at e T (first_call g.fields)) (group_position e T g)) others
+
+  abbrev pub groups_asked : List GroupData → Asked
   groups_asked [] = no_field
-  groups_asked (fields ∷ groups) = group_then fields (groups_asked groups)
+  groups_asked (g ∷ groups) = group_then g (groups_asked groups)
 
 -- Groups that are gathered at a position ask what the position asks.
-abbrev pub AskTheSame : Setting → ℕ → ℕ → Position → List (List CollectedField) → Type 0
+abbrev pub AskTheSame : Setting → ℕ → ℕ → Position → List GroupData → Type 0
 AskTheSame e levels T p groups = groups_asked e (asked e levels) T p.handed groups ≡ fields_asked e (asked e levels) T p (keys_at e T p)

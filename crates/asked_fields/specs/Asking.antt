@@ -1,5 +1,5 @@
 -- What is asked by the time that it is found: for a type, for the fields of one key, below a node.
-use Rattle.std.specs.Prelude.{◌≡◌, ℕ, zero, suc, List, [], ◌∷◌, ◌++◌, map, All, Option, None, Some, Result}
+use Rattle.std.specs.Prelude.{◌≡◌, ◌<◌, ℕ, zero, suc, List, [], ◌∷◌, ◌++◌, map, flat_map, length, All, Option, None, Some, Result}
 use Rattle.schema_model.specs.declared.schema.Schema.{Schema}
 use Rattle.schema_model.specs.SchemaViews.{schema_data}
 use Rattle.cost_directives.specs.declared.weights.Weights.{Weights}
@@ -12,27 +12,25 @@ use Rattle.variable_coercion.specs.Refusals.{Refusal}
 use Rattle.plan_model.specs.Operations.{setting_of}
 use Rattle.plan_model.specs.SelectedFields.{Setting, Place, leaf_place, object_place, place_at, coerced_arguments, arguments_at, if_coerced}
 use Rattle.plan_model.specs.Collecting.{CollectedField, WrittenSelections}
-use Rattle.plan_model.specs.Merging.{Position, keys_at, first_call, selections_below, position_below}
+use Rattle.plan_model.specs.Merging.{Position, keys_at, first_call}
 use Rattle.plan_model.specs.MergingWalk.{IsAcyclic}
 use Rattle.collected_fields.specs.declared.planning.Planning.{Planning}
 use Rattle.collected_fields.specs.declared.collected.Collected.{Collected}
 use Rattle.collected_fields.specs.declared.collected.Group.{Group}
 use Rattle.collected_fields.specs.declared.collector.Collector.{Collector}
-use Rattle.collected_fields.specs.Views.{setting_of_planning, collected_field, group_view, groups_view}
-use Rattle.collected_fields.specs.Gathering.{HasField, planning_of, written_at}
+use Rattle.collected_fields.specs.Views.{collected_field}
+use Rattle.collected_fields.specs.Groups.{GroupData}
+use Rattle.collected_fields.specs.Gathering.{planning_of, setting_at, written_at, IsNumber, meaning_at, position_at, group_seen, groups_seen}
 use Rattle.asked_fields.specs.declared.asked.Argument.{Argument}
 use Rattle.asked_fields.specs.declared.asked.AskedNode.{AskedNode}
 use Rattle.asked_fields.specs.AskedNodes.{AskedNodes, nothing_asked, asked_then, AskedOne, asked_node, asked_nodes}
-use Rattle.asked_fields.specs.Asked.{Asked, no_field, field_then, AskedBelow, of_leaf, of_objects, of_nothing, nothing_below, fields_asked, asked, asked_operation, key_of_fields}
+use Rattle.asked_fields.specs.Asked.{Asked, no_field, field_then, AskedBelow, of_leaf, of_objects, of_nothing, nothing_below, fields_asked, group_position, asked, asked_operation, key_of_fields}
 use Rattle.asked_fields.specs.Arguments.{argument_kept}
 
 abbrev pub first_type : Place → Option ℕ
 first_type (leaf_place type weight fill) = None
 first_type (object_place []) = None
 first_type (object_place (T ∷ Ts)) = Some T
-
-abbrev pub number_below : Collected → ℕ
-number_below f = f.below
 
 -- ---- what is kept of what is asked, where `place` says where a name stands
 
@@ -72,12 +70,12 @@ module _ (place : List ℕ → Option ℕ) where
     asked_below (suc levels) (Some T) p = asked_for_type levels T p
 
     -- the node of the fields of one key
-    abbrev pub asked_by : ℕ → ℕ → List CollectedField → AskedOne
-    asked_by levels T fields = record {
-      key = key_of_fields fields;
-      name = (first_call fields).name;
-      argument = argument_kept place (if_coerced (arguments_at e T (first_call fields)));
-      below = kept_below (deeper levels (place_at e T (first_call fields)) (position_below e T fields));
+    abbrev pub asked_by : ℕ → ℕ → GroupData → AskedOne
+    asked_by levels T g = record {
+      key = key_of_fields g.fields;
+      name = (first_call g.fields).name;
+      argument = argument_kept place (if_coerced (arguments_at e T (first_call g.fields)));
+      below = kept_below (deeper levels (place_at e T (first_call g.fields)) (group_position e T g));
     }
 
 -- ---- what a collector keeps
@@ -89,51 +87,34 @@ Frame = Planning × (ℕ → WrittenSelections)
 abbrev pub frame : Collector → Frame
 frame c = (planning_of c, written_at c)
 
-module _ (f : Frame) where
-  abbrev pub setting_in : Setting
-  setting_in = setting_of_planning f.0
+-- The numbers are those of the collector, and their selections are acyclic.
+abbrev pub CanAsk : Collector → List ℕ → Type 0
+CanAsk c lists = All (IsNumber c) lists × IsAcyclic (setting_at c) (position_at c lists)
 
-  -- the position of some selection sets
-  abbrev pub position_in : List ℕ → Position
-  position_in lists = record { selections = map f.1 lists; handed = None }
-
-  abbrev pub IsAcyclicAt : List ℕ → Type 0
-  IsAcyclicAt lists = IsAcyclic setting_in (position_in lists)
-
-  -- each field has the number of its own selections
-  abbrev pub HaveNumbers : List Collected → Type 0
-  HaveNumbers fields = All (λ c. f.1 c.below ≡ selections_below setting_in (collected_field c)) fields
-
-  abbrev pub IsAcyclicBelow : ℕ → List Collected → Type 0
-  IsAcyclicBelow T fields = IsAcyclic setting_in (position_below setting_in T (map collected_field fields))
-
-  -- and what stands below them is acyclic
-  pub record CanAskBelow (T : ℕ) (fields : List Collected) : Type 0 where
-    pub numbers : HaveNumbers fields
-    pub acyclic : IsAcyclicBelow T fields
-
-  pub record CanAskGroup (T : ℕ) (g : Group) : Type 0 where
-    pub filled : HasField g
-    pub below : CanAskBelow T g.fields.items
+-- The group has a field, and what stands below may be asked.
+pub record CanAskGroup (c : Collector) (g : Group) : Type 0 where
+  pub filled : 0 < length g.fields.items
+  pub below : CanAsk c g.below.items
 
 -- ---- what the calls say
 
-module _ (place : List ℕ → Option ℕ) (f : Frame) (levels T : ℕ) where
+module _ (place : List ℕ → Option ℕ) (c : Collector) (levels T : ℕ) where
   abbrev pub AsksType : List ℕ → List AskedNode → Type 0
-  AsksType lists nodes = IsAcyclicAt f lists → asked_nodes nodes ≡ asked_for_type place (setting_in f) levels T (position_in f lists)
+  AsksType lists nodes = CanAsk c lists → asked_nodes nodes ≡ asked_for_type place (setting_at c) levels T (position_at c lists)
 
   abbrev pub AsksGroups : List Group → List AskedNode → Type 0
-  AsksGroups groups nodes = All (CanAskGroup f T) groups → map asked_node nodes ≡ map (asked_by place (setting_in f) levels T) (groups_view groups)
+  AsksGroups groups nodes = All (CanAskGroup c) groups → map asked_node nodes ≡ map (asked_by place (setting_at c) levels T) (groups_seen c groups)
 
   -- a node behind others
   abbrev pub AsksGroup : Group → List AskedNode → List AskedNode → Type 0
-  AsksGroup g before after = CanAskGroup f T g → map asked_node after ≡ map asked_node before ++ (asked_by place (setting_in f) levels T (group_view g) ∷ [])
+  AsksGroup g before after = CanAskGroup c g → map asked_node after ≡ map asked_node before ++ (asked_by place (setting_at c) levels T (group_seen c g) ∷ [])
 
-  abbrev pub AsksNode : List Collected → AskedNode → Type 0
-  AsksNode fields node = CanAskBelow f T fields → asked_node node ≡ asked_by place (setting_in f) levels T (map collected_field fields)
+  -- the node of a field and of what stands below it
+  abbrev pub AsksNode : Collected → List ℕ → AskedNode → Type 0
+  AsksNode first below node = CanAsk c below → asked_node node ≡ asked_by place (setting_at c) levels T (record { fields = collected_field first ∷ []; below = flat_map (meaning_at c) below })
 
-abbrev pub AsksBelow : (List ℕ → Option ℕ) → Frame → ℕ → Option ℕ → List ℕ → List AskedNode → Type 0
-AsksBelow place f levels of lists nodes = IsAcyclicAt f lists → asked_nodes nodes ≡ asked_below place (setting_in f) levels of (position_in f lists)
+abbrev pub AsksBelow : (List ℕ → Option ℕ) → Collector → ℕ → Option ℕ → List ℕ → List AskedNode → Type 0
+AsksBelow place c levels of lists nodes = CanAsk c lists → asked_nodes nodes ≡ asked_below place (setting_at c) levels of (position_at c lists)
 
 -- ---- an operation that was checked
 

@@ -1,13 +1,15 @@
-//! Finding what is asked, node by node. The collector changes neither what the operation is planned by nor its selection sets.
+//! Finding what is asked, node by node. The collector changes neither what the operation is planned by nor its selection sets, and
+//! its numbers stand for the same.
 
-ghost use Rattle.std.specs.Prelude.{◌≡◌, ◌∷◌, option_map, IfOk, OnOk};
+ghost use Rattle.std.specs.Prelude.{◌≡◌, option_map, IfOk, OnOk};
 ghost use Rattle.schema_model.specs.Numbers.{type_number};
 ghost use Rattle.gql_base.specs.names.Names.{place_of_name};
 ghost use Rattle.collected_fields.specs.Gathering.{IsReady};
+ghost use Rattle.collected_fields.specs.Lists.{HasMore};
 ghost use Rattle.asked_fields.specs.Asking.{frame, AsksType, AsksGroups, AsksGroup, AsksNode, AsksBelow};
 
 use crate::asked::AskedNode;
-use crate::lookups::{argument_of, key_of, lists_below, name_of, type_below};
+use crate::lookups::{argument_of, key_of, name_of, type_below};
 use collected_fields::{Collected, Collector, Group};
 use gql_base::{Indexed, Named, Text};
 use input_values::TypeId;
@@ -24,8 +26,9 @@ pub fn ask_type<N: Named + Drop>(
     levels: u32,
 ) -> Result<Vec<AskedNode>, AllocError>
     ensures frame { frame collector.new ≡ frame collector.old }
+    ensures numbers { HasMore collector.old.joins collector.new.joins }
     ensures ready { IsReady collector.old → IsReady collector.new }
-    ensures asked { IfOk result (λ nodes. IsReady collector.old → AsksType (place_of_name N.name_of names.now.items.items) (frame collector.old) levels of.number lists.now nodes.items) }
+    ensures asked { IfOk result (λ nodes. IsReady collector.old → AsksType (place_of_name N.name_of names.now.items.items) collector.old levels of.number lists.now nodes.items) }
 {
     let groups = collector.collect(alloc, of, lists)?;
     let nodes = ask_groups(alloc, names, collector, of, groups.as_slice(), levels)?;
@@ -43,8 +46,9 @@ fn ask_groups<'a, N: Named + Drop>(
     levels: u32,
 ) -> Result<Vec<AskedNode>, AllocError>
     ensures frame { frame collector.new ≡ frame collector.old }
+    ensures numbers { HasMore collector.old.joins collector.new.joins }
     ensures ready { IsReady collector.old → IsReady collector.new }
-    ensures asked { IfOk result (λ nodes. IsReady collector.old → AsksGroups (place_of_name N.name_of names.now.items.items) (frame collector.old) levels of.number groups.now nodes.items) }
+    ensures asked { IfOk result (λ nodes. IsReady collector.old → AsksGroups (place_of_name N.name_of names.now.items.items) collector.old levels of.number groups.now nodes.items) }
 {
     let mut nodes = Vec::new(alloc);
     'groups: for group in groups {
@@ -65,12 +69,14 @@ fn ask_group<'a, N: Named + Drop>(
     nodes: &mut Vec<AskedNode>,
 ) -> Result<(), AllocError>
     ensures frame { frame collector.new ≡ frame collector.old }
+    ensures numbers { HasMore collector.old.joins collector.new.joins }
     ensures ready { IsReady collector.old → IsReady collector.new }
-    ensures asked { OnOk result (IsReady collector.old → AsksGroup (place_of_name N.name_of names.now.items.items) (frame collector.old) levels of.number group.now nodes.old.items nodes.new.items) }
+    ensures asked { OnOk result (IsReady collector.old → AsksGroup (place_of_name N.name_of names.now.items.items) collector.old levels of.number group.now nodes.old.items nodes.new.items) }
 {
     match group.fields.split_first() {
-        Some((first, others)) => {
-            let node = ask_node(alloc, names, collector, of, first, others, levels)?;
+        Some((first, _)) => {
+            let below = group.below.as_slice();
+            let node = ask_node(alloc, names, collector, of, first, below, levels)?;
             nodes.push(node)?;
             Ok(())
         }
@@ -78,7 +84,7 @@ fn ask_group<'a, N: Named + Drop>(
     }
 }
 
-/// The node of these fields of one key.
+/// The node of fields of one key, by the first of them and by what stands below all.
 #[cycle(ask)]
 fn ask_node<'a, N: Named + Drop>(
     alloc: Global,
@@ -86,25 +92,25 @@ fn ask_node<'a, N: Named + Drop>(
     collector: &mut Collector<'a>,
     of: TypeId,
     first: &Collected<'a>,
-    others: &[Collected<'a>],
+    below: &[usize],
     levels: u32,
 ) -> Result<AskedNode, AllocError>
     ensures frame { frame collector.new ≡ frame collector.old }
+    ensures numbers { HasMore collector.old.joins collector.new.joins }
     ensures ready { IsReady collector.old → IsReady collector.new }
-    ensures asked { IfOk result (λ node. IsReady collector.old → AsksNode (place_of_name N.name_of names.now.items.items) (frame collector.old) levels of.number (first.now ∷ others.now) node) }
+    ensures asked { IfOk result (λ node. IsReady collector.old → AsksNode (place_of_name N.name_of names.now.items.items) collector.old levels of.number first.now below.now node) }
 {
     let planning = collector.planning();
     let key = Text::copy_of(alloc, key_of(first))?;
     let name = Text::copy_of(alloc, name_of(first))?;
     let argument = argument_of(alloc, names, &planning, of, first)?;
-    let lists = lists_below(alloc, first, others)?;
     let stands = type_below(&planning, of, first);
-    let below = ask_below(alloc, names, collector, stands, lists.as_slice(), levels)?;
+    let asked = ask_below(alloc, names, collector, stands, below, levels)?;
     Ok(AskedNode {
         key,
         name,
         argument,
-        below,
+        below: asked,
     })
 }
 
@@ -119,8 +125,9 @@ fn ask_below<N: Named + Drop>(
     levels: u32,
 ) -> Result<Vec<AskedNode>, AllocError>
     ensures frame { frame collector.new ≡ frame collector.old }
+    ensures numbers { HasMore collector.old.joins collector.new.joins }
     ensures ready { IsReady collector.old → IsReady collector.new }
-    ensures asked { IfOk result (λ nodes. IsReady collector.old → AsksBelow (place_of_name N.name_of names.now.items.items) (frame collector.old) levels (option_map type_number of) lists.now nodes.items) }
+    ensures asked { IfOk result (λ nodes. IsReady collector.old → AsksBelow (place_of_name N.name_of names.now.items.items) collector.old levels (option_map type_number of) lists.now nodes.items) }
 {
     if levels == 0 {
         return Ok(Vec::new(alloc));

@@ -1,16 +1,16 @@
 //! What holds of what is asked. These functions do nothing: their contracts are the laws.
 
-ghost use Rattle.std.specs.Prelude.{◌≡◌, ◌<◌, ℕ, List, All, length};
+ghost use Rattle.std.specs.Prelude.{◌≡◌, ℕ, List};
 ghost use Rattle.document_reader.specs.declared.trees.Operation.{Operation};
 ghost use Rattle.response_model.specs.Plan.{Form};
 ghost use Rattle.response_model.specs.Response.{Tree};
 ghost use Rattle.response_model.specs.Cost.{Part};
 ghost use Rattle.plan_model.specs.SelectedFields.{Setting, Place};
-ghost use Rattle.plan_model.specs.Collecting.{CollectedField};
 ghost use Rattle.plan_model.specs.Merging.{Position};
 ghost use Rattle.plan_model.specs.MergingWalk.{IsShortened};
 ghost use Rattle.plan_model.specs.Visits.{planned};
 ghost use Rattle.plan_model.specs.Operations.{IsPlannedWell, IsOperationPlan};
+ghost use Rattle.collected_fields.specs.Groups.{GroupData};
 ghost use Rattle.collected_fields.specs.Gathering.{Gathers};
 ghost use Rattle.asked_fields.specs.Asked.{asked, asked_operation, plan_in, HasOneType, IsOfOneType, FitsAsAsked, CostsAsAsked, AskTheSame};
 
@@ -44,7 +44,7 @@ pub fn responses_to_what_is_asked()
 
 /// The groups of fields that are gathered at a position ask what the position asks.
 pub fn what_is_gathered_is_asked()
-    ensures { (e : Setting) (levels T : ℕ) (p : Position) (groups : List (List CollectedField)) → Gathers e T p groups → All (λ g. 0 < length g) groups → AskTheSame e levels T p groups }
+    ensures { (e : Setting) (levels T : ℕ) (p : Position) (groups : List GroupData) → Gathers e T p groups → AskTheSame e levels T p groups }
 {
     repeats_change_nothing();
 }

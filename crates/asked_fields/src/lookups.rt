@@ -1,6 +1,6 @@
 //! What is looked up of a field that is collected.
 
-ghost use Rattle.std.specs.Prelude.{◌≡◌, ◌∷◌, List, Result, IfOk, map, option_map};
+ghost use Rattle.std.specs.Prelude.{◌≡◌, List, Result, IfOk, map, option_map};
 ghost use Rattle.gql_base.specs.names.Names.{place_of_name};
 ghost use Rattle.schema_model.specs.Arguments.{ArgData, args_data};
 ghost use Rattle.schema_model.specs.Numbers.{type_number};
@@ -8,7 +8,7 @@ ghost use Rattle.variable_coercion.specs.Refusals.{Refusal};
 ghost use Rattle.variable_coercion.specs.Calls.{AnswersRefusal, argument_told};
 ghost use Rattle.plan_model.specs.SelectedFields.{if_coerced, object_place, place_at};
 ghost use Rattle.collected_fields.specs.Views.{collected_field, setting_of_planning};
-ghost use Rattle.asked_fields.specs.Asking.{first_type, number_below, coerced_in, kept_at};
+ghost use Rattle.asked_fields.specs.Asking.{first_type, coerced_in, kept_at};
 
 use crate::arguments::argument_kept;
 use crate::asked::Argument;
@@ -35,22 +35,6 @@ pub fn name_of<'a>(field: &Collected<'a>) -> &'a str
     ensures { result.now ≡ (collected_field field.now).call.name }
 {
     field.field.name.text.as_str()
-}
-
-/// The numbers of the selections of these fields.
-pub fn lists_below(
-    alloc: Global,
-    first: &Collected<'_>,
-    others: &[Collected<'_>],
-) -> Result<Vec<usize>, AllocError>
-    ensures { IfOk result (λ lists. lists.items ≡ map number_below (first.now ∷ others.now)) }
-{
-    let mut lists = Vec::new(alloc);
-    lists.push(first.below)?;
-    for other in others {
-        lists.push(other.below)?;
-    }
-    Ok(lists)
 }
 
 /// What arguments come to. None are left where one is refused.

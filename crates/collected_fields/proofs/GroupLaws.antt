@@ -1,5 +1,6 @@
 -- The fields of a key, with one field more.
-use Rattle.std.proofs.Common.{◌≡◌, ⊎_elim, ℕ, zero, suc, ◌+◌, ◌<◌, ◌≤◌, List, [], ◌∷◌, ◌++◌, map, take, filter, length, slice_set, get_or, Bool, true, false, true≢false, ◌||◌, bytes_eq, Option, Some, None, append-nil, refl, sym, ap, ◌∙◌, subst, arith, if◌then◌else◌}
+use Rattle.std.proofs.Common.{◌≡◌, ⊎_elim, ℕ, zero, suc, ◌+◌, ◌<◌, ◌≤◌, List, [], ◌∷◌, ◌++◌, map, take, filter, length, slice_set, get_or, Bool, true, false, true≢false, ◌||◌, bytes_eq, Option, Some, None, Vec, append-nil, refl, sym, ap, ◌∙◌, subst, arith, if◌then◌else◌}
+use Rattle.std.specs.declared.alloc.Global.{Global}
 use Rattle.std.specs.Prelude.{option_map, All}
 use Rattle.std.specs.Map.{update}
 use Rattle.std.specs.List.{list_any}
@@ -13,41 +14,39 @@ use Rattle.plan_model.specs.Collecting.{CollectedField}
 use Rattle.plan_model.specs.Merging.{keys_from, keys_of, has_key, fields_of_key}
 use Rattle.plan_model.proofs.Thinning.{Each}
 use Rattle.collected_fields.specs.declared.group.Groups.{Groups}
-use Rattle.collected_fields.specs.declared.collected.Group.{Group}
 use Rattle.collected_fields.specs.declared.collected.Collected.{Collected}
-use Rattle.collected_fields.specs.Gathering.{fields_by_key}
 use Rattle.collected_fields.specs.Walks.{NumberedField, numbered, field_alone, numbered_by_key, numbered_group}
 use Rattle.collected_fields.specs.Grouping.{place_in, appended_at, AreGrouped}
 
 -- ---- names
 
-bytes_same : (a : List ℕ) → bytes_eq a a ≡ true
+pub bytes_same : (a : List ℕ) → bytes_eq a a ≡ true
 bytes_same a = (bytes_eq-Decides a a).1 refl
 
-any_of_same : (a b : List ℕ) (names : List (List ℕ)) → bytes_eq a b ≡ true → list_any (bytes_eq a) names ≡ list_any (bytes_eq b) names
+pub any_of_same : (a b : List ℕ) (names : List (List ℕ)) → bytes_eq a b ≡ true → list_any (bytes_eq a) names ≡ list_any (bytes_eq b) names
 any_of_same a b names is = ap (λ (n : List ℕ). list_any (bytes_eq n) names) ((bytes_eq-Decides a b).0 is)
 
-swapped_eq : (a b : List ℕ) → bytes_eq a b ≡ false → bytes_eq b a ≡ false
+pub swapped_eq : (a b : List ℕ) → bytes_eq a b ≡ false → bytes_eq b a ≡ false
 swapped_eq a b differ = ⊎_elim
     (λ (is : bytes_eq b a ≡ true). absurd (true≢false (sym (ap (λ (n : List ℕ). bytes_eq n b) (sym ((bytes_eq-Decides b a).0 is)) ∙ bytes_same b) ∙ differ)))
     (λ (unlike : bytes_eq b a ≡ false). unlike)
     (cases_Bool (bytes_eq b a))
 
-or_swap : (a b c : Bool) → (a || b) || c ≡ b || (a || c)
+pub or_swap : (a b c : Bool) → (a || b) || c ≡ b || (a || c)
 or_swap true true c = refl
 or_swap true false c = refl
 or_swap false true c = refl
 or_swap false false c = refl
 
-or_none : (a : Bool) → a || false ≡ a
+pub or_none : (a : Bool) → a || false ≡ a
 or_none true = refl
 or_none false = refl
 
-or_left : (a b : Bool) → a || b ≡ false → a ≡ false
+pub or_left : (a b : Bool) → a || b ≡ false → a ≡ false
 or_left true b h = h
 or_left false b h = refl
 
-or_right : (a b : Bool) → a || b ≡ false → b ≡ false
+pub or_right : (a b : Bool) → a || b ≡ false → b ≡ false
 or_right true b h = absurd (true≢false h)
 or_right false b h = h
 
@@ -86,11 +85,11 @@ seen_is_old seen (x ∷ xs) s h = ⊎_elim
         (λ (unlike : bytes_eq s k ≡ false). unlike)
         (cases_Bool (bytes_eq s k))
 
-abbrev AreApart : List (List ℕ) → Type 0
+abbrev pub AreApart : List (List ℕ) → Type 0
 AreApart [] = Unit {0}
 AreApart (k ∷ keys) = (list_any (bytes_eq k) keys ≡ false) × AreApart keys
 
-keys_apart : (seen : List (List ℕ)) (xs : Fields) → AreApart (keys_from seen xs)
+pub keys_apart : (seen : List (List ℕ)) (xs : Fields) → AreApart (keys_from seen xs)
 keys_apart seen [] = tt
 keys_apart seen (x ∷ xs) = ⊎_elim
     (λ (is : list_any (bytes_eq x.key) seen ≡ true). subst AreApart (sym (passed is)) (keys_apart seen xs))
@@ -104,7 +103,7 @@ keys_apart seen (x ∷ xs) = ⊎_elim
     taken new = rw (new) refl
 
 -- a key that is no key of fields has none
-none_of_key : (seen : List (List ℕ)) (xs : List NumberedField) (key : List ℕ) → list_any (bytes_eq key) seen ≡ false → list_any (bytes_eq key) (keys_from seen (map field_alone xs)) ≡ false → filter (λ f. has_key key f.0) xs ≡ []
+pub none_of_key : (seen : List (List ℕ)) (xs : List NumberedField) (key : List ℕ) → list_any (bytes_eq key) seen ≡ false → list_any (bytes_eq key) (keys_from seen (map field_alone xs)) ≡ false → filter (λ f. has_key key f.0) xs ≡ []
 none_of_key seen [] key old h = refl
 none_of_key seen (x ∷ xs) key old h = ⊎_elim
     (λ (is : list_any (bytes_eq x.0.key) seen ≡ true). rw (other_key is) (none_of_key seen xs key old (sym (passed is) ∙ h)))
@@ -278,15 +277,15 @@ grouped_next fields at f g here is h = subst (λ (fs : List NumberedField). AreG
 pub grouped_all : (fields : List Collected) (at : ℕ) (g : Groups) → length fields ≤ at → AreGrouped (map numbered (take at fields)) g → map numbered_group g.groups.items ≡ numbered_by_key (map numbered fields)
 grouped_all fields at g past h = h.grouped ∙ ap (λ (fs : List Collected). numbered_by_key (map numbered fs)) (take_all at fields past)
 
-pub set_longer : (groups : List Group) (p : ℕ) (f : Collected) (g old : Group) → p < length groups → old ≡ get_or groups p old → g.fields.items ≡ old.fields.items ++ (f ∷ []) → map numbered_group (slice_set groups p g) ≡ appended_at p (numbered f) (map numbered_group groups)
+pub set_longer : (groups : List (Vec Collected Global)) (p : ℕ) (f : Collected) (g old : Vec Collected Global) → p < length groups → old ≡ get_or groups p old → g.items ≡ old.items ++ (f ∷ []) → map numbered_group (slice_set groups p g) ≡ appended_at p (numbered f) (map numbered_group groups)
 set_longer [] p f g old h is longer = absurd (no_less p h)
   where
     no_less : (n : ℕ) → n < 0 → ⊥
     no_less n h = omega arith
-set_longer (x ∷ groups) zero f g old h is longer = ap (λ (y : List NumberedField). y ∷ map numbered_group groups) (ap (map numbered) (longer ∙ ap (λ (o : Group). o.fields.items ++ (f ∷ [])) is) ∙ map_push numbered x.fields.items f)
+set_longer (x ∷ groups) zero f g old h is longer = ap (λ (y : List NumberedField). y ∷ map numbered_group groups) (ap (map numbered) (longer ∙ ap (λ (o : Vec Collected Global). o.items ++ (f ∷ [])) is) ∙ map_push numbered x.items f)
 set_longer (x ∷ groups) (suc p) f g old h is longer = ap (λ (gs : List (List NumberedField)). numbered_group x ∷ gs) (set_longer groups p f g old (omega arith) is longer)
 
-pub set_nothing : (groups : List Group) (p : ℕ) (f : NumberedField) → length groups ≤ p → map numbered_group groups ≡ appended_at p f (map numbered_group groups)
+pub set_nothing : (groups : List (Vec Collected Global)) (p : ℕ) (f : NumberedField) → length groups ≤ p → map numbered_group groups ≡ appended_at p f (map numbered_group groups)
 set_nothing [] p f h = refl
 set_nothing (g ∷ groups) zero f h = absurd (no_more (length groups) h)
   where
@@ -294,42 +293,17 @@ set_nothing (g ∷ groups) zero f h = absurd (no_more (length groups) h)
     no_more n h = omega arith
 set_nothing (g ∷ groups) (suc p) f h = ap (λ (gs : List (List NumberedField)). numbered_group g ∷ gs) (set_nothing groups p f (omega arith))
 
--- ---- what holds of each group
+-- ---- groups have fields
 
-filtered_each : (P : NumberedField → Type 0) (test : NumberedField → Bool) (fs : List NumberedField) → Each P fs → Each P (filter test fs)
-filtered_each P test [] h = tt
-filtered_each P test (f ∷ fs) h = ⊎_elim
-    (λ (is : test f ≡ true). rw (is) (h.0, filtered_each P test fs h.1))
-    (λ (unlike : test f ≡ false). rw (unlike) (filtered_each P test fs h.1))
-    (cases_Bool (test f))
-
-pub each_of_keys : (P : NumberedField → Type 0) (fs : List NumberedField) (keys : List (List ℕ)) → Each P fs → Each (Each P) (map (Of fs) keys)
-each_of_keys P fs [] h = tt
-each_of_keys P fs (k ∷ keys) h = (filtered_each P (λ f. has_key k f.0) fs h, each_of_keys P fs keys h)
-
-all_in_group : (P : NumberedField → Type 0) (cs : List Collected) → Each P (map numbered cs) → All (λ c. P (numbered c)) cs
-all_in_group P [] h = λ k d less. absurd (no_less k less)
-  where
-    no_less : (n : ℕ) → n < 0 → ⊥
-    no_less n h = omega arith
-all_in_group P (c ∷ cs) h = All-cons (λ c. P (numbered c)) c cs h.0 (all_in_group P cs h.1)
-
-pub all_in_groups : (P : NumberedField → Type 0) (groups : List Group) → Each (Each P) (map numbered_group groups) → All (λ g. All (λ c. P (numbered c)) g.fields.items) groups
-all_in_groups P [] h = λ k d less. absurd (no_less k less)
-  where
-    no_less : (n : ℕ) → n < 0 → ⊥
-    no_less n h = omega arith
-all_in_groups P (g ∷ groups) h = All-cons (λ g. All (λ c. P (numbered c)) g.fields.items) g groups (all_in_group P g.fields.items h.0) (all_in_groups P groups h.1)
-
-abbrev IsFilled : List NumberedField → Type 0
+abbrev pub IsFilled : List NumberedField → Type 0
 IsFilled g = 0 < length g
 
-pub all_filled : (groups : List Group) → Each IsFilled (map numbered_group groups) → All (λ g. 0 < length g.fields.items) groups
+pub all_filled : (groups : List (Vec Collected Global)) → Each IsFilled (map numbered_group groups) → All (λ g. 0 < length g.items) groups
 all_filled [] h = λ k d less. absurd (no_less k less)
   where
     no_less : (n : ℕ) → n < 0 → ⊥
     no_less n h = omega arith
-all_filled (g ∷ groups) h = All-cons (λ g. 0 < length g.fields.items) g groups (subst (λ n. 0 < n) (length-map g.fields.items numbered) h.0) (all_filled groups h.1)
+all_filled (g ∷ groups) h = All-cons (λ (x : Vec Collected Global). 0 < length x.items) g groups (subst (λ n. 0 < n) (length-map g.items numbered) h.0) (all_filled groups h.1)
 
 longer_filled : (fs : List NumberedField) (x : NumberedField) (k : List ℕ) → IsFilled (Of fs k) → IsFilled (Of (x ∷ fs) k)
 longer_filled fs x k h = ⊎_elim
@@ -358,16 +332,9 @@ keys_filled seen (x ∷ fs) = ⊎_elim
     taken new = rw (new) refl
 
 -- without their numbers
-alone_of_key : (key : List ℕ) (fs : List NumberedField) → map field_alone (Of fs key) ≡ fields_of_key key (map field_alone fs)
+pub alone_of_key : (key : List ℕ) (fs : List NumberedField) → map field_alone (Of fs key) ≡ fields_of_key key (map field_alone fs)
 alone_of_key key [] = refl
 alone_of_key key (f ∷ fs) = ⊎_elim
     (λ (is : bytes_eq f.0.key key ≡ true). rw (is) (ap (λ xs. f.0 ∷ xs) (alone_of_key key fs)))
     (λ (unlike : bytes_eq f.0.key key ≡ false). rw (unlike) (alone_of_key key fs))
     (cases_Bool (bytes_eq f.0.key key))
-
-alone_of_keys : (keys : List (List ℕ)) (fs : List NumberedField) → map (map field_alone) (map (Of fs) keys) ≡ map (λ key. fields_of_key key (map field_alone fs)) keys
-alone_of_keys [] fs = refl
-alone_of_keys (k ∷ keys) fs = ap (λ g. g ∷ map (map field_alone) (map (Of fs) keys)) (alone_of_key k fs) ∙ ap (λ gs. fields_of_key k (map field_alone fs) ∷ gs) (alone_of_keys keys fs)
-
-pub alone_by_key : (fs : List NumberedField) → map (map field_alone) (numbered_by_key fs) ≡ fields_by_key (map field_alone fs)
-alone_by_key fs = alone_of_keys (keys_of (map field_alone fs)) fs

@@ -3,7 +3,13 @@ pub mod StepLaws
 pub mod PrepareLaws
 pub mod WalkLaws
 pub mod GroupLaws
+pub mod KeyLaws
+pub mod ServingLaws
+pub mod ListLaws
 pub mod CollectLaws
+pub mod GrowingLaws
+pub mod FindingLaws
+pub mod FinishLaws
 pub mod WalkSteps
-pub mod Marking
-pub mod FieldlessLaws
+pub mod AlikeLaws
+pub mod JoinLaws

@@ -1,11 +1,11 @@
 -- The fields that are collected at a position, as groups of one response key.
-use Rattle.std.specs.Prelude.{◌≡◌, ◌<◌, ℕ, List, map, get_or, length, None, All, option_map}
+use Rattle.std.specs.Prelude.{◌≡◌, ◌<◌, ℕ, List, [], ◌∷◌, map, flat_map, get_or, length, Some, None, All, option_map}
 use Rattle.document_reader.specs.Documents.{no_selection}
 use Rattle.document_reader.specs.Trees.{set_tree}
 use Rattle.schema_model.specs.Numbers.{type_number}
 use Rattle.plan_model.specs.SelectedFields.{Setting}
 use Rattle.plan_model.specs.Collecting.{CollectedField, WrittenSelections}
-use Rattle.plan_model.specs.Merging.{Position, fields_at, keys_of, fields_of_key, selections_below}
+use Rattle.plan_model.specs.Merging.{Position, fields_at, keys_of}
 use Rattle.plan_model.specs.Repeats.{LeavesOutRepeats}
 use Rattle.plan_model.specs.MergingWalk.{IsAcyclic}
 use Rattle.collected_fields.specs.declared.planning.Planning.{Planning}
@@ -13,20 +13,20 @@ use Rattle.collected_fields.specs.declared.collected.Group.{Group}
 use Rattle.collected_fields.specs.declared.collector.Collector.{Collector}
 use Rattle.collected_fields.specs.declared.tables.SelectionList.{SelectionList}
 use Rattle.collected_fields.specs.Prepared.{list_data, entry_data, AreSound}
-use Rattle.collected_fields.specs.Fieldless.{KnowsFieldless}
-use Rattle.collected_fields.specs.Views.{setting_of_planning, collected_field, groups_view}
+use Rattle.collected_fields.specs.Views.{setting_of_planning, collected_field}
+use Rattle.collected_fields.specs.Walks.{NumberedField, numbered_by_key, found_in}
+use Rattle.collected_fields.specs.Serving.{ComeTo}
+use Rattle.collected_fields.specs.Lists.{sets_in_joins, IsNumberIn, HasMore, HasNothing}
+use Rattle.collected_fields.specs.Groups.{GroupData, AreGroupsOf}
 
--- the fields of each key, in the order in which the keys first stand
-abbrev pub fields_by_key : List CollectedField → List (List CollectedField)
-fields_by_key fields = map (λ key. fields_of_key key fields) (keys_of fields)
-
--- The groups are those of the fields of a position for objects of the type T, where repeats are left out.
-pub record Gathers (e : Setting) (T : ℕ) (p : Position) (groups : List (List CollectedField)) : Type 0 where
+-- The groups are those of the fields of a position for objects of the type T, where repeats are left out, in the order in which
+-- the keys first stand.
+pub record Gathers (e : Setting) (T : ℕ) (p : Position) (groups : List GroupData) : Type 0 where
   pub fields : List CollectedField
   pub repeats : LeavesOutRepeats (fields_at e T p) fields
-  pub grouped : groups ≡ fields_by_key fields
+  pub grouped : AreGroupsOf e fields (keys_of fields) groups
 
--- ---- the selection sets of a collector, by their numbers
+-- ---- the selection sets of a collector, by their numbers, and lists of them
 
 abbrev pub planning_of : Collector → Planning
 planning_of c = c.tables.planning
@@ -41,21 +41,81 @@ written_in_list l = (option_map type_number l.parent, set_tree l.written.now)
 unfoldable pub written_at : Collector → ℕ → WrittenSelections
 written_at c number = get_or (map written_in_list c.tables.lists.items) number (None, no_selection)
 
--- the position of some selection sets, where no size is handed down
+abbrev pub sets_at : Collector → ℕ → List ℕ
+sets_at c number = sets_in_joins c.joins number
+
+-- the selections that a number stands for
+abbrev pub meaning_at : Collector → ℕ → List WrittenSelections
+meaning_at c number = map (written_at c) (sets_at c number)
+
+abbrev pub IsNumber : Collector → ℕ → Type 0
+IsNumber c number = IsNumberIn c.joins number
+
+-- the position of selection sets and lists by their numbers, where no size is handed down
 abbrev pub position_at : Collector → List ℕ → Position
-position_at c numbers = record { selections = map (written_at c) numbers; handed = None }
+position_at c numbers = record { selections = flat_map (meaning_at c) numbers; handed = None }
 
--- What a collector's selection sets keep, from the time it is made; and those that it knows to have no fields have none.
+-- What the selections of these numbers have for objects of the type T: these fields stand in its place, with numbers of the collector.
+pub record ComesTo (c : Collector) (T : ℕ) (numbers : List ℕ) (fields : List NumberedField) : Type 0 where
+  pub come : ComeTo (setting_at c) (meaning_at c) (fields_at (setting_at c) T (position_at c numbers)) fields
+  pub known : All (λ f. IsNumber c f.1) fields
+
+-- So it is where the selections are acyclic.
+abbrev pub ComesToAt : Collector → ℕ → List ℕ → List NumberedField → Type 0
+ComesToAt c T numbers fields = IsAcyclic (setting_at c) (position_at c numbers) → ComesTo c T numbers fields
+
+-- What is kept for a number and a type is what the selections of the number come to.
+abbrev pub IsKeptRightly : Collector → Type 0
+IsKeptRightly c = (T number : ℕ) (fields : List NumberedField) → found_in c.kept T number ≡ Some fields → IsNumber c number × ComesToAt c T (number ∷ []) fields
+
+-- What a collector keeps, from the time it is made.
+pub record IsReadyCollector (c : Collector) : Type 0 where
+  pub sound : AreSound (setting_at c) (map list_data c.tables.lists.items) (map entry_data c.tables.entries.items)
+  pub counted : c.joins.count ≡ length c.tables.lists.items
+  pub nothing : HasNothing c.joins
+  pub kept : IsKeptRightly c
+
 unfoldable pub IsReady : Collector → Type 0
-IsReady c = AreSound (setting_at c) (map list_data c.tables.lists.items) (map entry_data c.tables.entries.items) × KnowsFieldless c.tables c.known.none
+IsReady c = IsReadyCollector c
 
--- A collector that is ready gathers the fields of these selection sets for objects of the type T, where they are acyclic.
-abbrev pub GathersAt : Collector → ℕ → List ℕ → List Group → Type 0
-GathersAt c T numbers groups = IsReady c → IsAcyclic (setting_at c) (position_at c numbers) → Gathers (setting_at c) T (position_at c numbers) (groups_view groups)
+-- The collector is planned by the same, and its numbers stand for the same.
+pub record Grows (old new : Collector) : Type 0 where
+  pub planning : planning_of new ≡ planning_of old
+  pub written : written_at new ≡ written_at old
+  pub numbers : HasMore old.joins new.joins
+  pub ready : IsReady old → IsReady new
 
--- Each field has the number of its own selections.
-abbrev pub AreNumbered : Collector → List Group → Type 0
-AreNumbered c groups = All (λ g. All (λ f. written_at c f.below ≡ selections_below (setting_at c) (collected_field f)) g.fields.items) groups
+-- ---- groups by their numbers
 
-abbrev pub HasField : Group → Type 0
-HasField g = 0 < length g.fields.items
+abbrev pub group_seen : Collector → Group → GroupData
+group_seen c g = record { fields = map collected_field g.fields.items; below = flat_map (meaning_at c) g.below.items }
+
+abbrev pub groups_seen : Collector → List Group → List GroupData
+groups_seen c groups = map (group_seen c) groups
+
+-- A collector that is ready gathers the fields of these numbers for objects of the type T, where they are acyclic.
+abbrev pub GathersAt : Collector → Collector → ℕ → List ℕ → List Group → Type 0
+GathersAt old new T numbers groups = IsReady old → IsAcyclic (setting_at old) (position_at old numbers) → Gathers (setting_at old) T (position_at old numbers) (groups_seen new groups)
+
+-- There is a field, and the numbers below are among those of the collector.
+pub record IsGroupAt (c : Collector) (g : Group) : Type 0 where
+  pub filled : 0 < length g.fields.items
+  pub known : All (IsNumber c) g.below.items
+
+abbrev pub AreGroupsAt : Collector → List Group → Type 0
+AreGroupsAt c groups = All (IsGroupAt c) groups
+
+-- The fields of each key are those to which the selections of these numbers come.
+pub record AreFoundAt (c : Collector) (T : ℕ) (numbers : List ℕ) (of_keys : List (List NumberedField)) : Type 0 where
+  pub fields : List NumberedField
+  pub grouped : of_keys ≡ numbered_by_key fields
+  pub found : IsReady c → ComesToAt c T numbers fields
+
+-- What is given for objects of the type T: the groups of these numbers, each with a field and with numbers of the collector.
+pub record GivesGroups (old new : Collector) (T : ℕ) (numbers : List ℕ) (groups : List Group) : Type 0 where
+  pub found : GathersAt old new T numbers groups
+  pub right : IsReady old → IsAcyclic (setting_at old) (position_at old numbers) → AreGroupsAt new groups
+
+-- The number is that of this selection set.
+abbrev pub HasOne : Collector → ℕ → WrittenSelections → Type 0
+HasOne c number written = IsNumber c number × (meaning_at c number ≡ written ∷ [])

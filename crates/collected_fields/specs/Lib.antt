@@ -1,10 +1,14 @@
 -- What is collected, and the selection sets of a collector.
 pub mod Views
+pub mod Groups
 pub mod Gathering
 -- The steps of a walk over a selection set, and what they stand for.
 pub mod Steps
 pub mod Prepared
 pub mod Drafts
-pub mod Fieldless
 pub mod Walks
+-- Fields in whose place others stand, groups of them, and lists of selection sets.
+pub mod Serving
 pub mod Grouping
+pub mod Lists
+pub mod Joining

@@ -39,6 +39,10 @@ EntryData = Option ℕ × ℕ
 abbrev pub entry_data : Entry → EntryData
 entry_data entry = (option_map type_number entry.on, entry.list)
 
+abbrev pub steps_in : Option ListData → List StepData
+steps_in None = []
+steps_in (Some l) = l.steps
+
 -- The selection set of this number is this one.
 abbrev pub IsListed : List ListData → WrittenSelections → ℕ → Type 0
 IsListed lists written number = slice_get (map written_of lists) number ≡ Some written

@@ -1,5 +1,5 @@
 -- What an operation is planned by, and what is collected, as definitions see them.
-use Rattle.std.specs.Prelude.{ℕ, List, map, option_map, Option}
+use Rattle.std.specs.Prelude.{ℕ, map, option_map, Option}
 use Rattle.gql_base.specs.parts.Trees.{named_value}
 use Rattle.document_reader.specs.declared.trees.Field.{Field}
 use Rattle.document_reader.specs.Trees.{names_of, set_tree}
@@ -13,7 +13,6 @@ use Rattle.plan_model.specs.Collecting.{CollectedField}
 pub use Rattle.distinct_selections.specs.Adding.{fragment_seen}
 use Rattle.collected_fields.specs.declared.planning.Planning.{Planning}
 use Rattle.collected_fields.specs.declared.collected.Collected.{Collected}
-use Rattle.collected_fields.specs.declared.collected.Group.{Group}
 
 -- the setting of plans
 abbrev pub setting_of_planning : Planning → Setting
@@ -30,9 +29,3 @@ written_field parent f = record {
 
 abbrev pub collected_field : Collected → CollectedField
 collected_field c = written_field (option_map type_number c.parent) c.field.now
-
-abbrev pub group_view : Group → List CollectedField
-group_view g = map collected_field g.fields.items
-
-abbrev pub groups_view : List Group → List (List CollectedField)
-groups_view groups = map group_view groups

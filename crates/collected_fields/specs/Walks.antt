@@ -1,18 +1,19 @@
 -- The walk over steps, where each fragment is entered once.
-use Rattle.std.specs.Prelude.{◌≡◌, ℕ, zero, suc, Bool, true, false, List, [], ◌∷◌, ◌++◌, map, filter, get_or, slice_get, slice_set, Option, None, Some, if◌then◌else◌}
+use Rattle.std.specs.Prelude.{◌≡◌, ◌⊎◌, ℕ, zero, suc, Bool, true, false, List, [], ◌∷◌, ◌++◌, map, filter, get_or, slice_get, slice_set, option_map, Option, None, Some, Vec, if◌then◌else◌}
+use Rattle.std.specs.declared.alloc.Global.{Global}
+use Rattle.std.specs.BTreeMap.{get}
+use Rattle.input_values.specs.defaults.Filling.{pair_cmp}
 use Rattle.schema_model.specs.SchemaData.{SchemaData, applies}
 use Rattle.schema_model.specs.SchemaViews.{schema_data}
 use Rattle.plan_model.specs.Collecting.{CollectedField, applies_where}
 use Rattle.plan_model.specs.Merging.{keys_of, has_key}
 use Rattle.collected_fields.specs.declared.collected.Collected.{Collected}
-use Rattle.collected_fields.specs.declared.collected.Group.{Group}
 use Rattle.collected_fields.specs.declared.state.Walk.{Walk}
 use Rattle.collected_fields.specs.Views.{collected_field}
 use Rattle.collected_fields.specs.Steps.{StepData, field_step, spread_step, inline_step}
 use Rattle.collected_fields.specs.declared.tables.Tables.{Tables}
-use Rattle.collected_fields.specs.declared.marks.Marks.{Marks}
-use Rattle.collected_fields.specs.Fieldless.{steps_in, marked_for}
-use Rattle.collected_fields.specs.Prepared.{ListData, EntryData, list_data, entry_data}
+use Rattle.collected_fields.specs.declared.findings.Findings.{Findings}
+use Rattle.collected_fields.specs.Prepared.{ListData, EntryData, list_data, entry_data, steps_in}
 
 -- a field, and the number of its selections
 abbrev pub NumberedField : Type 0
@@ -45,6 +46,10 @@ kept f w = record w { fields = w.fields ++ (f ∷ []) }
 abbrev pub IsBlank : WalkData → Type 0
 IsBlank w = ((number : ℕ) → is_marked number w ≡ false) × (w.fields ≡ [])
 
+-- fields that are put behind the others
+abbrev pub taken : List NumberedField → WalkData → WalkData
+taken fields w = record w { fields = w.fields ++ fields }
+
 module _ (s : SchemaData) (T : ℕ) where
   -- behind as many steps as are passed over; `enter` walks the fragment of a number
   abbrev pub walk_steps : (ℕ → WalkData → WalkData) → ℕ → List StepData → WalkData → WalkData
@@ -55,42 +60,72 @@ module _ (s : SchemaData) (T : ℕ) where
   walk_steps enter zero (inline_step on count ∷ xs) w = walk_steps enter (if applies s on T then 0 else count) xs w
 
   -- `steps` are those of the selection set of a number
-  module _ (steps : ℕ → List StepData) (entries : List EntryData) where
-    abbrev pub walk_entry : (ℕ → WalkData → WalkData) → Option EntryData → WalkData → WalkData
-    walk_entry enter None w = w
-    walk_entry enter (Some entry) w = if applies_where s T entry.0 then walk_steps enter 0 (steps entry.1) w else w
+  module _ (steps : ℕ → List StepData) where
+    abbrev pub walk_sets : (ℕ → WalkData → WalkData) → List ℕ → WalkData → WalkData
+    walk_sets enter [] w = w
+    walk_sets enter (number ∷ numbers) w = walk_sets enter numbers (walk_steps enter 0 (steps number) w)
 
-    -- a fragment that was entered is passed over
-    unfoldable pub walk_fragment : ℕ → ℕ → WalkData → WalkData
-    walk_fragment zero number w = w
-    walk_fragment (suc depth) number w = if is_marked number w then w else walk_entry (walk_fragment depth) (slice_get entries number) (marked number w)
+    -- Where it is kept what selection sets come to, that is taken.
+    abbrev pub walk_known : (ℕ → WalkData → WalkData) → Option (List NumberedField) → List ℕ → WalkData → WalkData
+    walk_known enter None sets w = walk_sets enter sets w
+    walk_known enter (Some fields) sets w = taken fields w
 
-    abbrev pub walk_lists : ℕ → List ℕ → WalkData → WalkData
-    walk_lists depth [] w = w
-    walk_lists depth (number ∷ numbers) w = walk_lists depth numbers (walk_steps (walk_fragment depth) 0 (steps number) w)
+    -- `known` is what is kept for a number
+    module _ (known : ℕ → Option (List NumberedField)) (entries : List EntryData) where
+      abbrev pub walk_entry : (ℕ → WalkData → WalkData) → Option EntryData → WalkData → WalkData
+      walk_entry enter None w = w
+      walk_entry enter (Some entry) w = if applies_where s T entry.0 then walk_known enter (known entry.1) (entry.1 ∷ []) w else w
+
+      -- a fragment that was entered is passed over
+      unfoldable pub walk_fragment : ℕ → ℕ → WalkData → WalkData
+      walk_fragment zero number w = w
+      walk_fragment (suc depth) number w = if is_marked number w then w else walk_entry (walk_fragment depth) (slice_get entries number) (marked number w)
+
+      -- `sets` are the selection sets of a number
+      abbrev pub walk_numbers : (ℕ → List ℕ) → ℕ → List ℕ → WalkData → WalkData
+      walk_numbers sets depth [] w = w
+      walk_numbers sets depth (number ∷ numbers) w = walk_numbers sets depth numbers (walk_known (walk_fragment depth) (known number) (sets number) w)
 
 -- ---- groups
+
+-- the fields of a key
+abbrev pub numbered_of_key : List ℕ → List NumberedField → List NumberedField
+numbered_of_key key fields = filter (λ f. has_key key f.0) fields
 
 -- the fields of each key, in the order in which the keys first stand
 abbrev pub numbered_by_key : List NumberedField → List (List NumberedField)
 numbered_by_key fields = map (λ key. filter (λ f. has_key key f.0) fields) (keys_of (map field_alone fields))
 
-abbrev pub numbered_group : Group → List NumberedField
-numbered_group g = map numbered g.fields.items
+abbrev pub numbered_group : Vec Collected Global → List NumberedField
+numbered_group g = map numbered g.items
 
--- ---- by the tables of a program, for objects of the type T, where fragments are entered to a depth and selection sets that are
--- marked are passed over
+-- ---- by the tables of a program, for objects of the type T, where fragments are entered to a depth
 
--- the steps that are left of the selection set of a number
-abbrev pub steps_left : (ℕ → Bool) → List ListData → ℕ → List StepData
-steps_left none lists number = if none number then [] else steps_in (slice_get lists number)
+-- the steps of the selection set of a number
+abbrev pub steps_at : List ListData → ℕ → List StepData
+steps_at lists number = steps_in (slice_get lists number)
 
-module _ (t : Tables) (m : Marks) (T : ℕ) (depth : ℕ) where
+abbrev pub fields_kept : Option (Vec Collected Global) → Option (List NumberedField)
+fields_kept o = option_map numbered_group o
+
+-- what is kept for a number and the type T
+abbrev pub found_in : Findings → ℕ → ℕ → Option (List NumberedField)
+found_in k T number = fields_kept (get pair_cmp k.fields (number, T))
+
+-- What is kept then was kept before, or is what this number comes to for the type T.
+abbrev pub KeepsOne : Findings → Findings → ℕ → ℕ → List NumberedField → Type 0
+KeepsOne old new T number fields = (U place : ℕ) (found : List NumberedField) → found_in new U place ≡ Some found → (found_in old U place ≡ Some found) ⊎ ((U ≡ T) × (place ≡ number) × (found ≡ fields))
+
+-- the same, where it is known that something is kept for the number
+abbrev pub known_for : Findings → ℕ → ℕ → Option (List NumberedField)
+known_for k T number = if get_or k.known.items number false then found_in k T number else None
+
+module _ (t : Tables) (k : Findings) (T : ℕ) (depth : ℕ) where
   abbrev pub list_steps : ℕ → List StepData
-  list_steps = steps_left (marked_for m T) (map list_data t.lists.items)
+  list_steps = steps_at (map list_data t.lists.items)
 
   abbrev pub enter_in : ℕ → WalkData → WalkData
-  enter_in = walk_fragment (schema_data t.planning.schema.now) T list_steps (map entry_data t.entries.items) depth
+  enter_in = walk_fragment (schema_data t.planning.schema.now) T list_steps (known_for k T) (map entry_data t.entries.items) depth
 
   abbrev pub steps_from : ℕ → List StepData → WalkData → WalkData
   steps_from = walk_steps (schema_data t.planning.schema.now) T enter_in
@@ -99,8 +134,14 @@ module _ (t : Tables) (m : Marks) (T : ℕ) (depth : ℕ) where
   abbrev pub TakesStep : StepData → WalkData → WalkData → ℕ → Type 0
   TakesStep x old new skip = (others : List StepData) → steps_from skip others new ≡ steps_from 0 (x ∷ others) old
 
-  abbrev pub entry_in : ℕ → WalkData → WalkData
-  entry_in number = walk_entry (schema_data t.planning.schema.now) T list_steps (map entry_data t.entries.items) enter_in (slice_get (map entry_data t.entries.items) number)
+  abbrev pub sets_in : List ℕ → WalkData → WalkData
+  sets_in = walk_sets (schema_data t.planning.schema.now) T list_steps enter_in
 
-  abbrev pub lists_in : List ℕ → WalkData → WalkData
-  lists_in = walk_lists (schema_data t.planning.schema.now) T list_steps (map entry_data t.entries.items) depth
+  abbrev pub known_in : ℕ → List ℕ → WalkData → WalkData
+  known_in number sets = walk_known (schema_data t.planning.schema.now) T list_steps enter_in (known_for k T number) sets
+
+  abbrev pub entry_in : ℕ → WalkData → WalkData
+  entry_in number = walk_entry (schema_data t.planning.schema.now) T list_steps (known_for k T) (map entry_data t.entries.items) enter_in (slice_get (map entry_data t.entries.items) number)
+
+  abbrev pub numbers_in : (ℕ → List ℕ) → List ℕ → WalkData → WalkData
+  numbers_in sets = walk_numbers (schema_data t.planning.schema.now) T list_steps (known_for k T) (map entry_data t.entries.items) sets depth

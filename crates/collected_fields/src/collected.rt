@@ -14,5 +14,8 @@ pub struct Collected<'a> {
 /// The fields of one response key. There is at least one.
 #[derive(Drop)]
 pub struct Group<'a> {
+    /// Of fields that look like one before them, only the first.
     pub fields: Vec<Collected<'a>>,
+    /// The numbers of the selections of all of them.
+    pub below: Vec<usize>,
 }

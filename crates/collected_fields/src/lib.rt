@@ -1,12 +1,14 @@
 //! The fields that selections have for objects of a type, grouped by their response keys.
 #![tactic(auto)]
 
+mod alike;
 mod collected;
 mod collector;
-mod fieldless;
+mod findings;
+mod finish;
 mod group;
+mod joins;
 mod lookups;
-mod marks;
 mod planning;
 mod prepare;
 mod source;

@@ -1,6 +1,6 @@
 //! Making selection sets ready to be walked.
 
-ghost use Rattle.std.specs.Prelude.{◌≡◌, [], ◌∷◌, ◌++◌, map, length, Some, IfOk, OnOk, IfSome, option_map, slice_get};
+ghost use Rattle.std.specs.Prelude.{◌≡◌, IsTrue, None, [], ◌∷◌, ◌++◌, map, length, Some, IfOk, OnOk, IfSome, option_map, slice_get};
 ghost use Rattle.document_reader.specs.Trees.{selection_tree, field_tree, set_tree, maybe_identifier};
 ghost use Rattle.schema_model.specs.Numbers.{type_number};
 ghost use Rattle.schema_model.specs.SchemaViews.{schema_data};
@@ -92,8 +92,52 @@ fn add_field<'a>(
         return Ok(());
     }
     let parent = below_field(source.planning.schema, draft.parent, field);
-    let below = add_list(alloc, source, parent, field.selections.as_slice(), lists)?;
+    let below = list_below(alloc, source, parent, field.selections.as_slice(), lists)?;
     draft.keep(field, below)
+}
+
+/// Whether these are no selections, below a type that has none.
+fn are_none(parent: Option<TypeId>, selections: &[Selection]) -> bool
+    ensures { IsTrue result → (parent ≡ None) × (selections.now ≡ []) }
+{
+    parent.is_none() && selections.is_empty()
+}
+
+/// The number of the list that has no selections, if the first list is such a one and these are none.
+fn listed_none(
+    parent: Option<TypeId>,
+    selections: &[Selection],
+    lists: &[SelectionList<'_>],
+) -> Option<usize>
+    ensures { IfSome result (λ number. IsListed (map list_data lists.now) (option_map type_number parent, set_tree selections.now) number) }
+{
+    match lists.get(0) {
+        Some(list) => {
+            if are_none(parent, selections) && are_none(list.parent, list.written) {
+                Some(0)
+            } else {
+                None
+            }
+        }
+        None => None,
+    }
+}
+
+/// Lists what stands below a field. All leaves share one number.
+#[cycle(prepare)]
+fn list_below<'a>(
+    alloc: Global,
+    source: &Source<'_, 'a>,
+    parent: Option<TypeId>,
+    selections: &'a [Selection],
+    lists: &mut Vec<SelectionList<'a>>,
+) -> Result<usize, AllocError>
+    ensures { IfOk result (λ number. Lists (source_setting source.now) (option_map type_number parent, set_tree selections.now) (map list_data lists.old.items) (map list_data lists.new.items) number) }
+{
+    match listed_none(parent, selections, lists.as_slice()) {
+        Some(number) => Ok(number),
+        None => add_list(alloc, source, parent, selections, lists),
+    }
 }
 
 /// The fragment of a name; a name of none gives nothing.
@@ -194,7 +238,7 @@ fn entries_of<'a>(
     source: &Source<'_, 'a>,
     lists: &mut Vec<SelectionList<'a>>,
 ) -> Result<Vec<Entry>, AllocError>
-    requires { lists.old.items ≡ [] }
+    requires { Grows (source_setting source.now) [] (map list_data lists.old.items) }
     ensures lists { IfOk result (λ _. Grows (source_setting source.now) [] (map list_data lists.new.items)) }
     ensures entries { IfOk result (λ entries. AreEntries (source_setting source.now).schema (map list_data lists.new.items) (map entry_data entries.items) (source_setting source.now).fragments) }
 {
@@ -233,6 +277,7 @@ pub fn tables_of<'a>(
         fragments: &fragments,
     };
     let mut lists = Vec::new(alloc);
+    add_list(alloc, &source, None, &[], &mut lists)?;
     let entries = entries_of(alloc, &source, &mut lists)?;
     let number = add_list(alloc, &source, Some(root), selections, &mut lists)?;
     let tables = Tables {

@@ -1,16 +1,18 @@
 //! The walk over selection sets, where each fragment is entered once.
 
-ghost use Rattle.std.specs.Prelude.{◌≡◌, ◌<◌, ◌≤◌, ◌+◌, ◌-◌, ℕ, false, true, map, length, replicate, slice_get, slice_set, nat_eq, IfOk, OnOk, get_or, option_map};
+ghost use Rattle.std.specs.Prelude.{◌≡◌, ◌∷◌, [], ◌<◌, ◌≤◌, ◌+◌, ◌-◌, ℕ, false, true, map, length, replicate, slice_get, slice_set, nat_eq, IfOk, OnOk, get_or, option_map};
 ghost use Rattle.std.specs.List.{list_any};
 ghost use Rattle.schema_model.specs.Numbers.{type_number};
 ghost use Rattle.schema_model.specs.SchemaViews.{schema_data};
 ghost use Rattle.plan_model.specs.Collecting.{applies_where};
 ghost use Rattle.collected_fields.specs.Steps.{step_data};
 ghost use Rattle.collected_fields.specs.Prepared.{list_data, entry_data};
-ghost use Rattle.collected_fields.specs.Walks.{walk_data, numbered, is_marked, marked, kept, IsBlank, TakesStep, steps_from, list_steps, enter_in, entry_in, lists_in};
+ghost use Rattle.collected_fields.specs.Lists.{sets_in_joins};
+ghost use Rattle.collected_fields.specs.Walks.{walk_data, numbered, is_marked, marked, kept, taken, IsBlank, TakesStep, steps_from, list_steps, enter_in, entry_in, sets_in, known_in, numbers_in};
 
 use crate::collected::Collected;
-use crate::marks::Marks;
+use crate::findings::Findings;
+use crate::joins::Joins;
 use crate::state::Walk;
 use crate::steps::Step;
 use crate::tables::{Entry, Tables};
@@ -19,7 +21,7 @@ use schema_model::Schema;
 use std::alloc::{AllocError, Global};
 
 /// So many places without a mark.
-fn blanks(alloc: Global, count: usize) -> Result<Vec<bool>, AllocError>
+pub fn blanks(alloc: Global, count: usize) -> Result<Vec<bool>, AllocError>
     ensures { IfOk result (λ marks. marks.items ≡ replicate count false) }
 {
     let mut marks = Vec::new(alloc);
@@ -58,6 +60,7 @@ impl<'a> Walk<'a> {
             marks: blanks(alloc, count)?,
             entered: Vec::new(alloc),
             fields: Vec::new(alloc),
+            steps: 0,
         })
     }
 
@@ -67,6 +70,7 @@ impl<'a> Walk<'a> {
     {
         unmark(&mut self.marks, &mut self.entered);
         self.fields.clear();
+        self.steps = 0;
     }
 
     fn is_marked(&self, number: usize) -> bool
@@ -91,6 +95,23 @@ impl<'a> Walk<'a> {
     {
         self.fields.push(field)?;
         Ok(())
+    }
+
+    /// Takes fields that are kept.
+    fn take(&mut self, fields: &[Collected<'a>]) -> Result<(), AllocError>
+        ensures { OnOk result (walk_data self.new ≡ taken (map numbered fields.now) (walk_data self.old)) }
+    {
+        for field in fields {
+            self.keep(*field)?;
+        }
+        Ok(())
+    }
+
+    /// Counts steps.
+    fn count(&mut self, steps: usize)
+        ensures { walk_data self.new ≡ walk_data self.old }
+    {
+        self.steps = self.steps.wrapping_add(steps);
     }
 }
 
@@ -126,13 +147,13 @@ pub fn place_behind(at: usize, skip: usize, end: usize) -> usize
 #[cycle(walk)]
 fn walk_step<'a>(
     tables: &Tables<'a>,
-    none: &Marks,
+    known: &Findings<'a>,
     of: TypeId,
     depth: usize,
     step: &Step<'a>,
     walk: &mut Walk<'a>,
 ) -> Result<usize, AllocError>
-    ensures { IfOk result (TakesStep tables.now none.now of.number depth (step_data step.now) (walk_data walk.old) (walk_data walk.new)) }
+    ensures { IfOk result (TakesStep tables.now known.now of.number depth (step_data step.now) (walk_data walk.old) (walk_data walk.new)) }
 {
     match step {
         Step::Field(field) => {
@@ -140,7 +161,7 @@ fn walk_step<'a>(
             Ok(0)
         }
         Step::Spread(number) => {
-            walk_fragment(tables, none, of, depth, *number, walk)?;
+            walk_fragment(tables, known, of, depth, *number, walk)?;
             Ok(0)
         }
         Step::Inline { on, count } => {
@@ -156,40 +177,58 @@ fn walk_step<'a>(
 #[cycle(walk)]
 fn walk_steps<'a>(
     tables: &Tables<'a>,
-    none: &Marks,
+    known: &Findings<'a>,
     of: TypeId,
     depth: usize,
     steps: &[Step<'a>],
     walk: &mut Walk<'a>,
 ) -> Result<(), AllocError>
-    ensures { OnOk result (walk_data walk.new ≡ steps_from tables.now none.now of.number depth 0 (map step_data steps.now) (walk_data walk.old)) }
+    ensures { OnOk result (walk_data walk.new ≡ steps_from tables.now known.now of.number depth 0 (map step_data steps.now) (walk_data walk.old)) }
 {
     let mut at = 0;
     while at < steps.len() {
-        let skip = walk_step(tables, none, of, depth, &steps[at], walk)?;
+        let skip = walk_step(tables, known, of, depth, &steps[at], walk)?;
         at = place_behind(at, skip, steps.len());
     }
     Ok(())
 }
 
-/// The selection set of a number, where it isn't known to have no fields.
+/// The selection set of a number.
+#[cycle(walk)]
+fn walk_set<'a>(
+    tables: &Tables<'a>,
+    known: &Findings<'a>,
+    of: TypeId,
+    depth: usize,
+    set: usize,
+    walk: &mut Walk<'a>,
+) -> Result<(), AllocError>
+    ensures { OnOk result (walk_data walk.new ≡ steps_from tables.now known.now of.number depth 0 (list_steps tables.now known.now of.number depth set) (walk_data walk.old)) }
+{
+    match tables.lists.get(set) {
+        Some(list) => {
+            walk.count(list.steps.len());
+            walk_steps(tables, known, of, depth, list.steps.as_slice(), walk)
+        }
+        None => Ok(()),
+    }
+}
+
+/// What is kept of the selection set of a number, or itself.
 #[cycle(walk)]
 fn walk_list<'a>(
     tables: &Tables<'a>,
-    none: &Marks,
+    known: &Findings<'a>,
     of: TypeId,
     depth: usize,
     list: usize,
     walk: &mut Walk<'a>,
 ) -> Result<(), AllocError>
-    ensures { OnOk result (walk_data walk.new ≡ steps_from tables.now none.now of.number depth 0 (list_steps tables.now none.now of.number depth list) (walk_data walk.old)) }
+    ensures { OnOk result (walk_data walk.new ≡ known_in tables.now known.now of.number depth list (list ∷ []) (walk_data walk.old)) }
 {
-    if none.has(list, of) {
-        return Ok(());
-    }
-    match tables.lists.get(list) {
-        Some(list) => walk_steps(tables, none, of, depth, list.steps.as_slice(), walk),
-        None => Ok(()),
+    match known.of(list, of) {
+        Some(fields) => walk.take(fields),
+        None => walk_set(tables, known, of, depth, list, walk),
     }
 }
 
@@ -197,13 +236,13 @@ fn walk_list<'a>(
 #[cycle(walk)]
 fn walk_fragment<'a>(
     tables: &Tables<'a>,
-    none: &Marks,
+    known: &Findings<'a>,
     of: TypeId,
     depth: usize,
     number: usize,
     walk: &mut Walk<'a>,
 ) -> Result<(), AllocError>
-    ensures { OnOk result (walk_data walk.new ≡ enter_in tables.now none.now of.number depth number (walk_data walk.old)) }
+    ensures { OnOk result (walk_data walk.new ≡ enter_in tables.now known.now of.number depth number (walk_data walk.old)) }
 {
     if depth == 0 {
         return Ok(());
@@ -212,25 +251,25 @@ fn walk_fragment<'a>(
         return Ok(());
     }
     walk.mark(number)?;
-    walk_entry(tables, none, of, depth - 1, number, walk)
+    walk_entry(tables, known, of, depth - 1, number, walk)
 }
 
 /// The selections of the fragment of a number, where its type applies.
 #[cycle(walk)]
 fn walk_entry<'a>(
     tables: &Tables<'a>,
-    none: &Marks,
+    known: &Findings<'a>,
     of: TypeId,
     depth: usize,
     number: usize,
     walk: &mut Walk<'a>,
 ) -> Result<(), AllocError>
-    ensures { OnOk result (walk_data walk.new ≡ entry_in tables.now none.now of.number depth number (walk_data walk.old)) }
+    ensures { OnOk result (walk_data walk.new ≡ entry_in tables.now known.now of.number depth number (walk_data walk.old)) }
 {
     match entry_at(tables, number) {
         Some(entry) => {
             if applies_where(tables.planning.schema, entry.on, of) {
-                walk_list(tables, none, of, depth, entry.list, walk)
+                walk_list(tables, known, of, depth, entry.list, walk)
             } else {
                 Ok(())
             }
@@ -239,19 +278,76 @@ fn walk_entry<'a>(
     }
 }
 
-/// The selection sets of some numbers, where fragments are entered to a depth. Those that are marked have no fields.
-pub fn walk_lists<'a>(
+/// Some selection sets, one after the other.
+fn walk_sets<'a>(
     tables: &Tables<'a>,
-    none: &Marks,
+    known: &Findings<'a>,
     of: TypeId,
     depth: usize,
-    lists: &[usize],
+    sets: &[usize],
     walk: &mut Walk<'a>,
 ) -> Result<(), AllocError>
-    ensures { OnOk result (walk_data walk.new ≡ lists_in tables.now none.now of.number depth lists.now (walk_data walk.old)) }
+    ensures { OnOk result (walk_data walk.new ≡ sets_in tables.now known.now of.number depth sets.now (walk_data walk.old)) }
 {
-    for list in lists {
-        walk_list(tables, none, of, depth, *list, walk)?;
+    for set in sets {
+        walk_set(tables, known, of, depth, *set, walk)?;
+    }
+    Ok(())
+}
+
+/// The selection sets of a number, of which nothing is kept.
+fn walk_unknown<'a>(
+    tables: &Tables<'a>,
+    joins: &Joins,
+    known: &Findings<'a>,
+    of: TypeId,
+    depth: usize,
+    number: usize,
+    walk: &mut Walk<'a>,
+) -> Result<(), AllocError>
+    ensures { OnOk result (walk_data walk.new ≡ sets_in tables.now known.now of.number depth (sets_in_joins joins.now number) (walk_data walk.old)) }
+{
+    if number < joins.count {
+        return walk_set(tables, known, of, depth, number, walk);
+    }
+    match joins.lists.get(number - joins.count) {
+        Some(sets) => walk_sets(tables, known, of, depth, sets.as_slice(), walk),
+        None => Ok(()),
+    }
+}
+
+/// What is kept of a number, or its selection sets.
+fn walk_number<'a>(
+    tables: &Tables<'a>,
+    joins: &Joins,
+    known: &Findings<'a>,
+    of: TypeId,
+    depth: usize,
+    number: usize,
+    walk: &mut Walk<'a>,
+) -> Result<(), AllocError>
+    ensures { OnOk result (walk_data walk.new ≡ known_in tables.now known.now of.number depth number (sets_in_joins joins.now number) (walk_data walk.old)) }
+{
+    match known.of(number, of) {
+        Some(fields) => walk.take(fields),
+        None => walk_unknown(tables, joins, known, of, depth, number, walk),
+    }
+}
+
+/// The selection sets of some numbers, where fragments are entered to a depth.
+pub fn walk_numbers<'a>(
+    tables: &Tables<'a>,
+    joins: &Joins,
+    known: &Findings<'a>,
+    of: TypeId,
+    depth: usize,
+    numbers: &[usize],
+    walk: &mut Walk<'a>,
+) -> Result<(), AllocError>
+    ensures { OnOk result (walk_data walk.new ≡ numbers_in tables.now known.now of.number depth (sets_in_joins joins.now) numbers.now (walk_data walk.old)) }
+{
+    for number in numbers {
+        walk_number(tables, joins, known, of, depth, *number, walk)?;
     }
     Ok(())
 }

@@ -1,7 +1,7 @@
 -- One node: its outcome, its row, and what stands below it.
-use Rattle.std.proofs.Common.{◌≡◌, ℕ, zero, suc, ◌+◌, ◌-◌, ◌<◌, ◌≤◌, List, [], ◌∷◌, ◌++◌, map, Bool, true, false, append_assoc, Option, Some, None, Result, Ok, Err, OnOk, refl, sym, ap, ◌∙◌, subst, arith, if◌then◌else◌}
+use Rattle.std.proofs.Common.{◌≡◌, ℕ, zero, suc, ◌+◌, ◌-◌, ◌<◌, ◌≤◌, List, [], ◌∷◌, ◌++◌, map, flat_map, Bool, true, false, append_assoc, Option, Some, None, Result, Ok, Err, OnOk, refl, sym, ap, ◌∙◌, subst, arith, if◌then◌else◌}
 use Rattle.std.specs.List.{list_any}
-use Rattle.std.proofs.lemmas.List.Elements.{All-head, All-tail}
+use Rattle.std.specs.Prelude.{All}
 use Rattle.cost_num.specs.Capped.{capped}
 use Rattle.response_model.specs.Plan.{Form}
 use Rattle.input_values.specs.declared.inputs.shape.TypeId.{TypeId}
@@ -10,9 +10,9 @@ use Rattle.schema_model.specs.declared.entries.FieldId.{FieldId}
 use Rattle.schema_model.specs.SchemaData.{possible}
 use Rattle.document_rules.specs.Sites.{Meaning, is_composite, type_of_field}
 use Rattle.plan_model.specs.SelectedFields.{Setting, HandedSize, FieldCall, leaf_of, object_place, types_of, form_of, place_of, meaning_weight, meaning_at, form_at, place_at, size_at, weight_at, cost_at}
-use Rattle.plan_model.specs.Collecting.{CollectedField, WrittenSelections, nesting}
-use Rattle.plan_model.specs.Merging.{Position, first_call, selections_below, asks, position_below}
-use Rattle.plan_model.specs.MergingWalk.{IsAcyclic, AllRanked}
+use Rattle.plan_model.specs.Collecting.{CollectedField, WrittenSelections}
+use Rattle.plan_model.specs.Merging.{Position, first_call, asks}
+use Rattle.plan_model.specs.MergingWalk.{IsAcyclic}
 use Rattle.plan_model.specs.Plans.{type_weight}
 use Rattle.plan_model.specs.Visits.{NodeFault, too_deep, fault_of, Visit, visits, planned}
 use Rattle.plan_table.specs.declared.rows.NodeRow.{NodeRow}
@@ -22,7 +22,8 @@ use Rattle.collected_fields.specs.declared.planning.Planning.{Planning}
 use Rattle.collected_fields.specs.declared.collected.Collected.{Collected}
 use Rattle.collected_fields.specs.declared.collector.Collector.{Collector}
 use Rattle.collected_fields.specs.Views.{setting_of_planning, collected_field}
-use Rattle.collected_fields.specs.Gathering.{IsReady, planning_of, written_at}
+use Rattle.collected_fields.specs.Groups.{GroupData}
+use Rattle.collected_fields.specs.Gathering.{IsReady, planning_of, setting_at, written_at, meaning_at as selections_at, IsNumber}
 use Rattle.merged_selections.specs.declared.stop.Stop.{Stop}
 use Rattle.merged_selections.specs.declared.node.Looked.{Looked}
 use Rattle.merged_selections.specs.declared.building.Building.{Building}
@@ -30,10 +31,9 @@ use Rattle.merged_selections.specs.declared.calls.Calls.{Calls}
 use Rattle.merged_selections.specs.NodeParts.{handed_data, types_at, when_true}
 use Rattle.merged_selections.specs.NodeTests.{IsThere, IsFound, AreKept}
 use Rattle.merged_selections.specs.Outcomes.{Outcome, has_left, used_up, unless_fault, outcome, under_outcome, IsStop}
-use Rattle.merged_selections.specs.Stages.{levels_from, key_seen, types_rows, node_visits, node_row, node_rows, Frame, frame, setting_built, CanBuild, CanBuildNode, BuildsRows, BuildsTypes, number_below, row_looked, PushesRow}
+use Rattle.merged_selections.specs.Stages.{levels_from, key_seen, types_rows, node_visits, node_row, node_rows, frame, setting_built, position_built, node_seen, group_position, CanBuild, BuildsRows, BuildsTypes, row_looked, PushesRow}
 use Rattle.merged_selections.proofs.VisitedParts.{node_past_limit, deep_past_limit, deep_outcome, node_outcome, same_stop}
 use Rattle.merged_selections.proofs.BuiltParts.{rows_of_place, below_of_place}
-use Rattle.merged_selections.proofs.BuiltSteps.{setting_of, position_of, IsNumbered}
 
 positive : (n : ℕ) → (n ≡ 0 → ⊥) → suc (n - 1) ≡ n
 positive zero h = absurd (h refl)
@@ -50,41 +50,44 @@ no_levels depth h = omega arith
 
 -- ---- outcomes
 
-module _ (e : Setting) (T : ℕ) (handed : HandedSize) (fields : List CollectedField) where
-  abbrev pub below_visits : ℕ → List Visit
-  below_visits levels = visits e levels (types_of (place_at e T (first_call fields))) (position_below e T fields)
+module _ (e : Setting) (T : ℕ) (handed : HandedSize) (g : GroupData) where
+  abbrev fields : List CollectedField
+  fields = g.fields
 
-  none_left_at : (levels : ℕ) → outcome 0 (node_visits e T handed levels fields) ≡ used_up
+  abbrev pub below_visits : ℕ → List Visit
+  below_visits levels = visits e levels (types_of (place_at e T (first_call fields))) (group_position e T handed g)
+
+  none_left_at : (levels : ℕ) → outcome 0 (node_visits e T handed levels g) ≡ used_up
   none_left_at zero = deep_past_limit (key_seen fields)
   none_left_at (suc levels) = node_past_limit (key_seen fields) (fault_of e T handed fields) (below_visits levels)
 
-  pub past_limit : (levels n : ℕ) → n ≡ 0 → outcome n (node_visits e T handed levels fields) ≡ used_up
-  past_limit levels n is = ap (λ m. outcome m (node_visits e T handed levels fields)) is ∙ none_left_at levels
+  pub past_limit : (levels n : ℕ) → n ≡ 0 → outcome n (node_visits e T handed levels g) ≡ used_up
+  past_limit levels n is = ap (λ m. outcome m (node_visits e T handed levels g)) is ∙ none_left_at levels
 
   module _ (n : ℕ) (some : n ≡ 0 → ⊥) (key : List ℕ) (is_key : key ≡ key_seen fields) where
-    pub too_deep_stops : (levels : ℕ) → levels ≡ 0 → (stop : Stop) → ((fault : Option NodeFault) (o : Outcome) → IsThere (Some too_deep) fault → IsStop stop (unless_fault (key ∷ []) fault o)) → IsStop stop (outcome n (node_visits e T handed levels fields))
-    too_deep_stops levels none stop h = same_stop stop (unless_fault (key ∷ []) (Some too_deep) used_up) (outcome n (node_visits e T handed levels fields))
-        (ap (λ k. unless_fault (k ∷ []) (Some too_deep) used_up) is_key ∙ (sym (deep_outcome (n - 1) (key_seen fields)) ∙ (ap (λ m. outcome m (node_visits e T handed zero fields)) (positive n some) ∙ ap (λ l. outcome n (node_visits e T handed l fields)) (sym none))))
+    pub too_deep_stops : (levels : ℕ) → levels ≡ 0 → (stop : Stop) → ((fault : Option NodeFault) (o : Outcome) → IsThere (Some too_deep) fault → IsStop stop (unless_fault (key ∷ []) fault o)) → IsStop stop (outcome n (node_visits e T handed levels g))
+    too_deep_stops levels none stop h = same_stop stop (unless_fault (key ∷ []) (Some too_deep) used_up) (outcome n (node_visits e T handed levels g))
+        (ap (λ k. unless_fault (k ∷ []) (Some too_deep) used_up) is_key ∙ (sym (deep_outcome (n - 1) (key_seen fields)) ∙ (ap (λ m. outcome m (node_visits e T handed zero g)) (positive n some) ∙ ap (λ l. outcome n (node_visits e T handed l g)) (sym none))))
         (h (Some too_deep) used_up refl)
 
-    parts : (levels l : ℕ) → levels ≡ suc l → unless_fault (key ∷ []) (fault_of e T handed fields) (under_outcome key (outcome (n - 1) (below_visits l))) ≡ outcome n (node_visits e T handed levels fields)
+    parts : (levels l : ℕ) → levels ≡ suc l → unless_fault (key ∷ []) (fault_of e T handed fields) (under_outcome key (outcome (n - 1) (below_visits l))) ≡ outcome n (node_visits e T handed levels g)
     parts levels l is =
         ap (λ k. unless_fault (k ∷ []) (fault_of e T handed fields) (under_outcome k (outcome (n - 1) (below_visits l)))) is_key
         ∙ (sym (node_outcome (n - 1) (key_seen fields) (fault_of e T handed fields) (below_visits l))
-        ∙ (ap (λ m. outcome m (node_visits e T handed (suc l) fields)) (positive n some) ∙ ap (λ x. outcome n (node_visits e T handed x fields)) (sym is)))
+        ∙ (ap (λ m. outcome m (node_visits e T handed (suc l) g)) (positive n some) ∙ ap (λ x. outcome n (node_visits e T handed x g)) (sym is)))
 
     pub fault_stops : (levels l : ℕ) → levels ≡ suc l → (stop : Stop) (told : Option NodeFault) → IsThere told (fault_of e T handed fields)
-        → ((fault : Option NodeFault) (o : Outcome) → IsThere told fault → IsStop stop (unless_fault (key ∷ []) fault o)) → IsStop stop (outcome n (node_visits e T handed levels fields))
-    fault_stops levels l is stop told there h = same_stop stop (unless_fault (key ∷ []) (fault_of e T handed fields) (under_outcome key (outcome (n - 1) (below_visits l)))) (outcome n (node_visits e T handed levels fields)) (parts levels l is)
+        → ((fault : Option NodeFault) (o : Outcome) → IsThere told fault → IsStop stop (unless_fault (key ∷ []) fault o)) → IsStop stop (outcome n (node_visits e T handed levels g))
+    fault_stops levels l is stop told there h = same_stop stop (unless_fault (key ∷ []) (fault_of e T handed fields) (under_outcome key (outcome (n - 1) (below_visits l)))) (outcome n (node_visits e T handed levels g)) (parts levels l is)
         (h (fault_of e T handed fields) (under_outcome key (outcome (n - 1) (below_visits l))) there)
 
-    faultless_parts : (levels l : ℕ) → levels ≡ suc l → fault_of e T handed fields ≡ None → under_outcome key (outcome (n - 1) (below_visits l)) ≡ outcome n (node_visits e T handed levels fields)
+    faultless_parts : (levels l : ℕ) → levels ≡ suc l → fault_of e T handed fields ≡ None → under_outcome key (outcome (n - 1) (below_visits l)) ≡ outcome n (node_visits e T handed levels g)
     faultless_parts levels l is none = ap (λ o. unless_fault (key ∷ []) o (under_outcome key (outcome (n - 1) (below_visits l)))) (sym none) ∙ parts levels l is
 
-    pub below_stops : (levels l : ℕ) → levels ≡ suc l → fault_of e T handed fields ≡ None → (stop above : Stop) → IsStop stop (outcome (n - 1) (below_visits l)) → ((o : Outcome) → IsStop stop o → IsStop above (under_outcome key o)) → IsStop above (outcome n (node_visits e T handed levels fields))
-    below_stops levels l is none stop above h under = same_stop above (under_outcome key (outcome (n - 1) (below_visits l))) (outcome n (node_visits e T handed levels fields)) (faultless_parts levels l is none) (under (outcome (n - 1) (below_visits l)) h)
+    pub below_stops : (levels l : ℕ) → levels ≡ suc l → fault_of e T handed fields ≡ None → (stop above : Stop) → IsStop stop (outcome (n - 1) (below_visits l)) → ((o : Outcome) → IsStop stop o → IsStop above (under_outcome key o)) → IsStop above (outcome n (node_visits e T handed levels g))
+    below_stops levels l is none stop above h under = same_stop above (under_outcome key (outcome (n - 1) (below_visits l))) (outcome n (node_visits e T handed levels g)) (faultless_parts levels l is none) (under (outcome (n - 1) (below_visits l)) h)
 
-    pub below_fine : (levels l m : ℕ) → levels ≡ suc l → fault_of e T handed fields ≡ None → outcome (n - 1) (below_visits l) ≡ has_left m → outcome n (node_visits e T handed levels fields) ≡ has_left m
+    pub below_fine : (levels l m : ℕ) → levels ≡ suc l → fault_of e T handed fields ≡ None → outcome (n - 1) (below_visits l) ≡ has_left m → outcome n (node_visits e T handed levels g) ≡ has_left m
     below_fine levels l m is none h = sym (faultless_parts levels l is none) ∙ ap (λ o. under_outcome key o) h
 
 -- ---- what stands below
@@ -101,16 +104,13 @@ own_place : (e : Setting) (T : ℕ) (c : FieldCall) → place_at e T c ≡ place
 unfolding place_at
 own_place e T c = refl
 
-numbered_below : (f : Frame) (cs : List Collected) → IsNumbered f cs → map f.1 (map number_below cs) ≡ map (selections_below (setting_of f)) (map collected_field cs)
-numbered_below f [] h = refl
-numbered_below f (c ∷ cs) h =
-    ap (λ w. w ∷ map f.1 (map number_below cs)) (All-head (λ c. f.1 c.below ≡ selections_below (setting_of f) (collected_field c)) c cs h)
-    ∙ ap (λ ws. selections_below (setting_of f) (collected_field c) ∷ ws) (numbered_below f cs (All-tail (λ c. f.1 c.below ≡ selections_below (setting_of f) (collected_field c)) c cs h))
-
 -- the row of a node of which this was found
-module _ (e : Setting) (depth T : ℕ) (first : Bool) (handed : HandedSize) (fields : List CollectedField) where
+module _ (e : Setting) (depth T : ℕ) (first : Bool) (handed : HandedSize) (g : GroupData) where
+  abbrev own_fields : List CollectedField
+  own_fields = g.fields
+
   abbrev own : Meaning
-  own = meaning_at e T (first_call fields)
+  own = meaning_at e T (first_call own_fields)
 
   abbrev row_by : Form → ℕ → Option ℕ → ℕ → Below → Row
   row_by form weight size arguments below = record {
@@ -118,64 +118,61 @@ module _ (e : Setting) (depth T : ℕ) (first : Bool) (handed : HandedSize) (fie
     type = T;
     weight = type_weight e T;
     first = first;
-    selected = record { key = key_seen fields; field = (first_call fields).name; asked = list_any (asks e) fields; form = form; size = size; weight = weight; arguments = arguments };
+    selected = record { key = key_seen own_fields; field = (first_call own_fields).name; asked = list_any (asks e) own_fields; form = form; size = size; weight = weight; arguments = arguments };
     below = below;
   }
 
   abbrev row_by_call : Option ℕ → ℕ → Row
   row_by_call size arguments = row_by (form_of e.schema own) (meaning_weight e own) size arguments (below_at e (place_of e T own))
 
-  row_there : (looked : Looked) (l : ℕ) → IsFound e T handed (first_call fields) looked → row_looked (setting_without_values e.schema e.weights) depth T first fields looked ≡ node_row e T handed (suc l) depth first fields
+  row_there : (looked : Looked) (l : ℕ) → IsFound e T handed (first_call own_fields) looked → row_looked (setting_without_values e.schema e.weights) depth T first own_fields looked ≡ node_row e T handed (suc l) depth first g
   unfolding form_at weight_at
   row_there looked l found =
       ap (λ m. row_by (form_of e.schema m) (meaning_weight e m) looked.size looked.arguments (below_at e (place_of e T m))) found.meaning
       ∙ (ap (λ s. row_by_call s looked.arguments) found.size
-      ∙ (ap (λ a. row_by_call (size_at e T (first_call fields) handed) a) found.arguments
-      ∙ ap (λ b. row_by (form_at e T (first_call fields)) (weight_at e T (first_call fields)) (size_at e T (first_call fields) handed) (capped (cost_at e T (first_call fields))) b)
-      (ap (λ p. below_at e p) (sym (own_place e T (first_call fields))) ∙ sym (below_of_place e l (place_at e T (first_call fields)) (position_below e T fields)))))
+      ∙ (ap (λ a. row_by_call (size_at e T (first_call own_fields) handed) a) found.arguments
+      ∙ ap (λ b. row_by (form_at e T (first_call own_fields)) (weight_at e T (first_call own_fields)) (size_at e T (first_call own_fields) handed) (capped (cost_at e T (first_call own_fields))) b)
+      (ap (λ p. below_at e p) (sym (own_place e T (first_call own_fields))) ∙ sym (below_of_place e l (place_at e T (first_call own_fields)) (group_position e T handed g)))))
 
 module _ (old mid new : Building) (depth T : ℕ) (first : Bool) (field : Collected) (others : List Collected) (handed : HandedSize) (looked : Looked) (types : List TypeId) (lists : List ℕ) where
   abbrev e : Setting
   e = setting_built old
 
-  abbrev fields : List CollectedField
-  fields = map collected_field (field ∷ others)
+  abbrev g : GroupData
+  g = node_seen old (field ∷ others) lists
 
   abbrev call : FieldCall
   call = (collected_field field).call
 
-  module _ (same : frame mid ≡ frame old) (found : IsFound e T handed call looked) (is_types : map type_number types ≡ types_at e.schema looked.field) (is_lists : lists ≡ map number_below (field ∷ others)) (can : CanBuildNode old T (field ∷ others)) where
-    selections_there : map (written_at old.collector) lists ≡ map (selections_below e) fields
-    selections_there = ap (λ ls. map (written_at old.collector) ls) is_lists ∙ numbered_below (frame old) (field ∷ others) can.numbered
-
-    position_there : position_of (frame old) lists (handed_data looked.hands) ≡ position_below e T fields
-    position_there = ap (λ (ss : List WrittenSelections). record { selections = ss; handed = handed_data looked.hands }) selections_there ∙ ap (λ (h : HandedSize). record { selections = map (selections_below e) fields; handed = h }) found.hands
-
-    acyclic_there : IsAcyclic e (position_of (frame old) lists None)
-    acyclic_there = record { rank = can.acyclic.rank; fragments = can.acyclic.fragments; spreads = subst (λ (ss : List WrittenSelections). AllRanked can.acyclic.rank (nesting e) ss) (sym selections_there) can.acyclic.spreads }
+  module _ (collector : mid.collector ≡ old.collector) (found : IsFound e T handed call looked) (is_types : map type_number types ≡ types_at e.schema looked.field) where
+    position_there : position_built old lists (handed_data looked.hands) ≡ group_position e T handed g
+    position_there = ap (λ (h : HandedSize). record { selections = flat_map (selections_at old.collector) lists; handed = h }) found.hands
 
     place_types : map type_number types ≡ types_of (place_at e T call)
     place_types = is_types ∙ (sym (types_there e T looked.field) ∙ (ap (λ m. types_of (place_of e T m)) found.meaning ∙ ap types_of (sym (own_place e T call))))
 
-    pub below_built : (result : Result (Unit {0}) Stop) → CanBuild mid → BuildsTypes mid (depth + 1) result new types lists (handed_data looked.hands)
-        → BuildsRows result mid new (visits e (levels_from (depth + 1)) (types_of (place_at e T call)) (position_below e T fields)) (types_rows e (levels_from (depth + 1)) (depth + 1) (position_below e T fields) (types_of (place_at e T call)))
-    below_built result can_mid h =
-        subst (λ (p : Position). BuildsRows result mid new (visits e (levels_from (depth + 1)) (types_of (place_at e T call)) p) (types_rows e (levels_from (depth + 1)) (depth + 1) p (types_of (place_at e T call)))) position_there
-        (subst (λ (Ts : List ℕ). BuildsRows result mid new (visits e (levels_from (depth + 1)) Ts (position_of (frame old) lists (handed_data looked.hands))) (types_rows e (levels_from (depth + 1)) (depth + 1) (position_of (frame old) lists (handed_data looked.hands)) Ts)) place_types
-        (subst (λ (f : Frame). BuildsRows result mid new (visits (setting_of f) (levels_from (depth + 1)) (map type_number types) (position_of f lists (handed_data looked.hands))) (types_rows (setting_of f) (levels_from (depth + 1)) (depth + 1) (position_of f lists (handed_data looked.hands)) (map type_number types))) same
-        (h (can_mid, subst (λ (f : Frame). IsAcyclic (setting_of f) (position_of f lists None)) (sym same) acyclic_there))))
+    abbrev BuiltBelow : Result (Unit {0}) Stop → Collector → Position → List ℕ → Type 0
+    BuiltBelow result c p Ts = BuildsRows result mid new (visits (setting_at c) (levels_from (depth + 1)) Ts p) (types_rows (setting_at c) (levels_from (depth + 1)) (depth + 1) p Ts)
+
+    pub below_built : (result : Result (Unit {0}) Stop) → CanBuild mid → All (IsNumber old.collector) lists × IsAcyclic e (position_built old lists None) → BuildsTypes mid (depth + 1) result new types lists (handed_data looked.hands)
+        → BuildsRows result mid new (visits e (levels_from (depth + 1)) (types_of (place_at e T call)) (group_position e T handed g)) (types_rows e (levels_from (depth + 1)) (depth + 1) (group_position e T handed g) (types_of (place_at e T call)))
+    below_built result can_mid known h =
+        subst (λ (p : Position). BuiltBelow result old.collector p (types_of (place_at e T call))) position_there
+        (subst (λ (Ts : List ℕ). BuiltBelow result old.collector (position_built old lists (handed_data looked.hands)) Ts) place_types
+        (subst (λ (c : Collector). BuiltBelow result c (record { selections = flat_map (selections_at c) lists; handed = handed_data looked.hands }) (map type_number types)) collector
+        (h (can_mid, subst (λ (c : Collector). All (IsNumber c) lists × IsAcyclic (setting_at c) (record { selections = flat_map (selections_at c) lists; handed = None })) (sym collector) known))))
 
     -- its rows
-    pub rows_there : depth ≤ 50 → setting_in old.plan ≡ setting_without_values e.schema e.weights → table_rows mid.plan ≡ table_rows old.plan ++ (row_looked (setting_in old.plan) depth T first fields looked ∷ [])
-        → table_rows new.plan ≡ table_rows mid.plan ++ types_rows e (levels_from (depth + 1)) (depth + 1) (position_below e T fields) (types_of (place_at e T call)) → table_rows new.plan ≡ table_rows old.plan ++ node_rows e T handed (levels_from depth) depth first fields
+    pub rows_there : depth ≤ 50 → setting_in old.plan ≡ setting_without_values e.schema e.weights → table_rows mid.plan ≡ table_rows old.plan ++ (row_looked (setting_in old.plan) depth T first g.fields looked ∷ [])
+        → table_rows new.plan ≡ table_rows mid.plan ++ types_rows e (levels_from (depth + 1)) (depth + 1) (group_position e T handed g) (types_of (place_at e T call)) → table_rows new.plan ≡ table_rows old.plan ++ node_rows e T handed (levels_from depth) depth first g
     rows_there within tied pushed grown =
         let l : ℕ = levels_from (depth + 1) in
-        let below : List Row = types_rows e l (depth + 1) (position_below e T fields) (types_of (place_at e T call)) in
-        grown ∙ (ap (λ rows. rows ++ below) pushed ∙ (append_assoc (table_rows old.plan) (row_looked (setting_in old.plan) depth T first fields looked ∷ []) below
+        let below : List Row = types_rows e l (depth + 1) (group_position e T handed g) (types_of (place_at e T call)) in
+        grown ∙ (ap (λ rows. rows ++ below) pushed ∙ (append_assoc (table_rows old.plan) (row_looked (setting_in old.plan) depth T first g.fields looked ∷ []) below
         ∙ ap (λ rows. table_rows old.plan ++ rows)
-        (ap (λ r. r ∷ below) (ap (λ s. row_looked s depth T first fields looked) tied ∙ row_there e depth T first handed fields looked l found)
-        ∙ (ap (λ rows. node_row e T handed (suc l) depth first fields ∷ rows) (sym (rows_of_place e l (depth + 1) (place_at e T call) (position_below e T fields)) ∙ ap (λ d. rows_below d (planned e l (place_at e T call) (position_below e T fields))) (next depth))
-        ∙ ap (λ levels. node_rows e T handed levels depth first fields) (sym (levels_more depth within))))))
+        (ap (λ r. r ∷ below) (ap (λ s. row_looked s depth T first g.fields looked) tied ∙ row_there e depth T first handed g looked l found)
+        ∙ (ap (λ rows. node_row e T handed (suc l) depth first g ∷ rows) (sym (rows_of_place e l (depth + 1) (place_at e T call) (group_position e T handed g)) ∙ ap (λ d. rows_below d (planned e l (place_at e T call) (group_position e T handed g))) (next depth))
+        ∙ ap (λ levels. node_rows e T handed levels depth first g) (sym (levels_more depth within))))))
       where
         next : (n : ℕ) → n + 1 ≡ suc n
         next n = omega arith

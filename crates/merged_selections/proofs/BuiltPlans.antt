@@ -1,5 +1,7 @@
 -- The plan of an operation, from what is built at its root.
-use Rattle.std.proofs.Common.{◌≡◌, ℕ, suc, List, [], ◌∷◌, ◌++◌, map, Some, None, Result, Ok, Err, Bor, refl, sym, ap, ◌∙◌, subst}
+use Rattle.std.proofs.Common.{◌≡◌, ℕ, suc, ◌<◌, append-nil, arith, List, [], ◌∷◌, ◌++◌, map, Some, None, Result, Ok, Err, Bor, refl, sym, ap, ◌∙◌, subst}
+use Rattle.std.specs.Prelude.{All}
+use Rattle.std.proofs.lemmas.List.Elements.{All-cons}
 use Rattle.document_reader.specs.declared.trees.Fragment.{Fragment}
 use Rattle.document_reader.specs.declared.trees.Selection.{Selection}
 use Rattle.document_reader.specs.Documents.{SelectionTrees}
@@ -28,7 +30,7 @@ use Rattle.plan_model.proofs.CheckedRanks.{checked_is_acyclic}
 use Rattle.plan_table.specs.declared.table.Plan.{Plan}
 use Rattle.plan_table.specs.Tables.{setting_without_values, setting_in, table_rows, HasRows}
 use Rattle.collected_fields.specs.Views.{fragment_seen}
-use Rattle.collected_fields.specs.Gathering.{IsReady, written_at}
+use Rattle.collected_fields.specs.Gathering.{IsReady, meaning_at, IsNumber, HasOne}
 use Rattle.merged_selections.specs.declared.stop.Stop.{Stop}
 use Rattle.merged_selections.specs.declared.fault.PlanFault.{PlanFault}
 use Rattle.merged_selections.specs.declared.building.Building.{Building}
@@ -48,10 +50,16 @@ unfolding planned
 has_rows e l root p plan is weighs rows = ((sym is, weighs), rows)
 
 module _ (e : Setting) (root : ℕ) (selections : SelectionTrees) (building new : Building) (list : ℕ) (setting_there : setting_built building ≡ e) (acyclic : IsAcyclic e (position_on root selections))
-    (ready : IsReady building.collector) (written : written_at building.collector list ≡ (Some root, selections)) (tied : setting_in building.plan ≡ setting_without_values e.schema e.weights)
+    (ready : IsReady building.collector) (has : HasOne building.collector list (Some root, selections)) (tied : setting_in building.plan ≡ setting_without_values e.schema e.weights)
     (plan_root : building.plan.root.number ≡ root) (no_rows : table_rows building.plan ≡ []) (left : building.left ≡ node_limit) (no_call : AreKept (setting_built building) building.calls) (same : frame new ≡ frame building) where
   position_there : position_built building (list ∷ []) None ≡ position_on root selections
-  position_there = ap (λ (w : WrittenSelections). record { selections = w ∷ []; handed = None }) written
+  position_there = ap (λ (ws : List WrittenSelections). record { selections = ws; handed = None }) (append-nil (meaning_at building.collector list) ∙ has.1)
+
+  number_there : All (IsNumber building.collector) (list ∷ [])
+  number_there = All-cons (IsNumber building.collector) list [] has.0 (λ k d lt. absurd (none k lt))
+    where
+      none : (k : ℕ) → k < 0 → ⊥
+      none k lt = omega arith
 
   can_begin : CanBuild building
   can_begin = record { collector = ready; plan = tied ∙ ap (λ (x : Setting). setting_without_values x.schema x.weights) (sym setting_there); calls = no_call }
@@ -67,7 +75,7 @@ module _ (e : Setting) (root : ℕ) (selections : SelectionTrees) (building new 
       subst (λ (x : Setting). BuildsRows result building new (visits x level_limit (root ∷ []) (position_on root selections)) (types_rows x level_limit 1 (position_on root selections) (root ∷ []))) setting_there
       (subst (λ (p : Position). BuildsRows result building new (visits (setting_built building) level_limit (root ∷ []) p) (types_rows (setting_built building) level_limit 1 p (root ∷ []))) position_there
       (subst (λ (Ts : List ℕ). BuildsRows result building new (visits (setting_built building) level_limit Ts (position_built building (list ∷ []) None)) (types_rows (setting_built building) level_limit 1 (position_built building (list ∷ []) None) Ts)) is_root
-      (subst (λ (ls : List ℕ). BuildsTypes building 1 result new types ls None) is_list h (can_begin, acyclic_there))))
+      (subst (λ (ls : List ℕ). BuildsTypes building 1 result new types ls None) is_list h (can_begin, (number_there, acyclic_there)))))
 
   abbrev nodes_there : ℕ → Outcome
   nodes_there n = outcome n (visits e level_limit (root ∷ []) (position_on root selections))

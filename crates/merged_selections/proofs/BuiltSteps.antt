@@ -1,27 +1,30 @@
 -- Building goes on, stops and ends.
-use Rattle.std.proofs.Common.{◌≡◌, ℕ, ◌+◌, ◌<◌, ◌≤◌, List, [], ◌∷◌, ◌++◌, map, drop, length, get_or, All, Bool, true, false, append_assoc, append-nil, None, Result, Ok, Err, sym, ap, ◌∙◌, subst, arith}
+use Rattle.std.proofs.Common.{◌≡◌, inl, inr, ℕ, ◌+◌, ◌<◌, ◌≤◌, List, [], ◌∷◌, ◌++◌, map, flat_map, drop, length, get_or, All, Bool, true, false, append_assoc, append-nil, None, Result, Ok, Err, refl, sym, ap, ◌∙◌, subst, arith}
 use Rattle.std.proofs.lemmas.List.{drop_all}
 use Rattle.std.proofs.lemmas.List.Elements.{All-head, All-tail, All-cons, All-get_or}
-use Rattle.std.proofs.lemmas.List.{length-map}
 use Rattle.gql_base.proofs.Lists.{at_front}
 use Rattle.input_values.specs.declared.inputs.shape.TypeId.{TypeId}
 use Rattle.schema_model.specs.Numbers.{type_number}
 use Rattle.plan_model.specs.SelectedFields.{Setting, HandedSize}
-use Rattle.plan_model.specs.Collecting.{CollectedField}
-use Rattle.plan_model.specs.Merging.{Position, keys_of, fields_of_key, selections_below, position_below}
-use Rattle.plan_model.specs.MergingWalk.{IsAcyclic}
+use Rattle.plan_model.specs.Collecting.{CollectedField, WrittenSelections, nesting}
+use Rattle.plan_model.specs.Merging.{Position, fields_at, keys_of, fields_of_key, selections_below, position_below}
+use Rattle.plan_model.specs.MergingWalk.{IsAcyclic, AreRanked, AllRanked}
+use Rattle.plan_model.specs.Repeats.{IsThinned, LeavesOutRepeats}
 use Rattle.plan_model.specs.Visits.{Visit, visits}
 use Rattle.plan_model.proofs.RankedBelow.{acyclic_below}
 use Rattle.plan_table.specs.Rows.{Row}
 use Rattle.plan_table.specs.Tables.{table_rows}
-use Rattle.collected_fields.specs.declared.collected.Collected.{Collected}
+use Rattle.collected_fields.specs.declared.collector.Collector.{Collector}
 use Rattle.collected_fields.specs.declared.collected.Group.{Group}
-use Rattle.collected_fields.specs.Views.{setting_of_planning, collected_field, group_view, groups_view}
-use Rattle.collected_fields.specs.Gathering.{Gathers, HasField, AreNumbered}
+use Rattle.collected_fields.specs.Views.{setting_of_planning, collected_field}
+use Rattle.collected_fields.specs.Groups.{GroupData, AreGroupsOf}
+use Rattle.collected_fields.specs.Lists.{HasMore}
+use Rattle.collected_fields.specs.Gathering.{Gathers, IsNumber, meaning_at, written_at, group_seen, groups_seen, IsGroupAt, GivesGroups}
+use Rattle.collected_fields.proofs.GrowingLaws.{same_meanings, still_known}
 use Rattle.merged_selections.specs.declared.stop.Stop.{Stop}
 use Rattle.merged_selections.specs.declared.building.Building.{Building}
 use Rattle.merged_selections.specs.Outcomes.{has_left, outcome, IsStop}
-use Rattle.merged_selections.specs.Stages.{levels_from, type_visits, type_rows, types_rows, node_visits, node_rows, groups_visits, groups_rows, Frame, frame, setting_built, position_built, CanBuild, CanBuildAt, CanBuildNode, CanBuildGroup, BuildsRows, BuildsTypes, BuildsType, BuildsGroups, BuildsGroup}
+use Rattle.merged_selections.specs.Stages.{levels_from, type_visits, type_rows, types_rows, node_visits, node_rows, groups_visits, groups_rows, Frame, frame, setting_built, position_built, CanBuild, CanBuildAt, CanBuildGroup, BuildsRows, BuildsTypes, BuildsType, BuildsGroups, BuildsGroup}
 use Rattle.merged_selections.proofs.VisitedParts.{goes_on, stays_stopped, same_stop, none_visited}
 use Rattle.merged_selections.proofs.BuiltParts.{visits_next, no_visits, rows_next, no_rows, gathered_visits, gathered_rows}
 
@@ -45,39 +48,56 @@ rows_end old now all here before none = sym (append-nil now) ∙ (ap (λ rows. n
 abbrev pub setting_of : Frame → Setting
 setting_of f = setting_of_planning f.0
 
-abbrev pub position_of : Frame → List ℕ → HandedSize → Position
-position_of f lists handed = record { selections = map f.1 lists; handed = handed }
+module _ (old now : Building) (same : frame now ≡ frame old) (more : HasMore old.collector.joins now.collector.joins) where
+  same_setting : setting_built now ≡ setting_built old
+  same_setting = ap setting_of same
 
-abbrev pub IsNumbered : Frame → List Collected → Type 0
-IsNumbered f fields = All (λ c. f.1 c.below ≡ selections_below (setting_of f) (collected_field c)) fields
+  same_written : written_at now.collector ≡ written_at old.collector
+  same_written = ap (λ (f : Frame). f.1) same
 
-abbrev pub AcyclicBelow : Frame → ℕ → List Collected → Type 0
-AcyclicBelow f T fields = IsAcyclic (setting_of f) (position_below (setting_of f) T (map collected_field fields))
+  same_below : (numbers : List ℕ) → All (IsNumber old.collector) numbers → flat_map (meaning_at now.collector) numbers ≡ flat_map (meaning_at old.collector) numbers
+  same_below numbers known = same_meanings old.collector now.collector same_written more numbers known
 
-module _ (old now : Building) (same : frame now ≡ frame old) where
+  same_position : (numbers : List ℕ) (handed : HandedSize) → All (IsNumber old.collector) numbers → position_built now numbers handed ≡ position_built old numbers handed
+  same_position numbers handed known = ap (λ (ws : List WrittenSelections). record { selections = ws; handed = handed }) (same_below numbers known)
+
+  same_group : (g : Group) → All (IsNumber old.collector) g.below.items → group_seen now.collector g ≡ group_seen old.collector g
+  same_group g known = ap (λ (ws : List WrittenSelections). record { fields = map collected_field g.fields.items; below = ws }) (same_below g.below.items known)
+
+  known_acyclic : (numbers : List ℕ) → All (IsNumber old.collector) numbers × IsAcyclic (setting_built old) (position_built old numbers None) → All (IsNumber now.collector) numbers × IsAcyclic (setting_built now) (position_built now numbers None)
+  known_acyclic numbers can = (
+    still_known old.collector now.collector same_written more numbers can.0,
+    subst (λ (x : Setting). IsAcyclic x (position_built now numbers None)) (sym same_setting) (subst (λ (p : Position). IsAcyclic (setting_built old) p) (sym (same_position numbers None can.0)) can.1),
+  )
+
   pub can_at : (lists : List ℕ) → (CanBuild old → CanBuild now) → CanBuildAt old lists → CanBuildAt now lists
-  can_at lists ready can = (ready can.0, subst (λ (f : Frame). IsAcyclic (setting_of f) (position_of f lists None)) (sym same) can.1)
+  can_at lists ready can = (ready can.0, known_acyclic lists can.1)
 
-  pub can_node : (T : ℕ) (fields : List Collected) → CanBuildNode old T fields → CanBuildNode now T fields
-  can_node T fields can = record {
-    numbered = subst (λ (f : Frame). IsNumbered f fields) (sym same) can.numbered;
-    acyclic = subst (λ (f : Frame). AcyclicBelow f T fields) (sym same) can.acyclic;
-  }
+  pub can_group : (g : Group) → CanBuildGroup old g → CanBuildGroup now g
+  can_group g can = record { filled = can.filled; below = known_acyclic g.below.items can.below }
 
-  pub can_group : (T : ℕ) (g : Group) → CanBuildGroup old T g → CanBuildGroup now T g
-  can_group T g can = record { filled = can.filled; fields = can_node T g.fields.items can.fields }
+  pub same_groups : (groups : List Group) → All (CanBuildGroup old) groups → groups_seen now.collector groups ≡ groups_seen old.collector groups
+  same_groups [] all = refl
+  same_groups (g ∷ groups) all =
+      ap (λ x. x ∷ groups_seen now.collector groups) (same_group g (All-head (CanBuildGroup old) g groups all).below.0) ∙ ap (λ xs. group_seen old.collector g ∷ xs) (same_groups groups (All-tail (CanBuildGroup old) g groups all))
 
   -- a type
   module _ (depth : ℕ) (result : Result (Unit {0}) Stop) (new : Building) where
+    abbrev TypeRows : ℕ → Setting → Position → Type 0
+    TypeRows T x p = BuildsRows result now new (type_visits x (levels_from depth) p T) (type_rows x (levels_from depth) depth p T)
+
     one_type : (T : ℕ) (lists : List ℕ) (handed : HandedSize) → (CanBuild old → CanBuild now) → BuildsType now depth result new T lists handed → CanBuildAt old lists
         → BuildsRows result now new (type_visits (setting_built old) (levels_from depth) (position_built old lists handed) T) (type_rows (setting_built old) (levels_from depth) depth (position_built old lists handed) T)
     one_type T lists handed ready h can =
-        subst (λ (f : Frame). BuildsRows result now new (type_visits (setting_of f) (levels_from depth) (position_of f lists handed) T) (type_rows (setting_of f) (levels_from depth) depth (position_of f lists handed) T)) same (h (can_at lists ready can))
+        subst (λ (x : Setting). TypeRows T x (position_built old lists handed)) same_setting (subst (λ (p : Position). TypeRows T (setting_built now) p) (same_position lists handed can.1.0) (h (can_at lists ready can)))
 
-    one_group : (T : ℕ) (first : Bool) (g : Group) (handed : HandedSize) → (CanBuild old → CanBuild now) → BuildsGroup now depth result new T first g handed → CanBuild old → CanBuildGroup old T g
-        → BuildsRows result now new (node_visits (setting_built old) T handed (levels_from depth) (group_view g)) (node_rows (setting_built old) T handed (levels_from depth) depth first (group_view g))
+    abbrev GroupRows : ℕ → Bool → HandedSize → Setting → GroupData → Type 0
+    GroupRows T first handed x g = BuildsRows result now new (node_visits x T handed (levels_from depth) g) (node_rows x T handed (levels_from depth) depth first g)
+
+    one_group : (T : ℕ) (first : Bool) (g : Group) (handed : HandedSize) → (CanBuild old → CanBuild now) → BuildsGroup now depth result new T first g handed → CanBuild old → CanBuildGroup old g
+        → BuildsRows result now new (node_visits (setting_built old) T handed (levels_from depth) (group_seen old.collector g)) (node_rows (setting_built old) T handed (levels_from depth) depth first (group_seen old.collector g))
     one_group T first g handed ready h can can_g =
-        subst (λ (f : Frame). BuildsRows result now new (node_visits (setting_of f) T handed (levels_from depth) (group_view g)) (node_rows (setting_of f) T handed (levels_from depth) depth first (group_view g))) same (h (ready can, can_group T g can_g))
+        subst (λ (x : Setting). GroupRows T first handed x (group_seen old.collector g)) same_setting (subst (λ (d : GroupData). GroupRows T first handed (setting_built now) d) (same_group g can_g.below.0) (h (ready can, can_group g can_g)))
 
 -- ---- types one after another
 
@@ -97,7 +117,7 @@ module _ (old now new : Building) (depth : ℕ) (types : List TypeId) (lists : L
   abbrev SoFar : ℕ → Building → Type 0
   SoFar i b = CanBuildAt old lists → (outcome old.left (visits_of_types types) ≡ outcome b.left (visits_of_types (drop i types))) × (table_rows b.plan ++ rows_of (drop i types) ≡ table_rows old.plan ++ rows_of types)
 
-  module _ (same : frame now ≡ frame old) (ready : CanBuild old → CanBuild now) (so_far : SoFar at now) where
+  module _ (same : frame now ≡ frame old) (more : HasMore old.collector.joins now.collector.joins) (ready : CanBuild old → CanBuild now) (so_far : SoFar at now) where
     module _ (of : TypeId) (front : drop at types ≡ of ∷ drop (at + 1) types) where
       visits_parts : visits_of_types (drop at types) ≡ type_visits e (levels_from depth) p of.number ++ visits_of_types (drop (at + 1) types)
       visits_parts = ap visits_of_types front ∙ visits_next e (levels_from depth) p of.number (map type_number (drop (at + 1) types))
@@ -107,11 +127,11 @@ module _ (old now new : Building) (depth : ℕ) (types : List TypeId) (lists : L
 
       pub types_stop : (stop : Stop) → BuildsType now depth (Err stop) new of.number lists handed → BuildsTypes old depth (Err stop) new types lists handed
       types_stop stop h can = visits_stop old.left now.left (visits_of_types types) (visits_of_types (drop at types)) (type_visits e (levels_from depth) p of.number) (visits_of_types (drop (at + 1) types)) ((so_far can).0) visits_parts stop
-          (one_type old now same depth (Err stop) new of.number lists handed ready h can)
+          (one_type old now same more depth (Err stop) new of.number lists handed ready h can)
 
       pub types_go : (done : Unit {0}) → BuildsType now depth (Ok done) new of.number lists handed → SoFar (at + 1) new
       types_go done h can =
-          let here = one_type old now same depth (Ok done) new of.number lists handed ready h can in (
+          let here = one_type old now same more depth (Ok done) new of.number lists handed ready h can in (
             visits_go old.left now.left (visits_of_types types) (visits_of_types (drop at types)) (type_visits e (levels_from depth) p of.number) (visits_of_types (drop (at + 1) types)) ((so_far can).0) visits_parts new.left here.0,
             rows_go (table_rows old.plan) (table_rows now.plan) (table_rows new.plan) (rows_of types) (rows_of (drop at types)) (type_rows e (levels_from depth) depth p of.number) (rows_of (drop (at + 1) types)) ((so_far can).1) rows_parts here.1,
           )
@@ -129,32 +149,32 @@ module _ (old now new : Building) (depth T : ℕ) (groups : List Group) (handed 
   e' = setting_built old
 
   abbrev visits_of_groups : List Group → List Visit
-  visits_of_groups gs = groups_visits e' T handed (levels_from depth) (groups_view gs)
+  visits_of_groups gs = groups_visits e' T handed (levels_from depth) (groups_seen old.collector gs)
 
   abbrev rows_from : Bool → List Group → List Row
-  rows_from start gs = groups_rows e' T handed (levels_from depth) depth start (groups_view gs)
+  rows_from start gs = groups_rows e' T handed (levels_from depth) depth start (groups_seen old.collector gs)
 
   abbrev GroupsSoFar : ℕ → Bool → Building → Type 0
-  GroupsSoFar i start b = CanBuild old × All (CanBuildGroup old T) groups → (outcome old.left (visits_of_groups groups) ≡ outcome b.left (visits_of_groups (drop i groups))) × (table_rows b.plan ++ rows_from start (drop i groups) ≡ table_rows old.plan ++ rows_from true groups)
+  GroupsSoFar i start b = CanBuild old × All (CanBuildGroup old) groups → (outcome old.left (visits_of_groups groups) ≡ outcome b.left (visits_of_groups (drop i groups))) × (table_rows b.plan ++ rows_from start (drop i groups) ≡ table_rows old.plan ++ rows_from true groups)
 
-  module _ (same : frame now ≡ frame old) (ready : CanBuild old → CanBuild now) (so_far : GroupsSoFar at first now) where
+  module _ (same : frame now ≡ frame old) (more : HasMore old.collector.joins now.collector.joins) (ready : CanBuild old → CanBuild now) (so_far : GroupsSoFar at first now) where
     module _ (g : Group) (within : at < length groups) (is : g ≡ get_or groups at g) where
       abbrev one_visits : List Visit
-      one_visits = node_visits e' T handed (levels_from depth) (group_view g)
+      one_visits = node_visits e' T handed (levels_from depth) (group_seen old.collector g)
 
       abbrev one_rows : List Row
-      one_rows = node_rows e' T handed (levels_from depth) depth first (group_view g)
+      one_rows = node_rows e' T handed (levels_from depth) depth first (group_seen old.collector g)
 
-      can_here : All (CanBuildGroup old T) groups → CanBuildGroup old T g
-      can_here all = subst (λ x. CanBuildGroup old T x) (sym is) (All-get_or (CanBuildGroup old T) groups at g within all)
+      can_here : All (CanBuildGroup old) groups → CanBuildGroup old g
+      can_here all = subst (λ x. CanBuildGroup old x) (sym is) (All-get_or (CanBuildGroup old) groups at g within all)
 
       pub groups_stop : (stop : Stop) → BuildsGroup now depth (Err stop) new T first g handed → BuildsGroups old depth (Err stop) new T groups handed
       groups_stop stop h can = visits_stop old.left now.left (visits_of_groups groups) (visits_of_groups (drop at groups)) one_visits (visits_of_groups (drop (at + 1) groups)) ((so_far can).0) (ap visits_of_groups (at_front groups at g within is)) stop
-          (one_group old now same depth (Err stop) new T first g handed ready h can.0 (can_here can.1))
+          (one_group old now same more depth (Err stop) new T first g handed ready h can.0 (can_here can.1))
 
       pub groups_go : (done : Unit {0}) → BuildsGroup now depth (Ok done) new T first g handed → GroupsSoFar (at + 1) false new
       groups_go done h can =
-          let here = one_group old now same depth (Ok done) new T first g handed ready h can.0 (can_here can.1) in (
+          let here = one_group old now same more depth (Ok done) new T first g handed ready h can.0 (can_here can.1) in (
             visits_go old.left now.left (visits_of_groups groups) (visits_of_groups (drop at groups)) one_visits (visits_of_groups (drop (at + 1) groups)) ((so_far can).0) (ap visits_of_groups (at_front groups at g within is)) new.left here.0,
             rows_go (table_rows old.plan) (table_rows now.plan) (table_rows new.plan) (rows_from true groups) (rows_from first (drop at groups)) one_rows (rows_from false (drop (at + 1) groups)) ((so_far can).1) (ap (rows_from first) (at_front groups at g within is)) here.1,
           )
@@ -167,63 +187,61 @@ module _ (old now new : Building) (depth T : ℕ) (groups : List Group) (handed 
 
 -- ---- the keys of a type
 
-all_back : {A B : Type 0} (P : B → Type 0) (f : A → B) (xs : List A) → All P (map f xs) → All (λ x. P (f x)) xs
-all_back P f [] h = λ k d lt. absurd (none k lt)
+-- what stands below the groups is acyclic
+acyclic_groups : (e : Setting) (T : ℕ) (p : Position) (fields : List CollectedField) → LeavesOutRepeats (fields_at e T p) fields → IsAcyclic e p → (c : Collector) (keys : List (List ℕ)) (groups : List Group) → AreGroupsOf e fields keys (groups_seen c groups) → All (IsGroupAt c) groups
+    → All (λ (g : Group). (0 < length g.fields.items) × (All (IsNumber c) g.below.items × IsAcyclic e (record { selections = flat_map (meaning_at c) g.below.items; handed = None }))) groups
+acyclic_groups e T p fields less acyclic c [] [] of at = λ k d lt. absurd (none k lt)
   where
     none : (k : ℕ) → k < 0 → ⊥
     none k lt = omega arith
-all_back P f (x ∷ xs) h = All-cons (λ y. P (f y)) x xs (All-head P (f x) (map f xs) h) (all_back P f xs (All-tail P (f x) (map f xs) h))
-
-all_there : {A B : Type 0} (P : B → Type 0) (f : A → B) (xs : List A) → ((x : A) → P (f x)) → All P (map f xs)
-all_there P f [] h = λ k d lt. absurd (none k lt)
+acyclic_groups e T p fields less acyclic c [] (g ∷ groups) of at = absurd of
+acyclic_groups e T p fields less acyclic c (key ∷ keys) [] of at = absurd of
+acyclic_groups e T p fields less acyclic c (key ∷ keys) (g ∷ groups) of at =
+    let below : IsAcyclic e (position_below e T (fields_of_key key fields)) = acyclic_below acyclic.rank e T acyclic.fragments p fields less acyclic.spreads key in
+    let here : IsGroupAt c g = All-head (IsGroupAt c) g groups at in
+    All-cons (λ (x : Group). (0 < length x.fields.items) × (All (IsNumber c) x.below.items × IsAcyclic e (record { selections = flat_map (meaning_at c) x.below.items; handed = None }))) g groups (
+      here.filled,
+      (
+        here.known,
+        record {
+          rank = below.rank;
+          fragments = below.fragments;
+          spreads = ranked_left below.rank (nesting e) (map (selections_below e) (fields_of_key key fields)) (flat_map (meaning_at c) g.below.items) [] of.0.below below.spreads;
+        },
+      ),
+    )
+    (acyclic_groups e T p fields less acyclic c keys groups of.1 (All-tail (IsGroupAt c) g groups at))
   where
-    none : (k : ℕ) → k < 0 → ⊥
-    none k lt = omega arith
-all_there P f (x ∷ xs) h = All-cons P (f x) (map f xs) (h x) (all_there P f xs h)
-
-all_three : {A : Type 0} (P Q R S : A → Type 0) (xs : List A) → ((x : A) → P x → Q x → R x → S x) → All P xs → All Q xs → All R xs → All S xs
-all_three P Q R S [] h a b c = λ k d lt. absurd (none k lt)
-  where
-    none : (k : ℕ) → k < 0 → ⊥
-    none k lt = omega arith
-all_three P Q R S (x ∷ xs) h a b c = All-cons S x xs (h x (All-head P x xs a) (All-head Q x xs b) (All-head R x xs c)) (all_three P Q R S xs h (All-tail P x xs a) (All-tail Q x xs b) (All-tail R x xs c))
-
-filled_views : (groups : List Group) → All HasField groups → All (λ fields. 0 < length fields) (groups_view groups)
-filled_views [] h = λ k d lt. absurd (none k lt)
-  where
-    none : (k : ℕ) → k < 0 → ⊥
-    none k lt = omega arith
-filled_views (g ∷ groups) h = All-cons (λ (fields : List CollectedField). 0 < length fields) (group_view g) (groups_view groups) (one g (All-head HasField g groups h)) (filled_views groups (All-tail HasField g groups h))
-  where
-    one : (g : Group) → 0 < length g.fields.items → 0 < length (group_view g)
-    one g lt = subst (λ n. 0 < n) (sym (length-map g.fields.items collected_field)) lt
+    ranked_left : (rank : List ℕ → ℕ) (bound : ℕ) (xs ys seen : List WrittenSelections) → IsThinned seen xs ys → AllRanked rank bound xs → AllRanked rank bound ys
+    ranked_left rank bound [] [] seen t r = tt
+    ranked_left rank bound [] (y ∷ ys) seen t r = absurd t
+    ranked_left rank bound (x ∷ xs) [] seen t r = tt
+    ranked_left rank bound (x ∷ xs) (y ∷ ys) seen (inl stays) r = (subst (λ (w : WrittenSelections). AreRanked rank bound w.1) stays.0 r.0, ranked_left rank bound xs ys (x ∷ seen) stays.1 r.1)
+    ranked_left rank bound (x ∷ xs) (y ∷ ys) seen (inr goes) r = ranked_left rank bound xs (y ∷ ys) seen goes.1 r.1
 
 module _ (old mid new : Building) (same : frame mid ≡ frame old) (left : mid.left ≡ old.left) (table : table_rows mid.plan ≡ table_rows old.plan) (depth T : ℕ) (lists : List ℕ) (handed : HandedSize) (groups : List Group) where
-  groups_acyclic : (p : Position) → IsAcyclic (setting_built old) p → Gathers (setting_built old) T p (groups_view groups) → All (λ g. AcyclicBelow (frame old) T g.fields.items) groups
-  groups_acyclic p acyclic g = all_back (λ fields. IsAcyclic (setting_built old) (position_below (setting_built old) T fields)) group_view groups
-      (subst (λ gs. All (λ fields. IsAcyclic (setting_built old) (position_below (setting_built old) T fields)) gs) (sym g.grouped)
-      (all_there (λ fields. IsAcyclic (setting_built old) (position_below (setting_built old) T fields)) (λ key. fields_of_key key g.fields) (keys_of g.fields)
-      (λ key. acyclic_below acyclic.rank (setting_built old) T acyclic.fragments p g.fields g.repeats acyclic.spreads key)))
-
-  pub type_built : (result : Result (Unit {0}) Stop) → (CanBuild old → CanBuild mid) → (CanBuild old → IsAcyclic (setting_built old) (position_built old lists None) → Gathers (setting_built old) T (position_built old lists None) (groups_view groups))
-      → All HasField groups → (CanBuild old → AreNumbered old.collector groups) → BuildsGroups mid depth result new T groups handed → BuildsType old depth result new T lists handed
-  type_built result ready found filled numbered h can =
+  pub type_built : (result : Result (Unit {0}) Stop) → (CanBuild old → CanBuild mid) → GivesGroups old.collector mid.collector T lists groups → BuildsGroups mid depth result new T groups handed → BuildsType old depth result new T lists handed
+  type_built result ready gives h can =
+      let e : Setting = setting_built old in
       let none : Position = position_built old lists None in
-      let g : Gathers (setting_built old) T none (groups_view groups) = found can.0 can.1 in
+      let g : Gathers e T none (groups_seen mid.collector groups) = gives.found can.0.collector can.1.1 in
       let p : Position = position_built old lists handed in
-      let gathers : Gathers (setting_built old) T p (groups_view groups) = record { fields = g.fields; repeats = g.repeats; grouped = g.grouped } in
-      let can_groups : All (CanBuildGroup old T) groups = all_three HasField (λ x. IsNumbered (frame old) x.fields.items) (λ x. AcyclicBelow (frame old) T x.fields.items) (CanBuildGroup old T) groups
-      (λ x a b c. record { filled = a; fields = record { numbered = b; acyclic = c } }) filled (numbered can.0) (groups_acyclic none can.1 g) in
-      let can_mid : All (CanBuildGroup mid T) groups = all_one (CanBuildGroup old T) (CanBuildGroup mid T) groups (can_group old mid same T) can_groups in
-      moved result (groups_visits (setting_built old) T handed (levels_from depth) (groups_view groups)) (type_visits (setting_built old) (levels_from depth) p T) (groups_rows (setting_built old) T handed (levels_from depth) depth true (groups_view groups)) (type_rows (setting_built old) (levels_from depth) depth p T) (subst (λ (f : Frame). BuildsRows result mid new (groups_visits (setting_of f) T handed (levels_from depth) (groups_view groups)) (groups_rows (setting_of f) T handed (levels_from depth) depth true (groups_view groups))) same (h (ready can.0, can_mid)))
-      (gathered_visits (setting_built old) T p (groups_view groups) gathers (filled_views groups filled) (levels_from depth)) (gathered_rows (setting_built old) T p (groups_view groups) gathers (filled_views groups filled) (levels_from depth) depth)
+      let gathers : Gathers e T p (groups_seen mid.collector groups) = record { fields = g.fields; repeats = g.repeats; grouped = g.grouped } in
+      let setting_there : setting_built mid ≡ e = ap setting_of same in
+      let can_groups : All (CanBuildGroup mid) groups = all_can groups (acyclic_groups e T none g.fields g.repeats can.1.1 mid.collector (keys_of g.fields) groups g.grouped (gives.right can.0.collector can.1.1)) in
+      moved result (groups_visits e T handed (levels_from depth) (groups_seen mid.collector groups)) (type_visits e (levels_from depth) p T) (groups_rows e T handed (levels_from depth) depth true (groups_seen mid.collector groups)) (type_rows e (levels_from depth) depth p T)
+      (subst (λ (x : Setting). BuildsRows result mid new (groups_visits x T handed (levels_from depth) (groups_seen mid.collector groups)) (groups_rows x T handed (levels_from depth) depth true (groups_seen mid.collector groups))) setting_there (h (ready can.0, can_groups)))
+      (gathered_visits e T p (groups_seen mid.collector groups) gathers (levels_from depth)) (gathered_rows e T p (groups_seen mid.collector groups) gathers (levels_from depth) depth)
     where
-      all_one : {A : Type 0} (P Q : A → Type 0) (xs : List A) → ((x : A) → P x → Q x) → All P xs → All Q xs
-      all_one P Q [] h a = λ k d lt. absurd (none k lt)
+      all_can : (gs : List Group) → All (λ (g : Group). (0 < length g.fields.items) × (All (IsNumber mid.collector) g.below.items × IsAcyclic (setting_built old) (record { selections = flat_map (meaning_at mid.collector) g.below.items; handed = None }))) gs → All (CanBuildGroup mid) gs
+      all_can [] a = λ k d lt. absurd (none_less k lt)
         where
-          none : (k : ℕ) → k < 0 → ⊥
-          none k lt = omega arith
-      all_one P Q (x ∷ xs) h a = All-cons Q x xs (h x (All-head P x xs a)) (all_one P Q xs h (All-tail P x xs a))
+          none_less : (k : ℕ) → k < 0 → ⊥
+          none_less k lt = omega arith
+      all_can (x ∷ gs) a =
+          let P : Group → Type 0 = λ (g : Group). (0 < length g.fields.items) × (All (IsNumber mid.collector) g.below.items × IsAcyclic (setting_built old) (record { selections = flat_map (meaning_at mid.collector) g.below.items; handed = None })) in
+          let here = All-head P x gs a in
+          All-cons (CanBuildGroup mid) x gs (record { filled = here.0; below = (here.1.0, subst (λ (s : Setting). IsAcyclic s (position_built mid x.below.items None)) (sym (ap setting_of same)) here.1.1) }) (all_can gs (All-tail P x gs a))
 
       moved : (result : Result (Unit {0}) Stop) (vs us : List Visit) (rows others : List Row) → BuildsRows result mid new vs rows → vs ≡ us → rows ≡ others → BuildsRows result old new us others
       moved (Ok done) vs us rows others b v r = (ap (λ n. outcome n us) (sym left) ∙ (ap (λ x. outcome mid.left x) (sym v) ∙ b.0), b.1 ∙ (ap (λ x. x ++ rows) table ∙ ap (λ x. table_rows old.plan ++ x) r))

@@ -1,22 +1,23 @@
 -- What is visited and which rows are made while a plan is built: at a position, for a type, for the fields of one key.
-use Rattle.std.specs.Prelude.{◌≡◌, ◌-◌, ℕ, zero, suc, Bool, true, false, List, [], ◌∷◌, ◌++◌, map, flat_map, All, None, Result, Ok, Err}
+use Rattle.std.specs.Prelude.{◌≡◌, ◌-◌, ◌<◌, ℕ, length, zero, suc, Bool, true, false, List, [], ◌∷◌, ◌++◌, map, flat_map, All, None, Result, Ok, Err}
 use Rattle.std.specs.List.{list_any}
 use Rattle.response_model.specs.Plan.{Plan as PlanTree, ObjectTypes}
 use Rattle.input_values.specs.declared.inputs.shape.TypeId.{TypeId}
 use Rattle.schema_model.specs.declared.schema.Schema.{Schema}
 use Rattle.cost_directives.specs.declared.weights.Weights.{Weights}
 use Rattle.schema_model.specs.Numbers.{type_number}
-use Rattle.plan_model.specs.SelectedFields.{Setting, HandedSize, Place, types_of, form_of, place_of, meaning_weight, place_at}
+use Rattle.plan_model.specs.SelectedFields.{Setting, HandedSize, Place, types_of, form_of, place_of, meaning_weight, place_at, hands_at}
 use Rattle.plan_model.specs.Collecting.{CollectedField, WrittenSelections}
-use Rattle.plan_model.specs.Merging.{Position, keys_at, first_call, selections_below, asks, position_below, selected_by}
+use Rattle.plan_model.specs.Merging.{Position, keys_at, first_call, asks, selected_by}
 use Rattle.plan_model.specs.MergingWalk.{IsAcyclic}
 use Rattle.plan_model.specs.Plans.{with_capped, type_weight}
 use Rattle.plan_model.specs.Visits.{Visit, fault_of, visits_of, visits_of_type, too_deep_at, deepest_visits, visits, planned_nodes, planned_types, nothing_planned, planned}
 use Rattle.collected_fields.specs.declared.planning.Planning.{Planning}
 use Rattle.collected_fields.specs.declared.collected.Collected.{Collected}
 use Rattle.collected_fields.specs.declared.collected.Group.{Group}
-use Rattle.collected_fields.specs.Views.{collected_field, group_view, groups_view}
-use Rattle.collected_fields.specs.Gathering.{HasField, IsReady, planning_of, setting_at, written_at}
+use Rattle.collected_fields.specs.Views.{collected_field}
+use Rattle.collected_fields.specs.Groups.{GroupData}
+use Rattle.collected_fields.specs.Gathering.{IsReady, planning_of, setting_at, written_at, meaning_at, IsNumber, group_seen, groups_seen}
 use Rattle.plan_table.specs.Rows.{Row, below_in, rows_below, rows_of_types, rows_of_nodes}
 use Rattle.plan_table.specs.Tables.{setting_without_values, meaning_of, below_at, setting_in, table_rows}
 use Rattle.merged_selections.specs.declared.node.Looked.{Looked}
@@ -58,34 +59,38 @@ module _ (e : Setting) where
   -- ---- the fields of one key
 
   module _ (T : ℕ) (handed : HandedSize) where
-    abbrev pub node_visits : ℕ → List CollectedField → List Visit
-    node_visits zero fields = too_deep_at (key_seen fields) ∷ []
-    node_visits (suc levels) fields = visits_of (key_seen fields) (fault_of e T handed fields) (visits e levels (types_of (place_at e T (first_call fields))) (position_below e T fields))
+    -- the position below them
+    abbrev pub group_position : GroupData → Position
+    group_position g = record { selections = g.below; handed = hands_at e T (first_call g.fields) }
 
-    abbrev pub planned_for_node : ℕ → List CollectedField → PlanTree
-    planned_for_node levels fields = planned_below levels (place_at e T (first_call fields)) (position_below e T fields)
+    abbrev pub node_visits : ℕ → GroupData → List Visit
+    node_visits zero g = too_deep_at (key_seen g.fields) ∷ []
+    node_visits (suc levels) g = visits_of (key_seen g.fields) (fault_of e T handed g.fields) (visits e levels (types_of (place_at e T (first_call g.fields))) (group_position g))
 
-    abbrev pub node_row : ℕ → ℕ → Bool → List CollectedField → Row
-    node_row levels depth first fields = record {
+    abbrev pub planned_for_node : ℕ → GroupData → PlanTree
+    planned_for_node levels g = planned_below levels (place_at e T (first_call g.fields)) (group_position g)
+
+    abbrev pub node_row : ℕ → ℕ → Bool → GroupData → Row
+    node_row levels depth first g = record {
       depth = depth;
       type = T;
       weight = type_weight e T;
       first = first;
-      selected = with_capped (selected_by e T (key_seen fields) handed fields);
-      below = below_in (planned_for_node levels fields);
+      selected = with_capped (selected_by e T (key_seen g.fields) handed g.fields);
+      below = below_in (planned_for_node levels g);
     }
 
-    abbrev pub node_rows : ℕ → ℕ → Bool → List CollectedField → List Row
-    node_rows levels depth first fields = node_row levels depth first fields ∷ rows_below (suc depth) (planned_for_node levels fields)
+    abbrev pub node_rows : ℕ → ℕ → Bool → GroupData → List Row
+    node_rows levels depth first g = node_row levels depth first g ∷ rows_below (suc depth) (planned_for_node levels g)
 
     -- ---- several keys, where the first of them is the first of the type or not
 
-    abbrev pub groups_visits : ℕ → List (List CollectedField) → List Visit
+    abbrev pub groups_visits : ℕ → List GroupData → List Visit
     groups_visits levels groups = flat_map (node_visits levels) groups
 
-    abbrev pub groups_rows : ℕ → ℕ → Bool → List (List CollectedField) → List Row
+    abbrev pub groups_rows : ℕ → ℕ → Bool → List GroupData → List Row
     groups_rows levels depth first [] = []
-    groups_rows levels depth first (fields ∷ groups) = node_rows levels depth first fields ++ groups_rows levels depth false groups
+    groups_rows levels depth first (g ∷ groups) = node_rows levels depth first g ++ groups_rows levels depth false groups
 
 -- ---- what stays the same while a plan is built
 
@@ -98,9 +103,13 @@ frame b = (planning_of b.collector, written_at b.collector, setting_in b.plan, b
 abbrev pub setting_built : Building → Setting
 setting_built b = setting_at b.collector
 
--- the position of selection sets by their numbers
+-- the position of selection sets, and lists of them, by their numbers
 abbrev pub position_built : Building → List ℕ → HandedSize → Position
-position_built b lists handed = record { selections = map (written_at b.collector) lists; handed = handed }
+position_built b lists handed = record { selections = flat_map (meaning_at b.collector) lists; handed = handed }
+
+-- fields of one key, with the numbers of what stands below them
+abbrev pub node_seen : Building → List Collected → List ℕ → GroupData
+node_seen b fields below = record { fields = map collected_field fields; below = flat_map (meaning_at b.collector) below }
 
 -- The collector may be asked, the plan is of the same schema and weights, and the calls are what was made of them.
 pub record CanBuild (b : Building) : Type 0 where
@@ -108,17 +117,14 @@ pub record CanBuild (b : Building) : Type 0 where
   pub plan : setting_in b.plan ≡ setting_without_values (setting_built b).schema (setting_built b).weights
   pub calls : AreKept (setting_built b) b.calls
 
+-- The numbers are those of the collector, and their selections are acyclic.
 abbrev pub CanBuildAt : Building → List ℕ → Type 0
-CanBuildAt b lists = CanBuild b × IsAcyclic (setting_built b) (position_built b lists None)
+CanBuildAt b lists = CanBuild b × (All (IsNumber b.collector) lists × IsAcyclic (setting_built b) (position_built b lists None))
 
--- Each field has the number of its own selections, and what stands below them is acyclic.
-pub record CanBuildNode (b : Building) (T : ℕ) (fields : List Collected) : Type 0 where
-  pub numbered : All (λ f. written_at b.collector f.below ≡ selections_below (setting_built b) (collected_field f)) fields
-  pub acyclic : IsAcyclic (setting_built b) (position_below (setting_built b) T (map collected_field fields))
-
-pub record CanBuildGroup (b : Building) (T : ℕ) (g : Group) : Type 0 where
-  pub filled : HasField g
-  pub fields : CanBuildNode b T g.fields.items
+-- the same of what stands below the fields of a group, which has one
+pub record CanBuildGroup (b : Building) (g : Group) : Type 0 where
+  pub filled : 0 < length g.fields.items
+  pub below : All (IsNumber b.collector) g.below.items × IsAcyclic (setting_built b) (position_built b g.below.items None)
 
 -- These are visited, and where none is at fault these rows are added.
 abbrev pub BuildsRows : Result (Unit {0}) Stop → Building → Building → List Visit → List Row → Type 0
@@ -157,18 +163,15 @@ module _ (old : Building) (depth : ℕ) (result : Result (Unit {0}) Stop) (new :
 
   abbrev pub BuildsGroups : ℕ → List Group → HandedSize → Type 0
   BuildsGroups T groups handed =
-      CanBuild old × All (CanBuildGroup old T) groups → BuildsRows result old new (groups_visits (setting_built old) T handed (levels_from depth) (groups_view groups)) (groups_rows (setting_built old) T handed (levels_from depth) depth true (groups_view groups))
+      CanBuild old × All (CanBuildGroup old) groups → BuildsRows result old new (groups_visits (setting_built old) T handed (levels_from depth) (groups_seen old.collector groups)) (groups_rows (setting_built old) T handed (levels_from depth) depth true (groups_seen old.collector groups))
 
-  abbrev pub BuildsNode : ℕ → Bool → List Collected → HandedSize → Type 0
-  BuildsNode T first fields handed =
-      CanBuild old × CanBuildNode old T fields → BuildsRows result old new (node_visits (setting_built old) T handed (levels_from depth) (map collected_field fields)) (node_rows (setting_built old) T handed (levels_from depth) depth first (map collected_field fields))
+  abbrev pub BuildsNode : ℕ → Bool → List Collected → List ℕ → HandedSize → Type 0
+  BuildsNode T first fields below handed =
+      CanBuildAt old below → BuildsRows result old new (node_visits (setting_built old) T handed (levels_from depth) (node_seen old fields below)) (node_rows (setting_built old) T handed (levels_from depth) depth first (node_seen old fields below))
 
   abbrev pub BuildsGroup : ℕ → Bool → Group → HandedSize → Type 0
   BuildsGroup T first g handed =
-      CanBuild old × CanBuildGroup old T g → BuildsRows result old new (node_visits (setting_built old) T handed (levels_from depth) (group_view g)) (node_rows (setting_built old) T handed (levels_from depth) depth first (group_view g))
-
-abbrev pub number_below : Collected → ℕ
-number_below f = f.below
+      CanBuild old × CanBuildGroup old g → BuildsRows result old new (node_visits (setting_built old) T handed (levels_from depth) (group_seen old.collector g)) (node_rows (setting_built old) T handed (levels_from depth) depth first (group_seen old.collector g))
 
 -- The row of a node is added, of which this was found.
 abbrev pub PushesRow : Building → ℕ → ℕ → Bool → List Collected → Looked → {E : Type 0} → Result (Unit {0}) E → Building → Type 0

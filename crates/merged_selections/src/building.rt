@@ -1,10 +1,11 @@
 //! Building a plan, node by node: a table grows by the rows of what is visited, in depth-first order.
 
-ghost use Rattle.std.specs.Prelude.{◌≡◌, ◌∷◌, ◌≤◌, ◌++◌, [], map, IfOk, OnOk};
+ghost use Rattle.std.specs.Prelude.{◌≡◌, ◌∷◌, ◌≤◌, map};
 ghost use Rattle.schema_model.specs.SchemaViews.{schema_data};
 ghost use Rattle.schema_model.specs.Numbers.{type_number};
+ghost use Rattle.collected_fields.specs.Lists.{HasMore};
 ghost use Rattle.merged_selections.specs.NodeParts.{handed_data, types_at};
-ghost use Rattle.merged_selections.specs.Stages.{frame, CanBuild, BuildsTypes, BuildsType, BuildsGroups, BuildsGroup, BuildsNode, number_below, PushesRow};
+ghost use Rattle.merged_selections.specs.Stages.{frame, CanBuild, BuildsTypes, BuildsType, BuildsGroups, BuildsGroup, BuildsNode, PushesRow};
 
 use crate::LEVEL_LIMIT;
 use crate::calls::Calls;
@@ -28,22 +29,6 @@ pub struct Building<'p, 'a> {
     pub left: usize,
     /// The calls that were made.
     pub calls: Calls<'p>,
-}
-
-/// The numbers of the selections of these fields.
-fn lists_below(
-    alloc: Global,
-    first: &Collected<'_>,
-    others: &[Collected<'_>],
-) -> Result<Vec<usize>, AllocError>
-    ensures { IfOk result (λ lists. lists.items ≡ map number_below (first.now ∷ others.now)) }
-{
-    let mut lists = Vec::new(alloc);
-    lists.push(first.below)?;
-    for other in others {
-        lists.push(other.below)?;
-    }
-    Ok(lists)
 }
 
 /// The types of the objects that may stand at a field; none at `__typename`.
@@ -79,6 +64,7 @@ impl<'p, 'a> Building<'p, 'a> {
         requires { depth ≤ LEVEL_LIMIT }
         ensures frame { frame self.new ≡ frame self.old }
         ensures ready { CanBuild self.old → CanBuild self.new }
+        ensures collector { self.new.collector ≡ self.old.collector }
         ensures left { self.new.left ≡ self.old.left }
         ensures pushed { PushesRow self.old depth on.number first (field.now ∷ others.now) looked.now result self.new }
     {
@@ -107,6 +93,7 @@ impl<'p, 'a> Building<'p, 'a> {
         handed: Option<Handed<'p>>,
     ) -> Result<(), Stop>
         ensures frame { frame self.new ≡ frame self.old }
+        ensures numbers { HasMore self.old.collector.joins self.new.collector.joins }
         ensures ready { CanBuild self.old → CanBuild self.new }
         ensures built { BuildsTypes self.old depth result self.new types.now lists.now (handed_data handed.entry) }
     {
@@ -130,6 +117,7 @@ impl<'p, 'a> Building<'p, 'a> {
         handed: Option<Handed<'p>>,
     ) -> Result<(), Stop>
         ensures frame { frame self.new ≡ frame self.old }
+        ensures numbers { HasMore self.old.collector.joins self.new.collector.joins }
         ensures ready { CanBuild self.old → CanBuild self.new }
         ensures built { BuildsType self.old depth result self.new of.number lists.now (handed_data handed.entry) }
     {
@@ -148,6 +136,7 @@ impl<'p, 'a> Building<'p, 'a> {
         handed: Option<Handed<'p>>,
     ) -> Result<(), Stop>
         ensures frame { frame self.new ≡ frame self.old }
+        ensures numbers { HasMore self.old.collector.joins self.new.collector.joins }
         ensures ready { CanBuild self.old → CanBuild self.new }
         ensures built { BuildsGroups self.old depth result self.new of.number groups.now (handed_data handed.entry) }
     {
@@ -174,12 +163,22 @@ impl<'p, 'a> Building<'p, 'a> {
         handed: Option<Handed<'p>>,
     ) -> Result<(), Stop>
         ensures frame { frame self.new ≡ frame self.old }
+        ensures numbers { HasMore self.old.collector.joins self.new.collector.joins }
         ensures ready { CanBuild self.old → CanBuild self.new }
         ensures built { BuildsGroup self.old depth result self.new of.number first group.now (handed_data handed.entry) }
     {
         match group.fields.split_first() {
             Some((field, others)) => {
-                self.build_node(alloc, depth, of, first, field, others, handed)
+                self.build_node(
+                    alloc,
+                    depth,
+                    of,
+                    first,
+                    field,
+                    others,
+                    group.below.as_slice(),
+                    handed,
+                )
             }
             None => Ok(()),
         }
@@ -195,11 +194,13 @@ impl<'p, 'a> Building<'p, 'a> {
         first: bool,
         field: &Collected<'p>,
         others: &[Collected<'p>],
+        below: &[usize],
         handed: Option<Handed<'p>>,
     ) -> Result<(), Stop>
         ensures frame { frame self.new ≡ frame self.old }
+        ensures numbers { HasMore self.old.collector.joins self.new.collector.joins }
         ensures ready { CanBuild self.old → CanBuild self.new }
-        ensures built { BuildsNode self.old depth result self.new of.number first (field.now ∷ others.now) (handed_data handed.entry) }
+        ensures built { BuildsNode self.old depth result self.new of.number first (field.now ∷ others.now) below.now (handed_data handed.entry) }
     {
         if self.left == 0 {
             return Err(Stop::TooLarge);
@@ -215,8 +216,7 @@ impl<'p, 'a> Building<'p, 'a> {
             Ok(looked) => {
                 self.push_row(alloc, depth, of, first, field, others, &looked)?;
                 let types = types_at(planning.schema, looked.field);
-                let lists = lists_below(alloc, field, others)?;
-                match self.build_types(alloc, depth + 1, types, lists.as_slice(), looked.hands) {
+                match self.build_types(alloc, depth + 1, types, below, looked.hands) {
                     Ok(()) => Ok(()),
                     Err(stop) => Err(under(alloc, stop, key)),
                 }

@@ -45,7 +45,7 @@ fn put_arguments(arguments: &[Argument], into: &mut FoldHasher) {
 }
 
 /// The hash of a field with these arguments.
-pub fn hash_of(of: FieldId, arguments: &[Argument]) -> u64 {
+pub(crate) fn hash_of(of: FieldId, arguments: &[Argument]) -> u64 {
     let mut hasher = FoldHasher::default();
     hasher.write_usize(of.number);
     put_arguments(arguments, &mut hasher);

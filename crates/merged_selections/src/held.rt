@@ -40,7 +40,7 @@ fn fields_bytes(fields: &[CoercedField]) -> usize {
 }
 
 /// The bytes that arguments hold, about.
-pub fn bytes_of(args: &Args) -> usize {
+pub(crate) fn bytes_of(args: &Args) -> usize {
     let mut sum: usize = 0;
     for arg in args.list.as_slice() {
         sum = sum.saturating_add(NODE);

@@ -32,7 +32,7 @@ add_field-returns-then-repeats-clause-adds t c = λ knows. (
 pub add_field-returns-clause-adds : goal.add_field-returns-clause-adds
 add_field-returns-clause-adds t c = on_ok_both c.keep.result (λ leaves steps knows. (
   field_added (source_setting c.args.source.now) (option_map type_number c.args.draft.now.parent) (map step_data c.args.draft.now.steps.items) c.args.field.now (map step_data c.keep.new.self.steps.items)
-      (option_map type_number c.below_field-parent.result) c.as_slice-2.result.now c.in_ok-below.below (map list_data c.args.lists.now.items) (map list_data c.add_list.new.lists.items)
+      (option_map type_number c.below_field-parent.result) c.as_slice-2.result.now c.in_ok-below.below (map list_data c.args.lists.now.items) (map list_data c.list_below.new.lists.items)
       (field_told (environment c.args.source.now.planning.variables.now) c.args.field.now c.as_slice.result.now c.is_included.result c.is_included.ensures c.as_slice.ensures.value ∙ c.if-not-is_included.false)
       c.below_field-parent.ensures c.as_slice-2.ensures.value c.in_ok-below.ensures steps,
   leaves knows,

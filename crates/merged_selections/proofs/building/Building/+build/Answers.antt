@@ -8,86 +8,103 @@ use Rattle.collected_fields.specs.declared.collected.Group.{Group}
 use Rattle.collected_fields.specs.Views.{setting_of_planning, collected_field}
 use Rattle.merged_selections.specs.NodeTests.{fault_told, IsThere, IsFound}
 use Rattle.merged_selections.specs.Outcomes.{outcome, IsStop}
-use Rattle.merged_selections.specs.Stages.{levels_from, setting_built, BuildsGroups}
+use Rattle.collected_fields.specs.declared.collector.Collector.{Collector}
+use Rattle.collected_fields.specs.Lists.{HasMore}
+use Rattle.collected_fields.proofs.ListLaws.{more_itself, more_again}
+use Rattle.merged_selections.specs.Stages.{levels_from, setting_built, node_seen, BuildsGroups}
 use Rattle.merged_selections.proofs.BuiltNodes.{frames, can_after, kept_before, can_still, below_visits, below_built, below_stops, below_fine, rows_there, past_limit, too_deep_stops, fault_stops, levels_more, no_levels}
 use Rattle.merged_selections.proofs.building.Building.+build.Goals as goal
 
 pub build_types-returns-in-Err-clause-built : goal.build_types-returns-in-Err-clause-built
 build_types-returns-in-Err-clause-built t c =
-    types_stop c.args.self.now c.types.self c.build_type.new.self c.args.depth c.args.types.now c.args.lists.now (handed_data c.args.handed) c.types.of-index c.types.invariant.0 c.types.invariant.1 c.types.invariant.2 _ (drop_more c.args.types.now c.types.of-index _ c.types-test.true) c.in-Err.stop c.in-Err.ensures.built
+    types_stop c.args.self.now c.types.self c.build_type.new.self c.args.depth c.args.types.now c.args.lists.now (handed_data c.args.handed) c.types.of-index c.types.invariant.0 c.types.invariant.1 c.types.invariant.2 c.types.invariant.3 _ (drop_more c.args.types.now c.types.of-index _ c.types-test.true) c.in-Err.stop c.in-Err.ensures.built
+
+pub build_types-returns-in-Err-clause-numbers : goal.build_types-returns-in-Err-clause-numbers
+build_types-returns-in-Err-clause-numbers t c = more_again c.args.self.now.collector.joins c.types.self.collector.joins c.build_type.new.self.collector.joins c.types.invariant.1 c.in-Err.ensures.numbers
 
 pub build_types-types-preserved : goal.build_types-types-preserved
 build_types-types-preserved t c = (
   c.in-Ok.ensures.frame ∙ c.types.invariant.0,
-  λ can. c.in-Ok.ensures.ready (c.types.invariant.1 can),
-  types_go c.args.self.now c.types.self c.build_type.new.self c.args.depth c.args.types.now c.args.lists.now (handed_data c.args.handed) c.types.of-index c.types.invariant.0 c.types.invariant.1 c.types.invariant.2 _ (drop_more c.args.types.now c.types.of-index _ c.types-test.true) c.in-Ok.field-0 c.in-Ok.ensures.built,
+  more_again c.args.self.now.collector.joins c.types.self.collector.joins c.build_type.new.self.collector.joins c.types.invariant.1 c.in-Ok.ensures.numbers,
+  λ can. c.in-Ok.ensures.ready (c.types.invariant.2 can),
+  types_go c.args.self.now c.types.self c.build_type.new.self c.args.depth c.args.types.now c.args.lists.now (handed_data c.args.handed) c.types.of-index c.types.invariant.0 c.types.invariant.1 c.types.invariant.2 c.types.invariant.3 _ (drop_more c.args.types.now c.types.of-index _ c.types-test.true) c.in-Ok.field-0 c.in-Ok.ensures.built,
 )
 
 pub build_types-returns-clause-built : goal.build_types-returns-clause-built
 build_types-returns-clause-built t c =
-    types_end c.args.self.now c.types.self c.types.self c.args.depth c.args.types.now c.args.lists.now (handed_data c.args.handed) c.types.of-index c.types.invariant.0 c.types.invariant.1 c.types.invariant.2 c.types-test.false tt
+    types_end c.args.self.now c.types.self c.types.self c.args.depth c.args.types.now c.args.lists.now (handed_data c.args.handed) c.types.of-index c.types.invariant.0 c.types.invariant.1 c.types.invariant.2 c.types.invariant.3 c.types-test.false tt
 
 pub build_groups-returns-in-Err-clause-built : goal.build_groups-returns-in-Err-clause-built
 build_groups-returns-in-Err-clause-built t c =
-    groups_stop c.args.self.now c.groups.self c.build_group.new.self c.args.depth c.args.of.number c.args.groups.now (handed_data c.args.handed) c.groups.group-index c.groups.first c.groups.invariant.0 c.groups.invariant.1 c.groups.invariant.2 c.group-item.result c.groups-test.true c.group-item.is c.in-Err.stop c.in-Err.ensures.built
+    groups_stop c.args.self.now c.groups.self c.build_group.new.self c.args.depth c.args.of.number c.args.groups.now (handed_data c.args.handed) c.groups.group-index c.groups.first c.groups.invariant.0 c.groups.invariant.1 c.groups.invariant.2 c.groups.invariant.3 c.group-item.result c.groups-test.true c.group-item.is c.in-Err.stop c.in-Err.ensures.built
+
+pub build_groups-returns-in-Err-clause-numbers : goal.build_groups-returns-in-Err-clause-numbers
+build_groups-returns-in-Err-clause-numbers t c = more_again c.args.self.now.collector.joins c.groups.self.collector.joins c.build_group.new.self.collector.joins c.groups.invariant.1 c.in-Err.ensures.numbers
 
 pub build_groups-groups-preserved : goal.build_groups-groups-preserved
 build_groups-groups-preserved t c = (
   c.in-Ok.ensures.frame ∙ c.groups.invariant.0,
-  λ can. c.in-Ok.ensures.ready (c.groups.invariant.1 can),
-  groups_go c.args.self.now c.groups.self c.build_group.new.self c.args.depth c.args.of.number c.args.groups.now (handed_data c.args.handed) c.groups.group-index c.groups.first c.groups.invariant.0 c.groups.invariant.1 c.groups.invariant.2 c.group-item.result c.groups-test.true c.group-item.is c.in-Ok.field-0 c.in-Ok.ensures.built,
+  more_again c.args.self.now.collector.joins c.groups.self.collector.joins c.build_group.new.self.collector.joins c.groups.invariant.1 c.in-Ok.ensures.numbers,
+  λ can. c.in-Ok.ensures.ready (c.groups.invariant.2 can),
+  groups_go c.args.self.now c.groups.self c.build_group.new.self c.args.depth c.args.of.number c.args.groups.now (handed_data c.args.handed) c.groups.group-index c.groups.first c.groups.invariant.0 c.groups.invariant.1 c.groups.invariant.2 c.groups.invariant.3 c.group-item.result c.groups-test.true c.group-item.is c.in-Ok.field-0 c.in-Ok.ensures.built,
 )
 
 pub build_groups-returns-clause-built : goal.build_groups-returns-clause-built
 build_groups-returns-clause-built t c =
-    groups_end c.args.self.now c.groups.self c.groups.self c.args.depth c.args.of.number c.args.groups.now (handed_data c.args.handed) c.groups.group-index c.groups.first c.groups.invariant.0 c.groups.invariant.1 c.groups.invariant.2 c.groups-test.false tt
+    groups_end c.args.self.now c.groups.self c.groups.self c.args.depth c.args.of.number c.args.groups.now (handed_data c.args.handed) c.groups.group-index c.groups.first c.groups.invariant.0 c.groups.invariant.1 c.groups.invariant.2 c.groups.invariant.3 c.groups-test.false tt
 
 pub build_type-returns-clause-built : goal.build_type-returns-clause-built
 build_type-returns-clause-built t c =
-    type_built c.args.self.now (record { collector = c.collect.new.self; plan = c.args.self.now.plan; left = c.args.self.now.left; calls = c.args.self.now.calls }) c.build_groups.new.self (frames c.args.self.now c.collect.new.self c.collect.ensures.planning c.collect.ensures.written) refl refl c.args.depth c.args.of.number c.args.lists.now (handed_data c.args.handed) c.in_ok-groups.groups.items c.build_groups.result
-    (can_after c.args.self.now c.collect.new.self c.collect.ensures.planning c.collect.ensures.ready) (λ can. c.in_ok-groups.ensures.found can.collector) c.in_ok-groups.ensures.filled (λ can. c.in_ok-groups.ensures.below can.collector)
+    type_built c.args.self.now (record { collector = c.collect.new.self; plan = c.args.self.now.plan; left = c.args.self.now.left; calls = c.args.self.now.calls }) c.build_groups.new.self (frames c.args.self.now c.collect.new.self c.collect.ensures.grows.planning c.collect.ensures.grows.written) refl refl c.args.depth c.args.of.number c.args.lists.now (handed_data c.args.handed) c.in_ok-groups.groups.items c.build_groups.result
+    (can_after c.args.self.now c.collect.new.self c.collect.ensures.grows.planning c.collect.ensures.grows.ready) c.in_ok-groups.ensures.gives
     (subst (λ (gs : List Group). BuildsGroups (record { collector = c.collect.new.self; plan = c.args.self.now.plan; left = c.args.self.now.left; calls = c.args.self.now.calls }) c.args.depth c.build_groups.result c.build_groups.new.self c.args.of.number gs (handed_data c.args.handed)) c.as_slice.ensures.value c.build_groups.ensures.built)
 
 pub build_node-returns-then-self-eq0-clause-built : goal.build_node-returns-then-self-eq0-clause-built
-build_node-returns-then-self-eq0-clause-built t c = λ can. past_limit (setting_built c.args.self.now) c.args.of.number (handed_data c.args.handed) (map collected_field (c.args.field.now ∷ c.args.others.now)) (levels_from c.args.depth) c.args.self.now.left c.if-self-eq0.true
+build_node-returns-then-self-eq0-clause-built t c = λ can. past_limit (setting_built c.args.self.now) c.args.of.number (handed_data c.args.handed) (node_seen c.args.self.now (c.args.field.now ∷ c.args.others.now) c.args.below.now) (levels_from c.args.depth) c.args.self.now.left c.if-self-eq0.true
 
 pub build_node-returns-then-depth-gt-LEVEL_LIMIT-clause-built : goal.build_node-returns-then-depth-gt-LEVEL_LIMIT-clause-built
-build_node-returns-then-depth-gt-LEVEL_LIMIT-clause-built t c = λ can. too_deep_stops (setting_built c.args.self.now) c.args.of.number (handed_data c.args.handed) (map collected_field (c.args.field.now ∷ c.args.others.now)) c.args.self.now.left c.if-self-eq0.false c.key_of-key.result.now c.key_of-key.ensures (levels_from c.args.depth) (no_levels c.args.depth c.if-depth-gt-LEVEL_LIMIT.true) c.stopped.result c.stopped.ensures
+build_node-returns-then-depth-gt-LEVEL_LIMIT-clause-built t c = λ can. too_deep_stops (setting_built c.args.self.now) c.args.of.number (handed_data c.args.handed) (node_seen c.args.self.now (c.args.field.now ∷ c.args.others.now) c.args.below.now) c.args.self.now.left c.if-self-eq0.false c.key_of-key.result.now c.key_of-key.ensures (levels_from c.args.depth) (no_levels c.args.depth c.if-depth-gt-LEVEL_LIMIT.true) c.stopped.result c.stopped.ensures
 
 pub build_node-returns-in-Err-clause-built : goal.build_node-returns-in-Err-clause-built
-build_node-returns-in-Err-clause-built t c = λ can. fault_stops (setting_built c.args.self.now) c.args.of.number (handed_data c.args.handed) (map collected_field (c.args.field.now ∷ c.args.others.now)) c.args.self.now.left c.if-self-eq0.false c.key_of-key.result.now c.key_of-key.ensures (levels_from c.args.depth) (levels_from (c.args.depth + 1)) (levels_more c.args.depth c.if-depth-gt-LEVEL_LIMIT.false) _ (fault_told c.in-Err.why)
+build_node-returns-in-Err-clause-built t c = λ can. fault_stops (setting_built c.args.self.now) c.args.of.number (handed_data c.args.handed) (node_seen c.args.self.now (c.args.field.now ∷ c.args.others.now) c.args.below.now) c.args.self.now.left c.if-self-eq0.false c.key_of-key.result.now c.key_of-key.ensures (levels_from c.args.depth) (levels_from (c.args.depth + 1)) (levels_more c.args.depth c.if-depth-gt-LEVEL_LIMIT.false) _ (fault_told c.in-Err.why)
     (subst (λ (pl : Planning). IsThere (fault_told c.in-Err.why) (fault_of (setting_of_planning pl) c.args.of.number (handed_data c.args.handed) (map collected_field (c.args.field.now ∷ c.args.others.now)))) c.planning-planning.ensures (c.in-Err.ensures.looks (kept_before c.args.self.now _ c.planning-planning.ensures can.0)))
     c.stopped-in-Err.ensures
 
 pub build_node-returns-in-Ok-build_types-clause-built : goal.build_node-returns-in-Ok-build_types-clause-built
 build_node-returns-in-Ok-build_types-clause-built t c = λ can.
-    let here = below_built c.args.self.now c.push_row.new.self c.build_types.new.self c.args.depth c.args.of.number c.args.first c.args.field.now c.args.others.now (handed_data c.args.handed) c.in-Ok.looked c.types_at-types.result.now c.as_slice.result.now c.in_ok-push_row-in-Ok.ensures.frame (subst (λ (pl : Planning). IsFound (setting_of_planning pl) c.args.of.number (handed_data c.args.handed) (collected_field c.args.field.now).call c.in-Ok.looked) c.planning-planning.ensures (c.in-Ok.ensures.looks (kept_before c.args.self.now _ c.planning-planning.ensures can.0)).1)
-    (c.types_at-types.ensures ∙ ap (λ (pl : Planning). types_at (setting_of_planning pl).schema c.in-Ok.looked.field) c.planning-planning.ensures) (c.as_slice.ensures.value ∙ c.in_ok-lists-in-Ok.ensures) can.1 (Ok c.in-Ok-build_types.field-0) (c.in_ok-push_row-in-Ok.ensures.ready (can_still c.args.self.now _ _ c.look.new.calls c.planning-planning.ensures c.in-Ok.ensures.kept can.0)) c.in-Ok-build_types.ensures.built in (
-      below_fine (setting_built c.args.self.now) c.args.of.number (handed_data c.args.handed) (map collected_field (c.args.field.now ∷ c.args.others.now)) c.args.self.now.left c.if-self-eq0.false c.key_of-key.result.now c.key_of-key.ensures (levels_from c.args.depth) (levels_from (c.args.depth + 1)) c.build_types.new.self.left (levels_more c.args.depth c.if-depth-gt-LEVEL_LIMIT.false) (ap (λ (pl : Planning). fault_of (setting_of_planning pl) c.args.of.number (handed_data c.args.handed) (map collected_field (c.args.field.now ∷ c.args.others.now))) (sym c.planning-planning.ensures) ∙ (c.in-Ok.ensures.looks (kept_before c.args.self.now _ c.planning-planning.ensures can.0)).0)
-          (ap (λ n. outcome n (below_visits (setting_built c.args.self.now) c.args.of.number (handed_data c.args.handed) (map collected_field (c.args.field.now ∷ c.args.others.now)) (levels_from (c.args.depth + 1)))) (sym c.in_ok-push_row-in-Ok.ensures.left) ∙ here.0),
-      rows_there c.args.self.now c.push_row.new.self c.build_types.new.self c.args.depth c.args.of.number c.args.first c.args.field.now c.args.others.now (handed_data c.args.handed) c.in-Ok.looked c.types_at-types.result.now c.as_slice.result.now c.in_ok-push_row-in-Ok.ensures.frame (subst (λ (pl : Planning). IsFound (setting_of_planning pl) c.args.of.number (handed_data c.args.handed) (collected_field c.args.field.now).call c.in-Ok.looked) c.planning-planning.ensures (c.in-Ok.ensures.looks (kept_before c.args.self.now _ c.planning-planning.ensures can.0)).1)
-          (c.types_at-types.ensures ∙ ap (λ (pl : Planning). types_at (setting_of_planning pl).schema c.in-Ok.looked.field) c.planning-planning.ensures) (c.as_slice.ensures.value ∙ c.in_ok-lists-in-Ok.ensures) can.1 c.if-depth-gt-LEVEL_LIMIT.false can.0.plan c.in_ok-push_row-in-Ok.ensures.pushed here.1,
+    let here = below_built c.args.self.now c.push_row.new.self c.build_types.new.self c.args.depth c.args.of.number c.args.first c.args.field.now c.args.others.now (handed_data c.args.handed) c.in-Ok.looked c.types_at-types.result.now c.args.below.now c.in_ok-push_row-in-Ok.ensures.collector (subst (λ (pl : Planning). IsFound (setting_of_planning pl) c.args.of.number (handed_data c.args.handed) (collected_field c.args.field.now).call c.in-Ok.looked) c.planning-planning.ensures (c.in-Ok.ensures.looks (kept_before c.args.self.now _ c.planning-planning.ensures can.0)).1)
+    (c.types_at-types.ensures ∙ ap (λ (pl : Planning). types_at (setting_of_planning pl).schema c.in-Ok.looked.field) c.planning-planning.ensures) (Ok c.in-Ok-build_types.field-0) (c.in_ok-push_row-in-Ok.ensures.ready (can_still c.args.self.now _ _ c.look.new.calls c.planning-planning.ensures c.in-Ok.ensures.kept can.0)) can.1 c.in-Ok-build_types.ensures.built in (
+      below_fine (setting_built c.args.self.now) c.args.of.number (handed_data c.args.handed) (node_seen c.args.self.now (c.args.field.now ∷ c.args.others.now) c.args.below.now) c.args.self.now.left c.if-self-eq0.false c.key_of-key.result.now c.key_of-key.ensures (levels_from c.args.depth) (levels_from (c.args.depth + 1)) c.build_types.new.self.left (levels_more c.args.depth c.if-depth-gt-LEVEL_LIMIT.false) (ap (λ (pl : Planning). fault_of (setting_of_planning pl) c.args.of.number (handed_data c.args.handed) (map collected_field (c.args.field.now ∷ c.args.others.now))) (sym c.planning-planning.ensures) ∙ (c.in-Ok.ensures.looks (kept_before c.args.self.now _ c.planning-planning.ensures can.0)).0)
+          (ap (λ n. outcome n (below_visits (setting_built c.args.self.now) c.args.of.number (handed_data c.args.handed) (node_seen c.args.self.now (c.args.field.now ∷ c.args.others.now) c.args.below.now) (levels_from (c.args.depth + 1)))) (sym c.in_ok-push_row-in-Ok.ensures.left) ∙ here.0),
+      rows_there c.args.self.now c.push_row.new.self c.build_types.new.self c.args.depth c.args.of.number c.args.first c.args.field.now c.args.others.now (handed_data c.args.handed) c.in-Ok.looked c.types_at-types.result.now c.args.below.now c.in_ok-push_row-in-Ok.ensures.collector (subst (λ (pl : Planning). IsFound (setting_of_planning pl) c.args.of.number (handed_data c.args.handed) (collected_field c.args.field.now).call c.in-Ok.looked) c.planning-planning.ensures (c.in-Ok.ensures.looks (kept_before c.args.self.now _ c.planning-planning.ensures can.0)).1)
+          (c.types_at-types.ensures ∙ ap (λ (pl : Planning). types_at (setting_of_planning pl).schema c.in-Ok.looked.field) c.planning-planning.ensures) c.if-depth-gt-LEVEL_LIMIT.false can.0.plan c.in_ok-push_row-in-Ok.ensures.pushed here.1,
     )
 
-pub build_node-returns-clause-built : goal.build_node-returns-clause-built
-build_node-returns-clause-built t c = λ can.
-    below_stops (setting_built c.args.self.now) c.args.of.number (handed_data c.args.handed) (map collected_field (c.args.field.now ∷ c.args.others.now)) c.args.self.now.left c.if-self-eq0.false c.key_of-key.result.now c.key_of-key.ensures (levels_from c.args.depth) (levels_from (c.args.depth + 1)) (levels_more c.args.depth c.if-depth-gt-LEVEL_LIMIT.false) (ap (λ (pl : Planning). fault_of (setting_of_planning pl) c.args.of.number (handed_data c.args.handed) (map collected_field (c.args.field.now ∷ c.args.others.now))) (sym c.planning-planning.ensures) ∙ (c.in-Ok.ensures.looks (kept_before c.args.self.now _ c.planning-planning.ensures can.0)).0) c.in-Err-build_types.stop c.under.result
-    (subst (λ n. IsStop c.in-Err-build_types.stop (outcome n (below_visits (setting_built c.args.self.now) c.args.of.number (handed_data c.args.handed) (map collected_field (c.args.field.now ∷ c.args.others.now)) (levels_from (c.args.depth + 1))))) c.in_ok-push_row-in-Ok.ensures.left
-    (below_built c.args.self.now c.push_row.new.self c.build_types.new.self c.args.depth c.args.of.number c.args.first c.args.field.now c.args.others.now (handed_data c.args.handed) c.in-Ok.looked c.types_at-types.result.now c.as_slice.result.now c.in_ok-push_row-in-Ok.ensures.frame (subst (λ (pl : Planning). IsFound (setting_of_planning pl) c.args.of.number (handed_data c.args.handed) (collected_field c.args.field.now).call c.in-Ok.looked) c.planning-planning.ensures (c.in-Ok.ensures.looks (kept_before c.args.self.now _ c.planning-planning.ensures can.0)).1)
-    (c.types_at-types.ensures ∙ ap (λ (pl : Planning). types_at (setting_of_planning pl).schema c.in-Ok.looked.field) c.planning-planning.ensures) (c.as_slice.ensures.value ∙ c.in_ok-lists-in-Ok.ensures) can.1 (Err c.in-Err-build_types.stop) (c.in_ok-push_row-in-Ok.ensures.ready (can_still c.args.self.now _ _ c.look.new.calls c.planning-planning.ensures c.in-Ok.ensures.kept can.0)) c.in-Err-build_types.ensures.built))
+pub build_node-returns-in-Err-build_types-clause-built : goal.build_node-returns-in-Err-build_types-clause-built
+build_node-returns-in-Err-build_types-clause-built t c = λ can.
+    below_stops (setting_built c.args.self.now) c.args.of.number (handed_data c.args.handed) (node_seen c.args.self.now (c.args.field.now ∷ c.args.others.now) c.args.below.now) c.args.self.now.left c.if-self-eq0.false c.key_of-key.result.now c.key_of-key.ensures (levels_from c.args.depth) (levels_from (c.args.depth + 1)) (levels_more c.args.depth c.if-depth-gt-LEVEL_LIMIT.false) (ap (λ (pl : Planning). fault_of (setting_of_planning pl) c.args.of.number (handed_data c.args.handed) (map collected_field (c.args.field.now ∷ c.args.others.now))) (sym c.planning-planning.ensures) ∙ (c.in-Ok.ensures.looks (kept_before c.args.self.now _ c.planning-planning.ensures can.0)).0) c.in-Err-build_types.stop c.under.result
+    (subst (λ n. IsStop c.in-Err-build_types.stop (outcome n (below_visits (setting_built c.args.self.now) c.args.of.number (handed_data c.args.handed) (node_seen c.args.self.now (c.args.field.now ∷ c.args.others.now) c.args.below.now) (levels_from (c.args.depth + 1))))) c.in_ok-push_row-in-Ok.ensures.left
+    (below_built c.args.self.now c.push_row.new.self c.build_types.new.self c.args.depth c.args.of.number c.args.first c.args.field.now c.args.others.now (handed_data c.args.handed) c.in-Ok.looked c.types_at-types.result.now c.args.below.now c.in_ok-push_row-in-Ok.ensures.collector (subst (λ (pl : Planning). IsFound (setting_of_planning pl) c.args.of.number (handed_data c.args.handed) (collected_field c.args.field.now).call c.in-Ok.looked) c.planning-planning.ensures (c.in-Ok.ensures.looks (kept_before c.args.self.now _ c.planning-planning.ensures can.0)).1)
+    (c.types_at-types.ensures ∙ ap (λ (pl : Planning). types_at (setting_of_planning pl).schema c.in-Ok.looked.field) c.planning-planning.ensures) (Err c.in-Err-build_types.stop) (c.in_ok-push_row-in-Ok.ensures.ready (can_still c.args.self.now _ _ c.look.new.calls c.planning-planning.ensures c.in-Ok.ensures.kept can.0)) can.1 c.in-Err-build_types.ensures.built))
     c.under.ensures
 
 pub build_node-returns-in_err-push_row-in-Ok-clause-ready : goal.build_node-returns-in_err-push_row-in-Ok-clause-ready
 build_node-returns-in_err-push_row-in-Ok-clause-ready t c = λ can. c.in_err-push_row-in-Ok.ensures.ready (can_still c.args.self.now _ _ c.look.new.calls c.planning-planning.ensures c.in-Ok.ensures.kept can)
 
-pub build_node-returns-in_err-lists-in-Ok-clause-ready : goal.build_node-returns-in_err-lists-in-Ok-clause-ready
-build_node-returns-in_err-lists-in-Ok-clause-ready t c = λ can. c.in_ok-push_row-in-Ok.ensures.ready (can_still c.args.self.now _ _ c.look.new.calls c.planning-planning.ensures c.in-Ok.ensures.kept can)
-
 pub build_node-returns-in-Ok-build_types-clause-ready : goal.build_node-returns-in-Ok-build_types-clause-ready
 build_node-returns-in-Ok-build_types-clause-ready t c = λ can. c.in-Ok-build_types.ensures.ready (c.in_ok-push_row-in-Ok.ensures.ready (can_still c.args.self.now _ _ c.look.new.calls c.planning-planning.ensures c.in-Ok.ensures.kept can))
 
-pub build_node-returns-clause-ready : goal.build_node-returns-clause-ready
-build_node-returns-clause-ready t c = λ can. c.in-Err-build_types.ensures.ready (c.in_ok-push_row-in-Ok.ensures.ready (can_still c.args.self.now _ _ c.look.new.calls c.planning-planning.ensures c.in-Ok.ensures.kept can))
+pub build_node-returns-in-Err-build_types-clause-ready : goal.build_node-returns-in-Err-build_types-clause-ready
+build_node-returns-in-Err-build_types-clause-ready t c = λ can. c.in-Err-build_types.ensures.ready (c.in_ok-push_row-in-Ok.ensures.ready (can_still c.args.self.now _ _ c.look.new.calls c.planning-planning.ensures c.in-Ok.ensures.kept can))
 
 pub build_type-returns-clause-ready : goal.build_type-returns-clause-ready
-build_type-returns-clause-ready t c = λ can. c.build_groups.ensures.ready (can_after c.args.self.now c.collect.new.self c.collect.ensures.planning c.collect.ensures.ready can)
+build_type-returns-clause-ready t c = λ can. c.build_groups.ensures.ready (can_after c.args.self.now c.collect.new.self c.collect.ensures.grows.planning c.collect.ensures.grows.ready can)
+
+pub build_node-returns-in_err-push_row-in-Ok-clause-numbers : goal.build_node-returns-in_err-push_row-in-Ok-clause-numbers
+build_node-returns-in_err-push_row-in-Ok-clause-numbers t c = subst (λ (k : Collector). HasMore c.args.self.now.collector.joins k.joins) (sym c.in_err-push_row-in-Ok.ensures.collector) (more_itself c.args.self.now.collector.joins)
+
+pub build_node-returns-in-Ok-build_types-clause-numbers : goal.build_node-returns-in-Ok-build_types-clause-numbers
+build_node-returns-in-Ok-build_types-clause-numbers t c = subst (λ (k : Collector). HasMore k.joins c.build_types.new.self.collector.joins) c.in_ok-push_row-in-Ok.ensures.collector c.in-Ok-build_types.ensures.numbers
+
+pub build_node-returns-in-Err-build_types-clause-numbers : goal.build_node-returns-in-Err-build_types-clause-numbers
+build_node-returns-in-Err-build_types-clause-numbers t c = subst (λ (k : Collector). HasMore k.joins c.build_types.new.self.collector.joins) c.in_ok-push_row-in-Ok.ensures.collector c.in-Err-build_types.ensures.numbers

@@ -1,0 +1,9 @@
+use Rattle.collected_fields.proofs.FinishLaws.{stand_themselves}
+use Rattle.collected_fields.proofs.ListLaws.{more_itself}
+use Rattle.collected_fields.proofs.joins.Joins.few.Goals as goal
+
+pub returns-then-len-lt-FEW-clause-few : goal.returns-then-len-lt-FEW-clause-few
+returns-then-len-lt-FEW-clause-few c = stand_themselves c.args.self.now c.args.self.now c.args.numbers.items (more_itself c.args.self.now)
+
+pub returns-in-None-clause-few : goal.returns-in-None-clause-few
+returns-in-None-clause-few c = stand_themselves c.args.self.now c.one.new.self c.args.numbers.items c.one.ensures.more
