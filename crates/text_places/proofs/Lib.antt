@@ -1,3 +1,4 @@
 pub mod LinesOfText
 pub mod Walking
 pub mod LineBorders
+mod CountedCharacters

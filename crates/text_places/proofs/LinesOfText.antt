@@ -160,3 +160,27 @@ line_among text at within =
     ∙ sym (get_or-drop (lines_ended text at) (lines_of text) 0 [])
     ∙ ap (λ (ls : List (List ℕ)). get_or ls 0 []) s.lines
     ∙ first_line_is (drop (line_start text at) text)
+
+-- ---- a text has this line
+
+some_lines : (text : List ℕ) → 0 < length (lines_of text)
+unfolding lines_of
+some_lines [] = omega arith
+some_lines (c ∷ cs) = rw (one_byte c cs) (by ((c == 13) && (get_or cs 0 0 == 10)) (is_line_end c) (some_lines cs))
+  where
+    by : (pair end : Bool) → 0 < length (lines_of cs) → 0 < length (lines_with pair end c (lines_of cs))
+    by true end some = some
+    by false true some = omega arith
+    by false false some = begun_some (lines_of cs)
+      where
+        begun_some : (ls : List (List ℕ)) → 0 < length (begun_with c ls)
+        begun_some [] = omega arith
+        begun_some (l ∷ ls) = omega arith
+
+pub line_there : (text : List ℕ) (at : ℕ) → at ≤ length text → lines_ended text at < length (lines_of text)
+line_there text at within =
+    let s = stands text at within in
+    let left = length-drop (lines_ended text at) (lines_of text) in
+    let same = ap (λ (ls : List (List ℕ)). length ls) s.lines in
+    let some = some_lines (drop (line_start text at) text) in
+    omega (arith, left, same, some)

@@ -1,5 +1,6 @@
 -- How a place in a text is shown: its line, and a mark below the character that stands there.
-use Rattle.std.specs.Prelude.{ℕ, ◌-◌, ◌/◌, ◌==◌, min, List, [], ◌∷◌, ◌++◌, length, take, drop, map, if◌then◌else◌}
+use Rattle.std.specs.Prelude.{ℕ, ◌-◌, ◌/◌, ◌==◌, ◌&&◌, not, min, List, [], ◌∷◌, ◌++◌, length, take, drop, map, if◌then◌else◌}
+use Rattle.std.specs.Char.{is_control}
 use Rattle.std.specs.Str.{chars, encode_utf8_all}
 use Rattle.text_places.specs.declared.marks.TheConstants.{SHOWN}
 use Rattle.text_places.specs.Places.{line_of, line_before, characters}
@@ -13,6 +14,10 @@ first_shown n front = min (front - SHOWN / 2) (n - SHOWN)
 abbrev pub shown_characters : ℕ → List ℕ → List ℕ
 shown_characters front cs = take SHOWN (drop (first_shown (length cs) front) cs)
 
+-- How a character is shown: a control character that isn't a tab as U+FFFD, so that none comes to a terminal and the mark stands where it should.
+abbrev pub shown : ℕ → ℕ
+shown c = if is_control c && not (c == 9) then 65533 else c
+
 -- what stands below a character in front of the mark: a tab below a tab, so that the mark stands where it should
 abbrev pub blank_below : ℕ → ℕ
 blank_below c = if c == 9 then 9 else 32
@@ -23,7 +28,7 @@ shown_front front cs = take (front - first_shown (length cs) front) (shown_chara
 
 -- the line as it is shown, a line feed, and the mark below it
 abbrev pub marked : ℕ → List ℕ → List ℕ
-marked front cs = encode_utf8_all (shown_characters front cs) ++ (10 ∷ (map blank_below (shown_front front cs) ++ (94 ∷ [])))
+marked front cs = encode_utf8_all (map shown (shown_characters front cs)) ++ (10 ∷ (map blank_below (shown_front front cs) ++ (94 ∷ [])))
 
 -- the line of an offset with its mark
 abbrev pub marked_line : List ℕ → ℕ → List ℕ

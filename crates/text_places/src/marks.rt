@@ -3,7 +3,7 @@
 ghost use Rattle.std.specs.Prelude.{◌≡◌, ◌+◌, ◌++◌, ◌≤◌, ◌∷◌, [], IfOk, OnOk, length, take, drop, map, min, string_bytes};
 ghost use Rattle.std.specs.Str.{chars, encode_utf8_all};
 ghost use Rattle.text_places.specs.Places.{line_of, line_before, characters};
-ghost use Rattle.text_places.specs.Marks.{first_shown, shown_characters, shown_front, blank_below, marked, marked_line};
+ghost use Rattle.text_places.specs.Marks.{first_shown, shown_characters, shown_front, shown, blank_below, marked, marked_line};
 
 use crate::places::place_in;
 use std::alloc::{AllocError, Global};
@@ -31,11 +31,22 @@ fn characters_of(alloc: Global, text: &str) -> Result<Vec<char>, AllocError>
     Ok(all)
 }
 
-fn push_all(all: &[char], into: &mut String) -> Result<(), AllocError>
-    ensures { OnOk result (string_bytes into.new ≡ string_bytes into.old ++ encode_utf8_all all.now) }
+/// How a character is shown.
+fn shown(character: char) -> char
+    ensures { result ≡ shown character }
+{
+    if character.is_control() && character != '\t' {
+        '\u{fffd}'
+    } else {
+        character
+    }
+}
+
+fn push_shown(all: &[char], into: &mut String) -> Result<(), AllocError>
+    ensures { OnOk result (string_bytes into.new ≡ string_bytes into.old ++ encode_utf8_all (map shown all.now)) }
 {
     for character in all {
-        into.push(*character)?;
+        into.push(shown(*character))?;
     }
     Ok(())
 }
@@ -72,16 +83,16 @@ fn push_marked(all: &[char], front: usize, into: &mut String) -> Result<(), Allo
     ensures { OnOk result (string_bytes into.new ≡ string_bytes into.old ++ marked front all.now) }
 {
     let first = first_shown(all.len(), front);
-    let shown = first_of(&all[first..], SHOWN);
-    push_all(shown, into)?;
+    let part = first_of(&all[first..], SHOWN);
+    push_shown(part, into)?;
     into.push_str("\n")?;
-    push_blanks(first_of(shown, front.saturating_sub(first)), into)?;
+    push_blanks(first_of(part, front.saturating_sub(first)), into)?;
     into.push_str("^")
 }
 
 /// Appends the line of the text in which an offset is, and below it a mark under the character that stands there: `^`. In front of
 /// the mark a tab stands below a tab, and a space below each other character. Of a line of more than `SHOWN` characters those around the
-/// mark are shown. An offset past the end of the text is that of its end.
+/// mark are shown. A control character other than a tab is shown as U+FFFD. An offset past the end of the text is that of its end.
 ///
 /// # Errors
 ///

@@ -13,6 +13,13 @@ const ROWS: &[(&str, usize, usize, usize, &str)] = &[
     ("{\n\ta\r\n\t b ?\r}", 5, 2, 3, "\ta\n\t ^"),
     ("{\n\ta\r\n\t b ?\r}", 12, 4, 1, "}\n^"),
     (
+        "{ a\u{1b}[1m\u{7f}\u{9b} ? }",
+        11,
+        1,
+        11,
+        "{ a\u{fffd}[1m\u{fffd}\u{fffd} ? }\n          ^",
+    ),
+    (
         "# \u{e9}\u{1f600}\u{fe} ?",
         11,
         1,
