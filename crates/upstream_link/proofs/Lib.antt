@@ -9,3 +9,5 @@ pub mod OneReply
 pub mod NoFault
 pub mod OneFault
 pub mod Either
+mod OneHead
+mod TrailerLines

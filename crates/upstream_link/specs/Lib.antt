@@ -3,6 +3,7 @@ pub mod ReplyHeads
 pub mod Framing
 pub mod Bodies
 pub mod Chunks
+pub mod Trailers
 pub mod RequestBytes
 pub mod Exchanges
 pub mod Received

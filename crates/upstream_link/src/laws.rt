@@ -1,14 +1,34 @@
-//! Laws on replies.
+//! Laws on requests and replies.
 
-ghost use Rattle.std.specs.Prelude.{◌≡◌, ◌⊎◌, ◌≤◌, ℕ, ◌++◌, List, Bool, true, false, Ok, Err, length, drop};
+ghost use Rattle.std.specs.Prelude.{◌≡◌, ◌⊎◌, ◌≤◌, ℕ, ◌++◌, List, Bool, true, false, Some, Ok, Err, length, take, drop};
+ghost use Rattle.httparse.specs.Grammar.{Field, RequestHead, ReadsRequest};
 ghost use Rattle.upstream_link.specs.declared.fault.LinkFault.{LinkFault};
 ghost use Rattle.upstream_link.specs.declared.fault.LinkFault.TheVariants as fault;
 ghost use Rattle.upstream_link.specs.declared.reply.UpstreamReply.{UpstreamReply};
 ghost use Rattle.upstream_link.specs.Replies.{ReplyOf, HoldsReply, HoldsFault, IsUndecided, AreOne};
 ghost use Rattle.upstream_link.specs.Service.{IsSeen, AreSeen};
+ghost use Rattle.upstream_link.specs.RequestBytes.{MayBeSent, bytes_with, head_with};
+ghost use Rattle.upstream_link.specs.Chunks.{trailer_length};
+ghost use Rattle.upstream_link.specs.Trailers.{IsTrailer};
 
 use crate::chunks::{after, look_at};
 use crate::heads::look_at_head;
+
+/// Where target, host and the lines of further fields are in the grammar of heads, a request is one head with the fields that every request
+/// has, just these further ones behind them, and the body behind it. No line that is passed on ends the head or begins another request.
+pub fn a_request_is_one_head()
+    ensures reads { (host target body : List ℕ) (further : List Field) → MayBeSent host target further body
+        → ReadsRequest (bytes_with host target further body) (head_with host target further body) body }
+    ensures one { (host target body rest : List ℕ) (further : List Field) (h : RequestHead) → MayBeSent host target further body
+        → ReadsRequest (bytes_with host target further body) h rest → (h ≡ head_with host target further body) × (rest ≡ body) }
+{}
+
+/// What is passed over behind the last chunk is a trailer: lines that aren't empty, and then an empty one. It has a length just where such
+/// bytes stand at the front, and then it is theirs.
+pub fn a_trailer_is_lines()
+    ensures found { (bytes : List ℕ) (n : ℕ) → trailer_length bytes ≡ Some n → (n ≤ length bytes) × IsTrailer (take n bytes) }
+    ensures only { (trailer rest : List ℕ) → IsTrailer trailer → trailer_length (trailer ++ rest) ≡ Some (length trailer) }
+{}
 
 /// Bytes that begin with a whole reply have no fault but want of memory. They begin with one reply, and one that
 /// is whole before the end was met is the same with other bytes behind it.
