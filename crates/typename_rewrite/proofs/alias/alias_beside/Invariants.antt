@@ -4,7 +4,7 @@ use Rattle.typename_rewrite.proofs.AliasSteps.{IsTried, longest}
 use Rattle.typename_rewrite.proofs.alias.alias_beside.Given as goal
 
 abbrev pub invariant-longer : goal.invariant-longer
-invariant-longer l = IsTried (map word_text l.taken.items.now) (string_bytes l.alias)
+invariant-longer l = IsTried (map word_text l.taken) (string_bytes l.alias)
 
 abbrev pub decreases-longer : goal.decreases-longer
-decreases-longer l = suc (longest (map word_text l.taken.items.now)) - length (string_bytes l.alias)
+decreases-longer l = suc (longest (map word_text l.taken)) - length (string_bytes l.alias)
