@@ -5,3 +5,4 @@ pub mod Either
 pub mod OneFault
 pub mod Digits
 mod OneLines
+mod PassedLines

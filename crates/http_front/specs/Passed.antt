@@ -1,7 +1,7 @@
 -- Which fields of a client's request may be passed on, and the lines in which they are (RFC 9110, section 7.6; RFC 9112, section 5).
-use Rattle.std.specs.Prelude.{◌≢◌, ℕ, Bool, not, ◌&&◌, List, [], ◌∷◌, ◌++◌, take, codes, if◌then◌else◌, All}
+use Rattle.std.specs.Prelude.{◌≡◌, ◌≢◌, ℕ, Bool, not, ◌&&◌, List, [], ◌∷◌, ◌++◌, take, codes, if◌then◌else◌, IsTrue, All}
 use Rattle.std.specs.List.{list_any, flat_map}
-use Rattle.httparse.specs.Grammar.{is_token}
+use Rattle.httparse.specs.Grammar.{is_token, Field, IsField, print_field}
 use Rattle.http_fields.specs.Fields.{NameAndValue, same_in_any_case}
 
 -- whether a name is one of these, whatever the case of its letters
@@ -45,3 +45,11 @@ HasNoBreak bytes = All (λ b. (b ≢ 13) × (b ≢ 10) × (b ≢ 0)) bytes
 
 abbrev pub StandsInOneLine : NameAndValue → Type 0
 StandsInOneLine field = HasNoBreak field.0 × HasNoBreak field.1
+
+-- a field of the grammar of heads, whose name may be passed on
+abbrev pub IsPassedOn : Field → Type 0
+IsPassedOn field = IsField field × IsTrue (may_be_passed field.name)
+
+-- The bytes are whole lines of such fields.
+abbrev pub ArePassedLines : List ℕ → Type 0
+ArePassedLines lines = (fields : List Field) × All IsPassedOn fields × (lines ≡ flat_map print_field fields)

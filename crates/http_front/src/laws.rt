@@ -6,7 +6,7 @@ ghost use Rattle.http_front.specs.declared.fault.FrontFault.TheVariants as fault
 ghost use Rattle.http_front.specs.declared.front.Ask.{Ask};
 ghost use Rattle.httparse.specs.Grammar.{Field, IsField};
 ghost use Rattle.httparse.specs.Spans.{name_and_value};
-ghost use Rattle.http_front.specs.Passed.{StandsInOneLine};
+ghost use Rattle.http_front.specs.Passed.{StandsInOneLine, ArePassedLines};
 ghost use Rattle.http_front.specs.Asks.{IsAsk, IsUndecided, HasFault, HoldsRequest, HoldsFault, AreOne};
 
 use crate::head::find_head;
@@ -32,6 +32,12 @@ pub fn bytes_hold_a_request_or_a_fault(bytes: &[u8])
 /// What is passed on of a field stands in one line: neither its name nor its value holds CR, LF or NUL.
 pub fn fields_stand_in_one_line()
     ensures { (field : Field) → IsField field → StandsInOneLine (name_and_value field) }
+{}
+
+/// What is passed on of a request is nothing but whole lines of fields that may be passed on, in the grammar of heads: no empty line
+/// is among them, so that they end no head.
+pub fn what_is_passed_on_is_lines_of_fields()
+    ensures { (names : List (List ℕ)) (bytes rest : List ℕ) (ask : Ask) → IsAsk names bytes ask rest → ArePassedLines ask.passed.items }
 {}
 
 /// Where it takes more bytes to tell and the end is met, the bytes have a fault. Two faults of the same bytes are the
