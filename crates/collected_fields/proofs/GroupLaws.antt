@@ -1,22 +1,24 @@
 -- The fields of a key, with one field more.
-use Rattle.std.proofs.Common.{◌≡◌, ⊎_elim, ℕ, zero, suc, ◌+◌, ◌<◌, ◌≤◌, List, [], ◌∷◌, ◌++◌, map, take, filter, length, slice_set, get_or, Bool, true, false, true≢false, ◌||◌, bytes_eq, Option, Some, None, Vec, append-nil, refl, sym, ap, ◌∙◌, subst, arith, if◌then◌else◌}
+use Rattle.std.proofs.Common.{◌≡◌, ⊎_elim, ℕ, zero, suc, ◌+◌, ◌<◌, ◌≤◌, ltb, List, [], ◌∷◌, ◌++◌, map, take, filter, length, slice_get, get_or, Bool, true, false, true≢false, ◌||◌, bytes_eq, Option, Some, None, Vec, append-nil, is_some, refl, sym, ap, ◌∙◌, subst, arith, if◌then◌else◌}
 use Rattle.std.specs.declared.alloc.Global.{Global}
 use Rattle.std.specs.Prelude.{option_map, All}
-use Rattle.std.specs.Map.{update}
 use Rattle.std.specs.List.{list_any}
-use Rattle.std.proofs.lemmas.Bool.{cases_Bool}
+use Rattle.std.proofs.lemmas.Bool.{cases_Bool, cases_lt, lt-ltb, le-ltb}
 use Rattle.std.proofs.lemmas.Option.{none-some, same_Some}
 use Rattle.std.proofs.lemmas.List.{map_push, take_more, take_all, length-map}
 use Rattle.std.proofs.lemmas.List.Elements.{All-cons}
 use Rattle.std.proofs.lemmas.Slice.Eq.{bytes_eq-Decides}
-use Rattle.gql_base.specs.names.Indexes.{at_name}
+use Rattle.std.specs.Map.{values_of, keys_of as keys_of_entries}
+use Rattle.std.specs.Borrow.{Bor}
+use Rattle.indexmap.specs.Layout.{set_value_at}
+use Rattle.std.specs.List.{position, position_or_len}
 use Rattle.plan_model.specs.Collecting.{CollectedField}
 use Rattle.plan_model.specs.Merging.{keys_from, keys_of, has_key, fields_of_key}
 use Rattle.plan_model.proofs.Thinning.{Each}
 use Rattle.collected_fields.specs.declared.group.Groups.{Groups}
 use Rattle.collected_fields.specs.declared.collected.Collected.{Collected}
 use Rattle.collected_fields.specs.Walks.{NumberedField, numbered, field_alone, numbered_by_key, numbered_group}
-use Rattle.collected_fields.specs.Grouping.{place_in, appended_at, AreGrouped}
+use Rattle.collected_fields.specs.Grouping.{keys_grouped, fields_grouped, place_in, appended_at, AreGrouped}
 
 -- ---- names
 
@@ -25,6 +27,9 @@ bytes_same a = (bytes_eq-Decides a a).1 refl
 
 pub any_of_same : (a b : List ℕ) (names : List (List ℕ)) → bytes_eq a b ≡ true → list_any (bytes_eq a) names ≡ list_any (bytes_eq b) names
 any_of_same a b names is = ap (λ (n : List ℕ). list_any (bytes_eq n) names) ((bytes_eq-Decides a b).0 is)
+
+pub turned_eq : (a b : List ℕ) → bytes_eq a b ≡ true → bytes_eq b a ≡ true
+turned_eq a b is = (bytes_eq-Decides b a).1 (sym ((bytes_eq-Decides a b).0 is))
 
 pub swapped_eq : (a b : List ℕ) → bytes_eq a b ≡ false → bytes_eq b a ≡ false
 swapped_eq a b differ = ⊎_elim
@@ -161,20 +166,6 @@ unplaced key (k ∷ keys) h = ⊎_elim
     still None none unlike = none
     still (Some q) some unlike = absurd (none-some (suc q) (sym h ∙ (beyond unlike ∙ ap (option_map suc) some)))
 
-place_pushed : (new key : List ℕ) (keys : List (List ℕ)) → list_any (bytes_eq new) keys ≡ false → place_in key (keys ++ (new ∷ [])) ≡ (if bytes_eq new key then Some (length keys) else place_in key keys)
-place_pushed new key [] h = ⊎_elim (λ (is : bytes_eq new key ≡ true). rw (is) refl) (λ (unlike : bytes_eq new key ≡ false). rw (unlike) refl) (cases_Bool (bytes_eq new key))
-place_pushed new key (k ∷ keys) h = ⊎_elim
-    (λ (is : bytes_eq k key ≡ true). rw (is, not_new is) refl)
-    (λ (unlike : bytes_eq k key ≡ false). rw (unlike) (ap (option_map suc) (place_pushed new key keys (or_right (bytes_eq new k) (list_any (bytes_eq new) keys) h)) ∙ inside (bytes_eq new key)))
-    (cases_Bool (bytes_eq k key))
-  where
-    not_new : bytes_eq k key ≡ true → bytes_eq new key ≡ false
-    not_new is = ap (λ (n : List ℕ). bytes_eq new n) (sym ((bytes_eq-Decides k key).0 is)) ∙ or_left (bytes_eq new k) (list_any (bytes_eq new) keys) h
-
-    inside : (b : Bool) → option_map suc (if b then Some (length keys) else place_in key keys) ≡ (if b then Some (suc (length keys)) else option_map suc (place_in key keys))
-    inside true = refl
-    inside false = refl
-
 -- ---- a group with a field more
 
 abbrev Of : List NumberedField → List ℕ → List NumberedField
@@ -244,54 +235,78 @@ group_new fs f none =
       more,
     )
 
-pub put_longer : (fs : List NumberedField) (f : NumberedField) (old new : Groups) (p : ℕ) (key : List ℕ) → key ≡ f.0.key → at_name old.places key ≡ Some p → map numbered_group new.groups.items ≡ appended_at p f (map numbered_group old.groups.items) → new.places ≡ old.places → AreGrouped fs old → AreGrouped (fs ++ (f ∷ [])) new
+one_further : (n m : ℕ) → (if ltb (1 + n) (suc m) then Some (1 + n) else None) ≡ option_map suc (if ltb n m then Some n else None)
+one_further n m = ⊎_elim
+    (λ (less : n < m).
+    let longer : 1 + n < suc m = omega (arith, less) in
+    let next : 1 + n ≡ suc n = omega arith in
+    rw (lt-ltb (1 + n) (suc m) longer, lt-ltb n m less) (ap Some next))
+    (λ (past : m ≤ n).
+    let longer : suc m ≤ 1 + n = omega (arith, past) in
+    rw (le-ltb (1 + n) (suc m) longer, le-ltb n m past) refl)
+    (cases_lt n m)
+
+first_there : (m : ℕ) → if◌then◌else◌ {A = Option ℕ} (ltb 0 (suc m)) (Some 0) None ≡ Some 0
+first_there m =
+    let some : 0 < suc m = omega arith in
+    rw (lt-ltb 0 (suc m) some) refl
+
+-- a key is found where it stands
+pub found_place : (key : List ℕ) (ks : List (Bor (List ℕ))) → position (λ k. bytes_eq key k.now) ks ≡ place_in key (map (λ k. k.now) ks)
+found_place key [] = refl
+found_place key (k ∷ ks) = ⊎_elim
+    (λ (is : bytes_eq k.now key ≡ true). rw (is, turned_eq k.now key is) (first_there (length ks)))
+    (λ (unlike : bytes_eq k.now key ≡ false). rw (unlike, swapped_eq k.now key unlike) (one_further (position_or_len (λ x. bytes_eq key x.now) ks) (length ks) ∙ ap (option_map suc) (found_place key ks)))
+    (cases_Bool (bytes_eq k.now key))
+
+pub put_longer : (fs : List NumberedField) (f : NumberedField) (old new : Groups) (p : ℕ) (key : List ℕ) → key ≡ f.0.key → place_in key (keys_grouped old) ≡ Some p → fields_grouped new ≡ appended_at p f (fields_grouped old) → keys_grouped new ≡ keys_grouped old → AreGrouped fs old → AreGrouped (fs ++ (f ∷ [])) new
 put_longer fs f old new p key same there longer still g =
-    let found : place_in f.0.key (keys_of (map field_alone fs)) ≡ Some p = ap (λ (n : List ℕ). place_in n (keys_of (map field_alone fs))) (sym same) ∙ (sym (g.places key) ∙ there) in
+    let found : place_in f.0.key (keys_of (map field_alone fs)) ≡ Some p = ap (λ (ks : List (List ℕ)). place_in f.0.key ks) (sym g.keys) ∙ (ap (λ (n : List ℕ). place_in n (keys_grouped old)) (sym same) ∙ there) in
     let step = group_longer fs f p found in
+    record { grouped = longer ∙ (ap (appended_at p f) g.grouped ∙ sym step.0); keys = still ∙ (g.keys ∙ sym step.1) }
+
+-- a key that is new goes last, and its group with it
+pub entry_new : (es more : List (Bor (List ℕ) × Vec Collected Global)) (k : Bor (List ℕ)) (g : Vec Collected Global) (f : Collected) → more ≡ es ++ (k, g) ∷ [] → g.items ≡ f ∷ []
+    → (map numbered_group (values_of more) ≡ map numbered_group (values_of es) ++ ((numbered f ∷ []) ∷ [])) × (map (λ x. x.now) (keys_of_entries more) ≡ map (λ x. x.now) (keys_of_entries es) ++ (k.now ∷ []))
+entry_new es more k g f last alone = (
+  ap (λ xs. map numbered_group (values_of xs)) last ∙ (ap (map numbered_group) (map_push (λ e. e.1) es (k, g)) ∙ (map_push numbered_group (values_of es) g ∙ ap (λ (n : List Collected). map numbered_group (values_of es) ++ (map numbered n ∷ [])) alone)),
+  ap (λ xs. map (λ x. x.now) (keys_of_entries xs)) last ∙ (ap (map (λ x. x.now)) (map_push (λ e. e.0) es (k, g)) ∙ map_push (λ x. x.now) (keys_of_entries es) k),
+)
+
+pub none_there : {X : Type 0} (o : Option X) → is_some o ≡ false → o ≡ None
+none_there None none = refl
+none_there (Some x) none = absurd (true≢false none)
+
+pub put_new : (fs : List NumberedField) (f : Collected) (old new : Groups) (k : Bor (List ℕ)) (group : Vec Collected Global) → k.now ≡ (numbered f).0.key → place_in k.now (keys_grouped old) ≡ None → new.by_key.entries ≡ old.by_key.entries ++ (k, group) ∷ [] → group.items ≡ f ∷ [] → AreGrouped fs old → AreGrouped (fs ++ (numbered f ∷ [])) new
+put_new fs f old new k group same there last alone g =
+    let none : place_in (numbered f).0.key (keys_of (map field_alone fs)) ≡ None = ap (λ (ks : List (List ℕ)). place_in (numbered f).0.key ks) (sym g.keys) ∙ (ap (λ (n : List ℕ). place_in n (keys_grouped old)) (sym same) ∙ there) in
+    let step = group_new fs (numbered f) none in
+    let more = entry_new old.by_key.entries new.by_key.entries k group f last alone in
     record {
-      grouped = longer ∙ (ap (appended_at p f) g.grouped ∙ sym step.0);
-      places = λ k. ap (λ m. at_name m k) still ∙ (g.places k ∙ ap (place_in k) (sym step.1));
+      grouped = more.0 ∙ (ap (λ (gs : List (List NumberedField)). gs ++ ((numbered f ∷ []) ∷ [])) g.grouped ∙ sym step.0);
+      keys = more.1 ∙ (ap (λ (ks : List (List ℕ)). ks ++ (k.now ∷ [])) g.keys ∙ (ap (λ (n : List ℕ). keys_of (map field_alone fs) ++ (n ∷ [])) same ∙ sym step.1));
     }
 
-pub put_new : (fs : List NumberedField) (f : NumberedField) (old new : Groups) (count : ℕ) (key : List ℕ) → key ≡ f.0.key → at_name old.places key ≡ None → map numbered_group new.groups.items ≡ map numbered_group old.groups.items ++ ((f ∷ []) ∷ []) → count ≡ length old.groups.items
-    → ((k : List ℕ) → at_name new.places k ≡ update bytes_eq (at_name old.places) key (Some count) k) → AreGrouped fs old → AreGrouped (fs ++ (f ∷ [])) new
-put_new fs f old new count key same there longer counted put g =
-    let keys : List (List ℕ) = keys_of (map field_alone fs) in
-    let none : place_in f.0.key keys ≡ None = ap (λ (n : List ℕ). place_in n keys) (sym same) ∙ (sym (g.places key) ∙ there) in
-    let step = group_new fs f none in
-    let long : count ≡ length keys = counted ∙ (sym (length-map old.groups.items numbered_group) ∙ (ap length g.grouped ∙ length-map keys (Of fs))) in
-    record {
-      grouped = longer ∙ (ap (λ (gs : List (List NumberedField)). gs ++ ((f ∷ []) ∷ [])) g.grouped ∙ sym step.0);
-      places = λ k. put k ∙ (ap (λ (n : List ℕ). update bytes_eq (at_name old.places) n (Some count) k) same
-          ∙ (ap (λ (n : ℕ). update bytes_eq (at_name old.places) f.0.key (Some n) k) long ∙ (ap (λ (o : Option ℕ). if bytes_eq f.0.key k then Some (length keys) else o) (g.places k)
-          ∙ (sym (place_pushed f.0.key k keys (unplaced f.0.key keys none)) ∙ ap (place_in k) (sym step.1)))));
-    }
-
-pub grouped_none : (g : Groups) → g.groups.items ≡ [] → ((key : List ℕ) → at_name g.places key ≡ None) → AreGrouped [] g
-grouped_none g none empty = record { grouped = ap (map numbered_group) none; places = empty }
+pub grouped_none : (g : Groups) → g.by_key.entries ≡ [] → AreGrouped [] g
+grouped_none g none = record { grouped = ap (λ es. map numbered_group (values_of es)) none; keys = ap (λ es. map (λ k. k.now) (keys_of_entries es)) none }
 
 pub grouped_next : (fields : List Collected) (at : ℕ) (f : Collected) (g : Groups) → at < length fields → f ≡ get_or fields at f → AreGrouped (map numbered (take at fields) ++ (numbered f ∷ [])) g → AreGrouped (map numbered (take (at + 1) fields)) g
 grouped_next fields at f g here is h = subst (λ (fs : List NumberedField). AreGrouped fs g)
     (sym (ap (map numbered) (take_more fields at f here ∙ ap (λ x. take at fields ++ (x ∷ [])) (sym is)) ∙ map_push numbered (take at fields) f)) h
 
-pub grouped_all : (fields : List Collected) (at : ℕ) (g : Groups) → length fields ≤ at → AreGrouped (map numbered (take at fields)) g → map numbered_group g.groups.items ≡ numbered_by_key (map numbered fields)
+pub grouped_all : (fields : List Collected) (at : ℕ) (g : Groups) → length fields ≤ at → AreGrouped (map numbered (take at fields)) g → fields_grouped g ≡ numbered_by_key (map numbered fields)
 grouped_all fields at g past h = h.grouped ∙ ap (λ (fs : List Collected). numbered_by_key (map numbered fs)) (take_all at fields past)
 
-pub set_longer : (groups : List (Vec Collected Global)) (p : ℕ) (f : Collected) (g old : Vec Collected Global) → p < length groups → old ≡ get_or groups p old → g.items ≡ old.items ++ (f ∷ []) → map numbered_group (slice_set groups p g) ≡ appended_at p (numbered f) (map numbered_group groups)
-set_longer [] p f g old h is longer = absurd (no_less p h)
-  where
-    no_less : (n : ℕ) → n < 0 → ⊥
-    no_less n h = omega arith
-set_longer (x ∷ groups) zero f g old h is longer = ap (λ (y : List NumberedField). y ∷ map numbered_group groups) (ap (map numbered) (longer ∙ ap (λ (o : Vec Collected Global). o.items ++ (f ∷ [])) is) ∙ map_push numbered x.items f)
-set_longer (x ∷ groups) (suc p) f g old h is longer = ap (λ (gs : List (List NumberedField)). numbered_group x ∷ gs) (set_longer groups p f g old (omega arith) is longer)
+-- a group that is written at a place
+pub set_longer : (es : List (Bor (List ℕ) × Vec Collected Global)) (p : ℕ) (f : Collected) (g old : Vec Collected Global) → slice_get (values_of es) p ≡ Some old → g.items ≡ old.items ++ (f ∷ []) → map numbered_group (values_of (set_value_at es p g)) ≡ appended_at p (numbered f) (map numbered_group (values_of es))
+set_longer [] p f g old h longer = absurd (none-some old h)
+set_longer (e ∷ es) zero f g old h longer = ap (λ (y : List NumberedField). y ∷ map numbered_group (values_of es)) (ap (map numbered) (longer ∙ ap (λ (o : Vec Collected Global). o.items ++ (f ∷ [])) (sym (same_Some e.1 old h))) ∙ map_push numbered e.1.items f)
+set_longer (e ∷ es) (suc p) f g old h longer = ap (λ (gs : List (List NumberedField)). numbered_group e.1 ∷ gs) (set_longer es p f g old h longer)
 
-pub set_nothing : (groups : List (Vec Collected Global)) (p : ℕ) (f : NumberedField) → length groups ≤ p → map numbered_group groups ≡ appended_at p f (map numbered_group groups)
+pub set_nothing : (es : List (Bor (List ℕ) × Vec Collected Global)) (p : ℕ) (f : NumberedField) → slice_get (values_of es) p ≡ None → map numbered_group (values_of es) ≡ appended_at p f (map numbered_group (values_of es))
 set_nothing [] p f h = refl
-set_nothing (g ∷ groups) zero f h = absurd (no_more (length groups) h)
-  where
-    no_more : (n : ℕ) → suc n ≤ 0 → ⊥
-    no_more n h = omega arith
-set_nothing (g ∷ groups) (suc p) f h = ap (λ (gs : List (List NumberedField)). numbered_group g ∷ gs) (set_nothing groups p f (omega arith))
+set_nothing (e ∷ es) zero f h = absurd (none-some e.1 (sym h))
+set_nothing (e ∷ es) (suc p) f h = ap (λ (gs : List (List NumberedField)). numbered_group e.1 ∷ gs) (set_nothing es p f h)
 
 -- ---- groups have fields
 

@@ -8,6 +8,7 @@ mod findings;
 mod finish;
 mod group;
 mod joins;
+mod key_hashing;
 mod lookups;
 mod planning;
 mod prepare;

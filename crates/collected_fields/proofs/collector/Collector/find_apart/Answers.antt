@@ -1,5 +1,6 @@
 use Rattle.std.proofs.Common.{refl, subst, map, option_map}
 use Rattle.collected_fields.specs.Walks.{numbered_group}
+use Rattle.collected_fields.specs.Grouping.{fields_grouped}
 use Rattle.collected_fields.specs.Lists.{AllShorten, MayShortenAll}
 use Rattle.collected_fields.proofs.GrowingLaws.{grows_same, found_grows, apart_found}
 use Rattle.collected_fields.proofs.collector.Collector.find_apart.Goals as goal
@@ -15,10 +16,10 @@ returns-in_err-short c = λ there. found_grows c.args.self.now c.fields_by_key.n
 
 pub returns-in-Some : goal.returns-in-Some
 returns-in-Some c = λ there.
-    apart_found c.args.self.now c.fields_by_key.new.self _ c.args.of.number c.args.number (map numbered_group c.in_ok-fields.fields.items) (numbered_group c.in-Some.short) c.fields_by_key.ensures.tables c.fields_by_key.ensures.joins c.fields_by_key.ensures.kept refl c.shortened_by_key.ensures.count c.shortened_by_key.ensures.more
+    apart_found c.args.self.now c.fields_by_key.new.self _ c.args.of.number c.args.number (fields_grouped c.in_ok-fields.fields) (numbered_group c.in-Some.short) c.fields_by_key.ensures.tables c.fields_by_key.ensures.joins c.fields_by_key.ensures.kept refl c.shortened_by_key.ensures.count c.shortened_by_key.ensures.more
     c.in_ok-fields.ensures.found
-    (subst (λ fs. AllShorten c.fields_by_key.new.self.joins c.shortened_by_key.new.joins (map numbered_group fs) (numbered_group c.in-Some.short)) c.as_slice.ensures.value
-    (subst (λ o. MayShortenAll c.fields_by_key.new.self.joins c.shortened_by_key.new.joins (map numbered_group c.as_slice.result.now) (option_map numbered_group o)) c.in-Some.is c.in_ok-short.ensures.shortened))
+    (subst (λ fs. AllShorten c.fields_by_key.new.self.joins c.shortened_by_key.new.joins fs (numbered_group c.in-Some.short)) c.fields.ensures
+    (subst (λ o. MayShortenAll c.fields_by_key.new.self.joins c.shortened_by_key.new.joins (map numbered_group c.fields.result.now) (option_map numbered_group o)) c.in-Some.is c.in_ok-short.ensures.shortened))
     c.keep.ensures there
 
 pub returns : goal.returns
