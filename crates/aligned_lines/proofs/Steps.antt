@@ -1,7 +1,8 @@
--- Going on by one cell.
-use Rattle.std.proofs.Common.{◌≡◌, ℕ, suc, ◌+◌, ◌<◌, ◌≤◌, Bool, List, [], ◌∷◌, ◌++◌, length, drop, get_or, sym, ap, ◌∙◌, arith, drop-cons}
-use Rattle.std.proofs.lemmas.List.{append_assoc, append-nil, drop_all}
-use Rattle.aligned_lines.specs.Aligned.{Cells, cell_text, line_text}
+-- Going on by one cell, and by one column.
+use Rattle.std.proofs.Common.{◌≡◌, ⊎_elim, ℕ, suc, ◌+◌, ◌<◌, ◌≤◌, Bool, List, [], ◌∷◌, ◌++◌, length, drop, get_or, sym, ap, ◌∙◌, subst, arith, drop-cons}
+use Rattle.std.proofs.Math.Nat.{eq-or-lt_of_le}
+use Rattle.std.proofs.lemmas.List.{append_assoc, append-nil, drop_all, get_or_append_left, get_or_push, length_push}
+use Rattle.aligned_lines.specs.Aligned.{Cells, widest, cell_text, line_text, AreWidths}
 
 module _ (left : List Bool) (lines : List Cells) (cells : Cells) where
   pub cell_written : (column : ℕ) (cell before after whole : List ℕ) → column < length cells → cell ≡ get_or cells column cell → after ≡ before ++ cell_text left lines column cell
@@ -18,3 +19,13 @@ module _ (left : List Bool) (lines : List Cells) (cells : Cells) where
   pub line_written : (column : ℕ) (before whole : List ℕ) → length cells ≤ column → before ++ line_text left lines column (drop column cells) ≡ whole → before ≡ whole
   unfolding line_text
   line_written column before whole past held = sym (append-nil before) ∙ (ap (λ (cs : Cells). before ++ line_text left lines column cs) (sym (drop_all column cells past)) ∙ held)
+
+pub one_width : (lines : List Cells) (widths more : List ℕ) (column width : ℕ) → AreWidths lines widths → length widths ≡ column → width ≡ widest column lines → more ≡ widths ++ width ∷ [] → AreWidths lines more × (length more ≡ column + 1)
+one_width lines widths more column width are long is pushed = (
+  subst (AreWidths lines) (sym pushed) (λ (at : ℕ) (inside : at < length (widths ++ width ∷ [])).
+      ⊎_elim
+      (λ (last : at ≡ length widths). get_or_push widths width 0 at (sym last) ∙ (is ∙ ap (λ (k : ℕ). widest k lines) (sym (last ∙ long))))
+      (λ (earlier : at < length widths). get_or_append_left widths (width ∷ []) 0 at earlier ∙ are at earlier)
+      (let one = length_push widths width in let most : at ≤ length widths = omega arith in eq-or-lt_of_le most)),
+  ap length pushed ∙ (length_push widths width ∙ ap (λ (k : ℕ). k + 1) long),
+)

@@ -1,5 +1,5 @@
 -- Lines of cells, whose columns stand one below another.
-use Rattle.std.specs.Prelude.{ℕ, zero, suc, ◌-◌, max, Bool, false, List, [], ◌∷◌, ◌++◌, length, map, flat_map, get_or, replicate, if◌then◌else◌}
+use Rattle.std.specs.Prelude.{◌≡◌, ℕ, zero, suc, ◌-◌, ◌<◌, max, Bool, false, List, [], ◌∷◌, ◌++◌, length, map, flat_map, get_or, replicate, if◌then◌else◌}
 use Rattle.aligned_lines.specs.declared.lines.Line.{Line}
 
 -- the texts of a line's cells
@@ -51,3 +51,14 @@ aligned left (l ∷ ls) = line_text left (l ∷ ls) 0 l ++ lines_below left (l �
 
 abbrev pub lines_seen : List Line → List Cells
 lines_seen lines = map cells_of lines
+
+-- ---- in the service of the code
+
+-- how many cells the line with the most cells has
+abbrev pub most_cells : List Cells → ℕ
+most_cells [] = 0
+most_cells (l ∷ ls) = max (length l) (most_cells ls)
+
+-- Each of these is how long the longest cell of its column is.
+abbrev pub AreWidths : List Cells → List ℕ → Type 0
+AreWidths lines widths = (column : ℕ) → column < length widths → get_or widths column 0 ≡ widest column lines

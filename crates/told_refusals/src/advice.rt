@@ -35,6 +35,7 @@ pub const STAGES: &[(&str, &str)] = &[
     ("worst", "worst"),
     ("clients", "clients"),
     ("script", "script"),
+    ("trusted", "trusted"),
     ("meter", "meter"),
 ];
 
@@ -57,6 +58,7 @@ pub fn advice_of(stage: &str) -> &'static [Advice] {
         "worst" => WORST,
         "clients" => CLIENTS,
         "script" => SCRIPT,
+        "trusted" => TRUSTED,
         "meter" => METER,
         _ => &[],
     }
@@ -655,6 +657,52 @@ const SCRIPT: &[Advice] = &[
         inner: "",
         wrong: "Line {1} ends a request that no line before it begins.",
         helps: "Begin it in an earlier line, or correct its id.",
+    },
+];
+
+/// Lists of trusted documents.
+const TRUSTED: &[Advice] = &[
+    Advice {
+        fault: "1 NotJson",
+        inner: "",
+        wrong: "The list of trusted documents isn't JSON.",
+        helps: "Write one JSON object, from the hash of each document to its text.",
+    },
+    Advice {
+        fault: "2 NotObject",
+        inner: "",
+        wrong: "The list of trusted documents is JSON, and no object.",
+        helps: "Write one JSON object, from the hash of each document to its text.",
+    },
+    Advice {
+        fault: "3 TooMany",
+        inner: "",
+        wrong: "The list of trusted documents has {1} entries.",
+        helps: "Keep at most 10,000 documents in a list.",
+    },
+    Advice {
+        fault: "4 BadHash",
+        inner: "",
+        wrong: "The key {*} is no hash.",
+        helps: "Write the SHA-256 of the document as 64 digits from 0 to 9 and a to f.",
+    },
+    Advice {
+        fault: "5 NotString",
+        inner: "",
+        wrong: "The value under the hash {*} is no string.",
+        helps: "Write the text of the document there.",
+    },
+    Advice {
+        fault: "6 TooLong",
+        inner: "",
+        wrong: "The document under the hash {*} has more than 262,144 bytes.",
+        helps: "Make it shorter, or split it.",
+    },
+    Advice {
+        fault: "7 WrongHash",
+        inner: "",
+        wrong: "The hash {*} isn't that of the document under it.",
+        helps: "Write the SHA-256 of the document's bytes, just as they stand in the list.",
     },
 ];
 

@@ -31,6 +31,11 @@ const ROWS: &[(&str, Option<Place<'_>>, &str)] = &[
         None,
         "schema 5 NoQuery\nThe schema has no type of queries.\nDefine `type Query`, or name one by `schema { query: NAME }`.",
     ),
+    (
+        "trusted 4 BadHash a b",
+        None,
+        "trusted 4 BadHash a b\nThe key a b is no hash.\nWrite the SHA-256 of the document as 64 digits from 0 to 9 and a to f.",
+    ),
     ("no refusal", None, "no refusal"),
 ];
 
