@@ -10,7 +10,7 @@ use std::alloc::{AllocError, Global};
 use std::collections::BTreeMap;
 
 /// Of fewer numbers no list is made.
-pub const FEW: usize = 128;
+pub const FEW: usize = 16;
 
 /// All lists together hold no more numbers than this.
 const ROOM: usize = 6000000;
