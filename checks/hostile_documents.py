@@ -6,8 +6,8 @@
 Each family of documents is built at four lengths, the longest of them the longest body that the gateway takes, and priced by the built program
 (`crates/gateway_cli/out/gateway_cli`, or the one that is named) under a bound of time and memory. A line says the processor seconds and the megabytes
 at each length, and by what factor the seconds grow from the last length but one, which is half as long. The status is 1 where a document takes more
-than 2 seconds or 200 MB, as those with sets in orders, with calls that all differ and with thousands of types do today (docs/operating.md says from
-which length on).
+than 2 seconds or 200 MB, as those with calls that differ or are great, with a long response key and with thousands of types do today
+(docs/operating.md says from which length on).
 With names, only these families are tried.
 """
 import argparse
@@ -138,6 +138,93 @@ def great(a, b):
     return json.dumps({"a": [a] * 19990, "b": [b] * 19990}, separators=(",", ":"))
 
 
+def permutation(i, items):
+    """The order of a number."""
+    left, order = list(items), []
+    for n in range(len(left), 0, -1):
+        order.append(left.pop(i % n))
+        i //= n
+    return order
+
+
+EIGHT = "type Query { n: N } type N { n: N %s }" % " ".join("%s: Int" % it for it in "abcdefgh")
+
+
+def many_kept(sets, fragments):
+    """Keys that spread F: so many sets, each of which spreads the same fragments of eight fields, in an order of its own."""
+    def build(length):
+        inner = "".join("fragment G%d on N{a b c d e f g h}" % i for i in range(fragments))
+        f = "fragment F on N{%s}" % "".join("n{%s}" % "".join("...G%d" % ((i + j) % fragments) for i in range(fragments)) for j in range(sets))
+        rest = inner + f
+        count = min(20000 // 10, max(1, (length - len(rest) - 2) // 14))
+        return "{%s}%s" % ("".join("k%d:n{...F}" % i for i in range(count)), rest)
+    return build
+
+
+def equal_calls(length):
+    """A fragment whose calls are equal, and written in orders of their own."""
+    fields = filled(length // 2, lambda i: "c:o(i:{%s})" % ",".join("%s:1" % it for it in permutation(i, "abcdefg")))
+    fragment = "fragment F on N{%s}" % fields
+    return "{%s}%s" % (filled(length - len(fragment) - 2, key("...F")), fragment)
+
+
+def interfaces(count):
+    """An object type of as many interfaces."""
+    names = ["I%d" % i for i in range(count)]
+    return "type Query { n: N } %s type N implements %s { a: Int }" % (" ".join("interface %s { a: Int }" % it for it in names), " & ".join(names))
+
+
+def by_interfaces(length):
+    """A fragment with a condition on each of many interfaces."""
+    return halves(length, key("...F"), lambda i: "...on I%d{a}" % (i % 4990))
+
+
+def great_literals(count):
+    """Keys that make calls by turns, whose literals differ in their last value alone."""
+    def build(length):
+        each = min(19990, (length * 120000 // 262144) // count // 2)
+        fields = " ".join("c%d:b(x:[%s %d])" % (i, "1 " * each, i % 10) for i in range(count))
+        fragment = "fragment F on N{%s}" % fields
+        places = min(20000 // (count + 1), (length - len(fragment)) // 14)
+        return "{%s}%s" % ("".join("k%d:n{...F}" % i for i in range(places)), fragment)
+    return build
+
+
+def fields_of(count):
+    """A schema of as many fields that take a list."""
+    return "type Query { n: N } type N { %s }" % " ".join("o%d(i: [Int]): Int" % i for i in range(count))
+
+
+def calls_by_turns(count, texts):
+    """Keys that make many great calls by turns."""
+    def build(length):
+        fields = " ".join("%s" % " ".join(text % (i, i) for text in texts) for i in range(count))
+        fragment = "fragment F on N{%s}" % fields
+        places = min(20000 // (count + 1), (length // 3 * 2 - len(fragment)) // 14)
+        return "query($a:[Int],$b:[Int]){%s}%s" % ("".join("k%d:n{...F}" % i for i in range(places)), fragment)
+    return build
+
+
+def long_key(length):
+    """Keys that spread a fragment with a response key of half the length."""
+    half = length // 2
+    return "{%s}fragment F on N{%s:a}" % (filled(length - half - 30, key("...F")), "x" * half)
+
+
+def doubled(levels, piece, last, on="N", field="n"):
+    """Fragments that each spread the next one below two keys: two to the power of `levels` places, in few bytes."""
+    def build(length):
+        chain = "".join("fragment F%d on %s{%s}" % (i, on, piece % (i + 1, i + 1)) for i in range(levels))
+        return "{%s{...F0}}%sfragment F%d on %s{%s}" % (field, chain, levels, on, last)
+    return build
+
+
+def doubled_types(count):
+    return "type Query { n: I } interface I { a: Int n: I } " + " ".join("type T%d implements I { a: Int n: I }" % i for i in range(count))
+
+
+SEVEN = "type Query { n: N } type N { n: N o(i: I): Int } input I { %s }" % " ".join("%s: Int" % it for it in "abcdefg")
+LITERALS = "type Query { n: N } type N { b(x: [Int]): Int }"
 ONE_LIST = "type Query { o(i: [Int]): Int }"
 TWO_LISTS = "type Query { o(i: [Int], j: [Int]): Int }"
 FAMILIES = {
@@ -176,6 +263,13 @@ FAMILIES = {
     "many arguments": (many_arguments(5000), own_calls("z:%d")),
     "a great variable": (TWO_LISTS, own_calls("i:$a,j:[%d]", "query($a:[Int])"), great(1, 1)),
     "equal variables": (ONE_LIST, lambda n: "query($a:[Int],$b:[Int]){%s}" % filled(n // 3 * 2, lambda i: "k%d:o(i:$a)k%d:o(i:$b)" % (i, i)), great(1, 1)),
+    "sets that are kept": (EIGHT, many_kept(60, 60)),
+    "equal calls in orders": (SEVEN, equal_calls),
+    "conditions on interfaces": (interfaces(4990), by_interfaces),
+    "great literals by turns": (LITERALS, great_literals(3)),
+    "great calls by turns": (fields_of(70), calls_by_turns(70, ["c%d:o%d(i:$a)"]), great(1, 1)),
+    "a long response key": (ONE, long_key),
+    "doubled places of a type": (doubled_types(4900), doubled(13, "...on T0{a:n{...F%d}b:n{...F%d}}", "...on T0{a}", "I")),
 }
 
 
