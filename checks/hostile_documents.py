@@ -307,8 +307,8 @@ def main():
                 found.append(priced(os.path.abspath(given.program), folder, schema, build(given.longest // part), *(variables or ["{}"])))
                 if not found[-1][2]:
                     break
-            growth = found[-1][0] / max(found[-2][0], 0.001)
-            print("%-32s %s   grows by %.1f" % (name, "  ".join("%.2f s %.0f MB%s" % (s, m, "" if ended else " stopped") for s, m, ended in found), growth), flush=True)
+            growth = "   grows by %.1f" % (found[-1][0] / max(found[-2][0], 0.001)) if len(found) > 1 else ""
+            print("%-32s %s%s" % (name, "  ".join("%.2f s %.0f MB%s" % (s, m, "" if ended else " stopped") for s, m, ended in found), growth), flush=True)
             if len(found) < 4 or found[-1][0] > SECONDS or found[-1][1] > MEGABYTES:
                 late.append(name)
     if late:
