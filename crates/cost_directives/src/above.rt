@@ -2,6 +2,7 @@
 
 ghost use Rattle.std.specs.Prelude.{◌≡◌, map, nat_eq, Option, Some, None};
 ghost use Rattle.std.specs.List.{list_all};
+ghost use Rattle.std.specs.Option.{is_some};
 ghost use Rattle.schema_model.specs.SchemaData.{SizeData, field_at, type_at};
 ghost use Rattle.schema_model.specs.SchemaViews.{schema_data};
 ghost use Rattle.schema_model.specs.Numbers.{type_number};
@@ -20,6 +21,13 @@ fn own_weight(schema: &Schema, field: FieldId) -> Option<u64>
     ensures { result ≡ own_weight (field_at (schema_data schema.now) field.number) }
 {
     weight_in(schema.field_cost(field))
+}
+
+/// Whether a field has a weight of its own.
+pub fn has_own_weight(schema: &Schema, field: FieldId) -> bool
+    ensures { result ≡ is_some (own_weight (field_at (schema_data schema.now) field.number)) }
+{
+    own_weight(schema, field).is_some()
 }
 
 // The weight of the field of this name in an interface.

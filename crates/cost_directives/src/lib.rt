@@ -18,11 +18,14 @@ mod sizes;
 mod sources;
 mod weights;
 
+pub use above::{has_own_weight, inherited_size, inherited_weight};
 pub use fault::DirectiveFault;
 pub use laws::{
     lists_of_any_length_cost_nothing, look_ups_answer_by_the_rules, sizes_fit_their_fields,
     sources_tell_sizes, weights_are_read_once,
 };
+pub use places::field_place;
+pub use rules::is_list;
 pub use sharing::weights_are_shared;
 pub use sizes::{Size, SizeFault};
 pub use sources::SizeSource;

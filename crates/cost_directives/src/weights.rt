@@ -33,6 +33,13 @@ impl Weights {
         self.fields.get(of.number)
     }
 
+    /// The size of lists that declare none.
+    pub fn undeclared(&self) -> u32
+        ensures { result ≡ (weights_data self.now).undeclared }
+    {
+        self.undeclared
+    }
+
     /// The weight of an object, scalar or enum type, in millionths: that of its `@cost`, else 1 for an object type and 0 for
     /// a leaf.
     pub fn type_weight(&self, of: TypeId) -> u64
