@@ -1,5 +1,7 @@
--- The rows of a plan, and the table that holds them.
+-- The rows of a plan, the sizes of its lists by their sources, and the table that holds them.
+pub mod RowKeys
 pub mod Rows
+pub mod ListSizes
 pub mod Tables
 -- Costs by a pass over the rows.
 pub mod Totals

@@ -6,19 +6,23 @@
 #![tactic(auto)]
 
 mod copies;
+mod keys;
 pub mod laws;
 mod lookups;
 mod response;
 mod rows;
 mod sharing;
+mod sizes;
 mod table;
 mod texts;
 
 pub use copies::copy_tree;
+pub use keys::{RowKey, SHORT_KEY};
 pub use lookups::Below;
 pub use response::{Entry, Tree};
 pub use rows::NodeRow;
 pub use sharing::rows_are_shared;
+pub use sizes::size_from;
 pub use table::Plan;
 pub use texts::response_text;
 
