@@ -1,5 +1,5 @@
 -- What is collected from prepared selection sets.
-use Rattle.std.proofs.Common.{◌≡◌, ◌+◌, ℕ, zero, suc, ◌<◌, List, [], ◌∷◌, ◌++◌, map, flat_map, length, get_or, slice_get, None, Some, refl, sym, ap, ◌∙◌, subst, append-nil, if◌then◌else◌, Bool, true, false, arith}
+use Rattle.std.proofs.Common.{◌≡◌, ◌+◌, ℕ, zero, suc, ◌<◌, List, [], ◌∷◌, ◌++◌, map, filter, flat_map, length, get_or, slice_get, None, Some, refl, sym, ap, ◌∙◌, subst, append-nil, if◌then◌else◌, Bool, true, false, arith}
 use Rattle.std.specs.Prelude.{All}
 use Rattle.std.proofs.lemmas.Bool.{lt-ltb}
 use Rattle.std.proofs.lemmas.List.{length-map}
@@ -9,18 +9,22 @@ use Rattle.document_reader.specs.Documents.{no_selection}
 use Rattle.document_rules.proofs.Lists.{map_twice}
 use Rattle.plan_model.specs.SelectedFields.{Setting}
 use Rattle.plan_model.specs.Collecting.{CollectedField, WrittenSelections, collected, collected_to, nesting}
-use Rattle.plan_model.specs.Merging.{selections_below}
-use Rattle.plan_model.specs.MergingWalk.{AllRanked, FragmentsRanked}
+use Rattle.plan_model.specs.Merging.{selections_below, fields_at, keys_from, keys_of}
+use Rattle.plan_model.specs.MergingWalk.{IsAcyclic, AllRanked, FragmentsRanked}
 use Rattle.plan_model.specs.Repeats.{LeavesOutRepeats, IsThinned}
 use Rattle.collected_fields.specs.declared.collector.Collector.{Collector}
 use Rattle.collected_fields.specs.Views.{fragment_seen}
-use Rattle.collected_fields.specs.Gathering.{IsReady, setting_at, written_at, sets_at, meaning_at, IsNumber, position_at, ComesTo, ComesToAt, HasOne, IsReadyCollector, AreFoundAt}
+use Rattle.collected_fields.specs.Gathering.{IsReady, setting_at, written_at, sets_at, meaning_at, IsNumber, position_at, ComesTo, ComesToAt, HasOne, IsReadyCollector, AreFoundAt, LeavesOutFieldless}
 use Rattle.collected_fields.specs.Prepared.{ListData, EntryData, list_data, entry_data, written_of, IsListed, AreSound}
 use Rattle.collected_fields.specs.Lists.{lists_of_joins}
+use Rattle.collected_fields.specs.declared.reach.Reach.{Reach}
+use Rattle.collected_fields.specs.Reached.{reaches}
+use Rattle.collected_fields.specs.Reaching.{SetsCollectNothing, found_of, AreReached, ReachesNumbers}
 use Rattle.collected_fields.specs.Serving.{sets_of, Serve}
 use Rattle.collected_fields.specs.Walks.{NumberedField, WalkData, IsBlank, numbered_by_key, found_in, known_for, steps_at, walk_numbers}
 use Rattle.collected_fields.proofs.WalkLaws.{walked_numbers}
 use Rattle.collected_fields.proofs.JoinLaws.{new_set}
+use Rattle.collected_fields.proofs.ReachingLaws.{numbers_walked}
 use Rattle.collected_fields.proofs.ServingLaws.{serve_none, serve_joined, serve_one}
 
 abbrev lists_of : Collector → List ListData
@@ -143,6 +147,37 @@ module _ (c : Collector) (T : ℕ) (ready : IsReadyCollector c) where
         known = found.1.1.known;
       }
 
+  -- where nothing that is kept is taken
+  plain_walk : List ℕ → WalkData → WalkData
+  plain_walk numbers w = walk_numbers e.schema T (steps_at (lists_of c)) (λ number. None) (entries_of c) (sets_at c) (nesting e) numbers w
+
+  plain_comes : (numbers : List ℕ) (w : WalkData) → IsBlank w → ComesToAt c T numbers (plain_walk numbers w).fields
+  unfolding collected plain_walk
+  plain_comes numbers w blank acyclic =
+      let same = written_numbers c numbers in
+      let found = walked_numbers acyclic.rank e T acyclic.fragments (lists_of c) (entries_of c) ready.sound (nesting e) Serves none_served both_served one_served (λ number. None)
+      (λ number l there fields h r. absurd (none-some fields h)) (sets_at c) (λ number fields h r. absurd (none-some fields h)) numbers w blank (subst (λ ws. AllRanked acyclic.rank (nesting e) ws) same acyclic.spreads) in
+      record {
+        come = record { left = found.0; repeats = subst (λ ws. LeavesOutRepeats (collected_to e T (nesting e) ws) found.0) (sym same) found.1.0; served = found.1.1.served };
+        known = found.1.1.known;
+      }
+
+  left_none : (fields left : List CollectedField) → LeavesOutRepeats fields left → keys_of left ≡ [] → fields ≡ []
+  left_none [] left less none = refl
+  left_none (f ∷ fields) [] less none = absurd less.0
+  left_none (f ∷ fields) (g ∷ left) less none = absurd (some_key g.key (keys_from (g.key ∷ []) left) none)
+    where
+      some_key : (key : List ℕ) (keys : List (List ℕ)) → key ∷ keys ≡ [] → ⊥
+      some_key key keys e = cc
+
+  -- Where the walks collect nothing, there are no fields.
+  pub no_fields : (numbers : List ℕ) → SetsCollectNothing c.tables T (flat_map (sets_at c) numbers) → IsAcyclic e (position_at c numbers) → fields_at e T (position_at c numbers) ≡ []
+  unfolding plain_walk
+  no_fields numbers nothing acyclic =
+      let blank : WalkData = record { marks = []; fields = [] } in
+      let comes : ComesTo c T numbers [] = subst (λ (fs : List NumberedField). ComesTo c T numbers fs) (numbers_walked c.tables T (sets_at c) (nesting e) numbers blank nothing) (plain_comes numbers blank (λ n. refl, refl) acyclic) in
+      left_none (fields_at e T (position_at c numbers)) comes.come.left comes.come.repeats comes.come.served.keys
+
 pub found_at : (c : Collector) (T : ℕ) (numbers : List ℕ) (w v : WalkData) (of_keys : List (List NumberedField)) → IsBlank w
     → v ≡ walk_numbers (setting_at c).schema T (steps_at (lists_of c)) (known_for c.kept T) (entries_of c) (sets_at c) (length c.tables.planning.fragments.now + 2) numbers w → of_keys ≡ numbered_by_key v.fields → AreFoundAt c T numbers of_keys
 unfolding walk_of
@@ -155,12 +190,13 @@ found_at c T numbers w v of_keys blank walks grouped = record {
     deep : length c.tables.planning.fragments.now + 2 ≡ nesting (setting_at c)
     deep = ap (λ n. n + 2) (sym (length-map c.tables.planning.fragments.now fragment_seen))
 
-pub ready_made : (c : Collector) → AreSound (setting_at c) (lists_of c) (entries_of c) → c.joins.count ≡ length c.tables.lists.items → lists_of_joins c.joins ≡ [] ∷ [] → ((T number : ℕ) → found_in c.kept T number ≡ None) → IsReady c
-ready_made c sound counted one unkept = is_ready c (record {
+pub ready_made : (c : Collector) → AreSound (setting_at c) (lists_of c) (entries_of c) → c.joins.count ≡ length c.tables.lists.items → lists_of_joins c.joins ≡ [] ∷ [] → ((T number : ℕ) → found_in c.kept T number ≡ None) → ((set : ℕ) → found_of c.reaches set ≡ None) → IsReady c
+ready_made c sound counted one unkept unfound = is_ready c (record {
   sound = sound;
   counted = counted;
   nothing = (number_there, none_there);
   kept = λ T number fields h. absurd (none-some fields (sym (unkept T number) ∙ h));
+  reached = λ set reach h. absurd (none-some reach (sym (unfound set) ∙ h));
 })
   where
     number_there : c.joins.count < c.joins.count + length c.joins.lists.items
@@ -174,3 +210,11 @@ ready_made c sound counted one unkept = is_ready c (record {
 -- the number of a selection set that is listed
 pub one_listed : (c : Collector) (written : WrittenSelections) (number : ℕ) → IsReady c → IsListed (lists_of c) written number → HasOne c number written
 one_listed c written number ready h = (number_of_listed c (of_ready c ready) number (listed_less c written number h), has_one c written number (of_ready c ready) h)
+
+-- the types that are left out, where others are reached
+pub leaves_out : (c : Collector) (numbers types left : List ℕ) (reach : Reach) → left ≡ filter (reaches reach) types → (AreReached c.tables c.reaches → ReachesNumbers c.tables c.joins numbers reach) → LeavesOutFieldless c numbers types left
+leaves_out c numbers types left reach is reached = record {
+  passes = reaches reach;
+  left_over = is;
+  fieldless = λ T missed ready acyclic object. no_fields c T (of_ready c ready) numbers (reached (of_ready c ready).reached T object missed) acyclic;
+}

@@ -14,10 +14,12 @@ use Rattle.collected_fields.specs.declared.collected.Group.{Group}
 use Rattle.collected_fields.specs.declared.collector.Collector.{Collector}
 use Rattle.collected_fields.specs.declared.findings.Findings.{Findings}
 use Rattle.collected_fields.specs.declared.joins.Joins.{Joins}
+use Rattle.collected_fields.specs.declared.reaching.Reaches.{Reaches}
 use Rattle.collected_fields.specs.declared.tables.Tables.{Tables}
 use Rattle.collected_fields.specs.Groups.{AreGroupsOf}
 use Rattle.collected_fields.specs.Gathering.{IsReady, setting_at, written_at, sets_at, meaning_at, IsNumber, position_at, ComesTo, ComesToAt, IsReadyCollector, Grows, groups_seen, IsGroupAt, AreFoundAt, GivesGroups}
 use Rattle.collected_fields.specs.Lists.{HasMore, AllFinish, HasNothing, AllShorten}
+use Rattle.collected_fields.specs.Reaching.{AreReached}
 use Rattle.collected_fields.specs.Serving.{number_alone, Serve, ComeTo}
 use Rattle.collected_fields.specs.Views.{collected_field}
 use Rattle.collected_fields.specs.Walks.{NumberedField, field_alone, numbered_of_key, numbered_by_key, found_in, KeepsOne}
@@ -30,21 +32,29 @@ use Rattle.collected_fields.proofs.ServingLaws.{serve_still, filled_too, AreFini
 
 pub same_written : (c d : Collector) → d.tables ≡ c.tables → written_at d ≡ written_at c
 unfolding written_at
-same_written c d same = ap (λ (t : Tables). written_at (record { tables = t; joins = c.joins; kept = c.kept; walk = c.walk; met = c.met })) same
+same_written c d same = ap (λ (t : Tables). written_at (record { tables = t; joins = c.joins; kept = c.kept; walk = c.walk; met = c.met; reaches = c.reaches })) same
 
-pub ready_same : (c d : Collector) → d.tables ≡ c.tables → d.joins ≡ c.joins → d.kept ≡ c.kept → IsReadyCollector c → IsReadyCollector d
+-- What was found of selection sets stays right.
+abbrev pub StayRight : Collector → Collector → Type 0
+StayRight c d = AreReached c.tables c.reaches → AreReached c.tables d.reaches
+
+pub same_reached : (c d : Collector) → d.reaches ≡ c.reaches → StayRight c d
+same_reached c d same right = subst (λ (r : Reaches). AreReached c.tables r) (sym same) right
+
+pub ready_same : (c d : Collector) → d.tables ≡ c.tables → d.joins ≡ c.joins → d.kept ≡ c.kept → StayRight c d → IsReadyCollector c → IsReadyCollector d
 unfolding written_at
-ready_same c d tables joins kept ready =
-    subst (λ (t : Tables). IsReadyCollector (record { tables = t; joins = d.joins; kept = d.kept; walk = d.walk; met = d.met })) (sym tables)
-    (subst (λ (j : Joins). IsReadyCollector (record { tables = c.tables; joins = j; kept = d.kept; walk = d.walk; met = d.met })) (sym joins)
-    (subst (λ (k : Findings). IsReadyCollector (record { tables = c.tables; joins = c.joins; kept = k; walk = d.walk; met = d.met })) (sym kept) (moved ready)))
+ready_same c d tables joins kept stay ready =
+    subst (λ (t : Tables). IsReadyCollector (record { tables = t; joins = d.joins; kept = d.kept; walk = d.walk; met = d.met; reaches = d.reaches })) (sym tables)
+    (subst (λ (j : Joins). IsReadyCollector (record { tables = c.tables; joins = j; kept = d.kept; walk = d.walk; met = d.met; reaches = d.reaches })) (sym joins)
+    (subst (λ (k : Findings). IsReadyCollector (record { tables = c.tables; joins = c.joins; kept = k; walk = d.walk; met = d.met; reaches = d.reaches })) (sym kept) (moved ready)))
   where
-    moved : IsReadyCollector c → IsReadyCollector (record { tables = c.tables; joins = c.joins; kept = c.kept; walk = d.walk; met = d.met })
+    moved : IsReadyCollector c → IsReadyCollector (record { tables = c.tables; joins = c.joins; kept = c.kept; walk = d.walk; met = d.met; reaches = d.reaches })
     moved r = record {
       sound = r.sound;
       counted = r.counted;
       nothing = r.nothing;
       kept = λ T number fields h. let here = r.kept T number fields h in (here.0, λ acyclic. let comes : ComesTo c T (number ∷ []) fields = here.1 acyclic in record { come = comes.come; known = comes.known });
+      reached = stay r.reached;
     }
 
 -- ---- more lists
@@ -77,7 +87,7 @@ module _ (c d : Collector) (written : written_at d ≡ written_at c) (more : Has
 
 module _ (c d : Collector) (tables : d.tables ≡ c.tables) (more : HasMore c.joins d.joins) where
   same_setting : setting_at d ≡ setting_at c
-  same_setting = ap (λ (t : Tables). setting_at (record { tables = t; joins = c.joins; kept = c.kept; walk = c.walk; met = c.met })) tables
+  same_setting = ap (λ (t : Tables). setting_at (record { tables = t; joins = c.joins; kept = c.kept; walk = c.walk; met = c.met; reaches = c.reaches })) tables
 
   written : written_at d ≡ written_at c
   written = same_written c d tables
@@ -100,24 +110,25 @@ one_number c number h = All-cons (IsNumber c) number [] h (λ k x less. absurd (
     none_less : (n : ℕ) → n < 0 → ⊥
     none_less n h = omega arith
 
-pub ready_more : (c d : Collector) → d.tables ≡ c.tables → d.kept ≡ c.kept → d.joins.count ≡ c.joins.count → HasMore c.joins d.joins → IsReadyCollector c → IsReadyCollector d
-ready_more c d tables kept count more ready = record {
+pub ready_more : (c d : Collector) → d.tables ≡ c.tables → d.kept ≡ c.kept → d.reaches ≡ c.reaches → d.joins.count ≡ c.joins.count → HasMore c.joins d.joins → IsReadyCollector c → IsReadyCollector d
+ready_more c d tables kept reaches count more ready = record {
   sound = same_sound.sound;
   counted = count ∙ same_sound.counted;
   nothing = still_nothing c.joins d.joins (sym count) more ready.nothing;
   kept = λ T number fields found.
       let here = ready.kept T number fields (ap (λ (k : Findings). found_in k T number) (sym kept) ∙ found) in
       ((more number here.0).0, comes_still c d tables more T (number ∷ []) fields (one_number c number here.0) here.1);
+  reached = same_sound.reached;
 }
   where
-    same_sound : IsReadyCollector (record { tables = d.tables; joins = c.joins; kept = c.kept; walk = c.walk; met = c.met })
-    same_sound = ready_same c (record { tables = d.tables; joins = c.joins; kept = c.kept; walk = c.walk; met = c.met }) tables refl refl ready
+    same_sound : IsReadyCollector (record { tables = d.tables; joins = c.joins; kept = c.kept; walk = c.walk; met = c.met; reaches = d.reaches })
+    same_sound = ready_same c (record { tables = d.tables; joins = c.joins; kept = c.kept; walk = c.walk; met = c.met; reaches = d.reaches }) tables refl refl (same_reached c d reaches) ready
 
 -- ---- more that is kept
 
-pub ready_kept : (c d : Collector) (T number : ℕ) (new : List NumberedField) → d.tables ≡ c.tables → d.joins ≡ c.joins
+pub ready_kept : (c d : Collector) (T number : ℕ) (new : List NumberedField) → d.tables ≡ c.tables → d.joins ≡ c.joins → d.reaches ≡ c.reaches
     → KeepsOne c.kept d.kept T number new → IsNumber c number → ComesToAt c T (number ∷ []) new → IsReadyCollector c → IsReadyCollector d
-ready_kept c d T number new tables joins adds there comes ready = record {
+ready_kept c d T number new tables joins reaches adds there comes ready = record {
   sound = same.sound;
   counted = ap (λ (j : Joins). j.count) joins ∙ same_counted;
   nothing = subst HasNothing (sym joins) ready.nothing;
@@ -129,13 +140,14 @@ ready_kept c d T number new tables joins adds there comes ready = record {
       subst (λ (p : ℕ). IsNumber d p × ComesToAt d U (p ∷ []) found) (sym is.1) (subst (λ (V : ℕ). IsNumber d number × ComesToAt d V (number ∷ []) found) (sym is.0)
       (subst (λ (ns : List NumberedField). IsNumber d number × ComesToAt d T (number ∷ []) ns) (sym is.2) ((more number there).0, comes_still c d tables more T (number ∷ []) new (one_number c number there) comes))))
       (adds U place found h);
+  reached = same.reached;
 }
   where
     more : HasMore c.joins d.joins
     more = subst (λ (j : Joins). HasMore c.joins j) (sym joins) (more_itself c.joins)
 
-    same : IsReadyCollector (record { tables = d.tables; joins = c.joins; kept = c.kept; walk = c.walk; met = c.met })
-    same = ready_same c (record { tables = d.tables; joins = c.joins; kept = c.kept; walk = c.walk; met = c.met }) tables refl refl ready
+    same : IsReadyCollector (record { tables = d.tables; joins = c.joins; kept = c.kept; walk = c.walk; met = c.met; reaches = d.reaches })
+    same = ready_same c (record { tables = d.tables; joins = c.joins; kept = c.kept; walk = c.walk; met = c.met; reaches = d.reaches }) tables refl refl (same_reached c d reaches) ready
 
     same_counted : c.joins.count ≡ length d.tables.lists.items
     same_counted = same.counted
@@ -148,21 +160,21 @@ grows_itself c = record { planning = refl; written = refl; numbers = more_itself
 pub grows_again : (a b c : Collector) → Grows a b → Grows b c → Grows a c
 grows_again a b c first second = record { planning = second.planning ∙ first.planning; written = second.written ∙ first.written; numbers = more_again a.joins b.joins c.joins first.numbers second.numbers; ready = λ r. second.ready (first.ready r) }
 
--- Its walk has changed, and what was met.
-pub grows_same : (c d : Collector) → d.tables ≡ c.tables → d.joins ≡ c.joins → d.kept ≡ c.kept → Grows c d
-grows_same c d tables joins kept = record {
+-- Its walk has changed, what was met, and what was found of types.
+pub grows_same : (c d : Collector) → d.tables ≡ c.tables → d.joins ≡ c.joins → d.kept ≡ c.kept → StayRight c d → Grows c d
+grows_same c d tables joins kept stay = record {
   planning = ap (λ (t : Tables). t.planning) tables;
   written = same_written c d tables;
   numbers = subst (λ (j : Joins). HasMore c.joins j) (sym joins) (more_itself c.joins);
-  ready = λ r. is_ready d (ready_same c d tables joins kept (of_ready c r));
+  ready = λ r. is_ready d (ready_same c d tables joins kept stay (of_ready c r));
 }
 
-pub grows_more : (c d : Collector) → d.tables ≡ c.tables → d.kept ≡ c.kept → d.joins.count ≡ c.joins.count → HasMore c.joins d.joins → Grows c d
-grows_more c d tables kept count more = record {
+pub grows_more : (c d : Collector) → d.tables ≡ c.tables → d.kept ≡ c.kept → d.reaches ≡ c.reaches → d.joins.count ≡ c.joins.count → HasMore c.joins d.joins → Grows c d
+grows_more c d tables kept reaches count more = record {
   planning = ap (λ (t : Tables). t.planning) tables;
   written = same_written c d tables;
   numbers = more;
-  ready = λ r. is_ready d (ready_more c d tables kept count more (of_ready c r));
+  ready = λ r. is_ready d (ready_more c d tables kept reaches count more (of_ready c r));
 }
 
 -- ---- groups, and what is kept, made of the fields of each key
@@ -287,24 +299,24 @@ shorter_comes old new T number of_keys made tables more ready there found short 
     }
 
 -- It has more lists, and what a number comes to is kept.
-pub apart_grows : (c d : Collector) (T number : ℕ) (of_keys : List (List NumberedField)) (made : List NumberedField) → d.tables ≡ c.tables → d.joins.count ≡ c.joins.count → HasMore c.joins d.joins
+pub apart_grows : (c d : Collector) (T number : ℕ) (of_keys : List (List NumberedField)) (made : List NumberedField) → d.tables ≡ c.tables → d.reaches ≡ c.reaches → d.joins.count ≡ c.joins.count → HasMore c.joins d.joins
     → KeepsOne c.kept d.kept T number made → IsNumber c number → AreFoundAt c T (number ∷ []) of_keys → AllShorten c.joins d.joins of_keys made → Grows c d
-apart_grows c d T number of_keys made tables count more adds there found short = record {
+apart_grows c d T number of_keys made tables reaches count more adds there found short = record {
   planning = ap (λ (t : Tables). t.planning) tables;
   written = same_written c d tables;
   numbers = more;
-  ready = λ r. is_ready d (ready_kept mid d T number made refl refl adds (more number there).0 (shorter_comes c mid T number of_keys made tables more (of_ready c r) there found short) (ready_more c mid tables refl count more (of_ready c r)));
+  ready = λ r. is_ready d (ready_kept mid d T number made refl refl reaches adds (more number there).0 (shorter_comes c mid T number of_keys made tables more (of_ready c r) there found short) (ready_more c mid tables refl refl count more (of_ready c r)));
 }
   where
     mid : Collector
-    mid = record { tables = d.tables; joins = d.joins; kept = c.kept; walk = c.walk; met = c.met }
+    mid = record { tables = d.tables; joins = d.joins; kept = c.kept; walk = c.walk; met = c.met; reaches = c.reaches }
 
 -- what is kept of a number, once its fields were found
-pub apart_found : (old mid new : Collector) (T number : ℕ) (of_keys : List (List NumberedField)) (made : List NumberedField) → mid.tables ≡ old.tables → mid.joins ≡ old.joins → mid.kept ≡ old.kept → new.tables ≡ mid.tables → new.joins.count ≡ mid.joins.count → HasMore mid.joins new.joins
+pub apart_found : (old mid new : Collector) (T number : ℕ) (of_keys : List (List NumberedField)) (made : List NumberedField) → mid.tables ≡ old.tables → mid.joins ≡ old.joins → mid.kept ≡ old.kept → new.tables ≡ mid.tables → new.reaches ≡ old.reaches → new.joins.count ≡ mid.joins.count → HasMore mid.joins new.joins
     → AreFoundAt old T (number ∷ []) of_keys → AllShorten mid.joins new.joins of_keys made → KeepsOne mid.kept new.kept T number made → IsNumber old number → Grows old new
-apart_found old mid new T number of_keys made tables joins kept same count more found short adds there = apart_grows old new T number of_keys made (same ∙ tables) (count ∙ ap (λ (j : Joins). j.count) joins) (subst (λ (j : Joins). HasMore j new.joins) joins more)
+apart_found old mid new T number of_keys made tables joins kept same reaches count more found short adds there = apart_grows old new T number of_keys made (same ∙ tables) reaches (count ∙ ap (λ (j : Joins). j.count) joins) (subst (λ (j : Joins). HasMore j new.joins) joins more)
     (subst (λ (k : Findings). KeepsOne k new.kept T number made) kept adds) there found (subst (λ (j : Joins). AllShorten j new.joins of_keys made) joins short)
 
 -- more lists, once fields were found
-pub found_grows : (old mid new : Collector) → mid.tables ≡ old.tables → mid.joins ≡ old.joins → mid.kept ≡ old.kept → new.tables ≡ mid.tables → new.kept ≡ mid.kept → new.joins.count ≡ mid.joins.count → HasMore mid.joins new.joins → Grows old new
-found_grows old mid new tables joins kept same still count more = grows_again old mid new (grows_same old mid tables joins kept) (grows_more mid new same still count more)
+pub found_grows : (old mid new : Collector) → mid.tables ≡ old.tables → mid.joins ≡ old.joins → mid.kept ≡ old.kept → mid.reaches ≡ old.reaches → new.tables ≡ mid.tables → new.kept ≡ mid.kept → new.reaches ≡ mid.reaches → new.joins.count ≡ mid.joins.count → HasMore mid.joins new.joins → Grows old new
+found_grows old mid new tables joins kept reaches same still found count more = grows_again old mid new (grows_same old mid tables joins kept (same_reached old mid reaches)) (grows_more mid new same still found count more)

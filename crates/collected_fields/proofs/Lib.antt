@@ -11,5 +11,7 @@ pub mod GrowingLaws
 pub mod FindingLaws
 pub mod FinishLaws
 pub mod WalkSteps
+pub mod MissedTypes
+pub mod ReachingLaws
 pub mod AlikeLaws
 pub mod JoinLaws

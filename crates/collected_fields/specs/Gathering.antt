@@ -1,7 +1,9 @@
 -- The fields that are collected at a position, as groups of one response key.
-use Rattle.std.specs.Prelude.{◌≡◌, ◌<◌, ℕ, List, [], ◌∷◌, map, flat_map, get_or, length, Some, None, All, option_map}
+use Rattle.std.specs.Prelude.{◌≡◌, ◌<◌, ℕ, Bool, false, List, [], ◌∷◌, map, flat_map, filter, get_or, length, Option, Some, None, All, option_map, Vec}
+use Rattle.std.specs.declared.alloc.Global.{Global}
 use Rattle.document_reader.specs.Documents.{no_selection}
 use Rattle.document_reader.specs.Trees.{set_tree}
+use Rattle.input_values.specs.declared.inputs.shape.TypeId.{TypeId}
 use Rattle.schema_model.specs.Numbers.{type_number}
 use Rattle.plan_model.specs.SelectedFields.{Setting}
 use Rattle.plan_model.specs.Collecting.{CollectedField, WrittenSelections}
@@ -16,6 +18,8 @@ use Rattle.collected_fields.specs.Prepared.{list_data, entry_data, AreSound}
 use Rattle.collected_fields.specs.Views.{setting_of_planning, collected_field}
 use Rattle.collected_fields.specs.Walks.{NumberedField, numbered_by_key, found_in}
 use Rattle.collected_fields.specs.Serving.{ComeTo}
+use Rattle.collected_fields.specs.Reached.{IsObjectType}
+use Rattle.collected_fields.specs.Reaching.{AreReached}
 use Rattle.collected_fields.specs.Lists.{sets_in_joins, IsNumberIn, HasMore, HasNothing}
 use Rattle.collected_fields.specs.Groups.{GroupData, AreGroupsOf}
 
@@ -74,6 +78,7 @@ pub record IsReadyCollector (c : Collector) : Type 0 where
   pub counted : c.joins.count ≡ length c.tables.lists.items
   pub nothing : HasNothing c.joins
   pub kept : IsKeptRightly c
+  pub reached : AreReached c.tables c.reaches
 
 unfoldable pub IsReady : Collector → Type 0
 IsReady c = IsReadyCollector c
@@ -119,3 +124,19 @@ pub record GivesGroups (old new : Collector) (T : ℕ) (numbers : List ℕ) (gro
 -- The number is that of this selection set.
 abbrev pub HasOne : Collector → ℕ → WrittenSelections → Type 0
 HasOne c number written = IsNumber c number × (meaning_at c number ≡ written ∷ [])
+
+-- ---- types without fields
+
+-- The selections of these numbers have no fields for objects of the type T.
+abbrev pub LackFieldsAt : Collector → List ℕ → ℕ → Type 0
+LackFieldsAt c numbers T = IsReady c → IsAcyclic (setting_at c) (position_at c numbers) → IsObjectType (setting_at c).schema T → fields_at (setting_at c) T (position_at c numbers) ≡ []
+
+-- Of some types those are left out that a test doesn't pass; for objects of these there are no fields.
+pub record LeavesOutFieldless (c : Collector) (numbers types left : List ℕ) : Type 0 where
+  pub passes : ℕ → Bool
+  pub left_over : left ≡ filter passes types
+  pub fieldless : (T : ℕ) → passes T ≡ false → LackFieldsAt c numbers T
+
+abbrev pub MayLeaveOut : Collector → List ℕ → List TypeId → Option (Vec TypeId Global) → Type 0
+MayLeaveOut c numbers types None = Unit {0}
+MayLeaveOut c numbers types (Some left) = LeavesOutFieldless c numbers (map type_number types) (map type_number left.items)

@@ -10,5 +10,9 @@ pub mod Walks
 -- Fields in whose place others stand, groups of them, and lists of selection sets.
 pub mod Serving
 pub mod Grouping
+pub mod KeyHashes
 pub mod Lists
 pub mod Joining
+-- For objects of which types there are fields.
+pub mod Reached
+pub mod Reaching

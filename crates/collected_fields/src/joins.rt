@@ -90,6 +90,26 @@ impl Joins {
         })
     }
 
+    /// How many selection sets a number stands for.
+    fn sets_at(&self, number: usize) -> usize {
+        if number < self.count {
+            return 1;
+        }
+        match self.lists.get(number - self.count) {
+            Some(sets) => sets.len(),
+            None => 0,
+        }
+    }
+
+    /// How many selection sets these numbers stand for, counted as often as they are among them.
+    pub fn sets_below(&self, numbers: &[usize]) -> usize {
+        let mut count: usize = 0;
+        for number in numbers {
+            count = count.saturating_add(self.sets_at(*number));
+        }
+        count
+    }
+
     /// Adds the selection sets of a number.
     fn add(&self, number: usize, adding: &mut Adding) -> Result<(), AllocError>
         ensures { OnOk result (AddsOnce (sets_in_joins self.now number) adding.old adding.new) }

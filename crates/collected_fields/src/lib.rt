@@ -12,6 +12,8 @@ mod key_hashing;
 mod lookups;
 mod planning;
 mod prepare;
+mod reach;
+mod reaching;
 mod source;
 mod state;
 mod steps;

@@ -1,0 +1,10 @@
+use Rattle.std.proofs.Common.{ℕ, ◌≡◌, ◌&&◌, drop, map, nat_eq}
+use Rattle.std.specs.List.{list_any}
+use Rattle.schema_model.specs.Numbers.{type_number}
+use Rattle.schema_model.specs.SchemaViews.{schema_data}
+use Rattle.schema_model.specs.SchemaData.{applies}
+use Rattle.collected_fields.specs.Reached.{Misses}
+use Rattle.collected_fields.proofs.reach.Reach.add_where.Given as goal
+
+abbrev pub invariant-loop-of : goal.invariant-loop-of
+invariant-loop-of l = (T : ℕ) → Misses l.self T → Misses l.initial.self T × ((applies (schema_data l.schema) l.on.number T && list_any (nat_eq T) (map type_number (drop l.of-index l.types))) ≡ (applies (schema_data l.schema) l.on.number T && list_any (nat_eq T) (map type_number l.types)))

@@ -1,0 +1,297 @@
+//! For objects of which types selection sets may have fields, found once for each of them.
+
+ghost use Rattle.std.specs.Prelude.{◌≡◌, ◌∷◌, [], ℕ, map, option_map, None, IfOk, OnOk};
+ghost use Rattle.collected_fields.specs.Steps.{step_data, inline_step};
+ghost use Rattle.collected_fields.specs.Lists.{sets_in_joins};
+ghost use Rattle.collected_fields.specs.Reaching.{ReachesSteps, ReachesStep, ReachesFragment, ReachesWhere, ReachesSets, found_of, AreReached, FindsOne, ReachesNumbers};
+
+use crate::joins::Joins;
+use crate::reach::Reach;
+use crate::steps::Step;
+use crate::tables::Tables;
+use crate::walk::{entry_at, place_behind};
+use input_values::TypeId;
+use std::alloc::{AllocError, Global};
+
+/// So many conditions are looked into that stand in one another, beside fragments.
+const NESTED: usize = 64;
+
+/// What was found of selection sets, by their numbers.
+#[derive(Drop)]
+pub struct Reaches {
+    pub sets: Vec<Option<Reach>>,
+}
+
+impl Reaches {
+    /// Nothing was found yet.
+    pub fn new(alloc: Global) -> Reaches
+        ensures { (set : ℕ) → found_of result set ≡ None }
+    {
+        Reaches {
+            sets: Vec::new(alloc),
+        }
+    }
+
+    /// What was found of a set.
+    fn of(&self, set: usize) -> Option<&Reach>
+        ensures { option_map (λ r. r.now) result ≡ found_of self.now set }
+    {
+        match self.sets.get(set) {
+            Some(found) => found.as_ref(),
+            None => None,
+        }
+    }
+
+    /// Keeps what was found of a set.
+    fn keep(&mut self, set: usize, reach: Reach) -> Result<(), AllocError>
+        ensures { FindsOne self.old self.new set reach }
+    {
+        while self.sets.len() <= set {
+            self.sets.push(None)?;
+        }
+        self.sets[set] = Some(reach);
+        Ok(())
+    }
+}
+
+/// Adds the types for which a step may have fields, and tells how many of the next ones were looked at with it.
+#[cycle(reach)]
+fn add_step(
+    alloc: Global,
+    tables: &Tables<'_>,
+    depth: usize,
+    step: &Step<'_>,
+    rest: &[Step<'_>],
+    found: &mut Reaches,
+    reach: &mut Reach,
+) -> Result<usize, AllocError>
+    ensures still { AreReached tables.now found.old → AreReached tables.now found.new }
+    ensures adds { IfOk result (λ passed. AreReached tables.now found.old → ReachesStep tables.now reach.old reach.new (step_data step.now) (map step_data rest.now) passed) }
+{
+    match step {
+        Step::Field(_) => {
+            reach.widen();
+            Ok(0)
+        }
+        Step::Spread(number) => {
+            add_fragment(alloc, tables, depth, *number, found, reach)?;
+            Ok(0)
+        }
+        Step::Inline { on, count } => {
+            add_inline(alloc, tables, depth, *on, *count, rest, found, reach)?;
+            Ok(*count)
+        }
+    }
+}
+
+/// The same of steps that stand under a condition.
+#[cycle(reach)]
+fn add_inline(
+    alloc: Global,
+    tables: &Tables<'_>,
+    depth: usize,
+    on: TypeId,
+    count: usize,
+    rest: &[Step<'_>],
+    found: &mut Reaches,
+    reach: &mut Reach,
+) -> Result<(), AllocError>
+    ensures still { AreReached tables.now found.old → AreReached tables.now found.new }
+    ensures adds { OnOk result (AreReached tables.now found.old → ReachesStep tables.now reach.old reach.new (inline_step on.number count) (map step_data rest.now) count) }
+{
+    if depth == 0 || rest.len() < count {
+        reach.widen();
+        return Ok(());
+    }
+    let mut under = Reach::none(alloc);
+    add_steps(alloc, tables, depth - 1, &rest[..count], found, &mut under)?;
+    reach.join_where(tables.planning.schema, on, &under)
+}
+
+/// The same of steps, as long as types are told apart.
+#[cycle(reach)]
+fn add_steps(
+    alloc: Global,
+    tables: &Tables<'_>,
+    depth: usize,
+    steps: &[Step<'_>],
+    found: &mut Reaches,
+    reach: &mut Reach,
+) -> Result<(), AllocError>
+    ensures still { AreReached tables.now found.old → AreReached tables.now found.new }
+    ensures adds { OnOk result (AreReached tables.now found.old → ReachesSteps tables.now reach.old reach.new (map step_data steps.now)) }
+{
+    let mut at = 0;
+    'steps: while at < steps.len() && !reach.is_every() {
+        let rest = &steps[at + 1..];
+        let passed = add_step(alloc, tables, depth, &steps[at], rest, found, reach)?;
+        at = place_behind(at, passed, steps.len());
+    }
+    Ok(())
+}
+
+/// The same of the fragment of a number.
+#[cycle(reach)]
+fn add_fragment(
+    alloc: Global,
+    tables: &Tables<'_>,
+    depth: usize,
+    number: usize,
+    found: &mut Reaches,
+    reach: &mut Reach,
+) -> Result<(), AllocError>
+    ensures still { AreReached tables.now found.old → AreReached tables.now found.new }
+    ensures adds { OnOk result (AreReached tables.now found.old → ReachesFragment tables.now reach.old reach.new number) }
+{
+    match entry_at(tables, number) {
+        Some(entry) => match entry.on {
+            Some(on) => add_where(alloc, tables, depth, on, entry.list, found, reach),
+            None => Ok(()),
+        },
+        None => Ok(()),
+    }
+}
+
+/// The same of the selection set of a fragment, whose type is a condition.
+#[cycle(reach)]
+fn add_where(
+    alloc: Global,
+    tables: &Tables<'_>,
+    depth: usize,
+    on: TypeId,
+    set: usize,
+    found: &mut Reaches,
+    reach: &mut Reach,
+) -> Result<(), AllocError>
+    ensures still { AreReached tables.now found.old → AreReached tables.now found.new }
+    ensures adds { OnOk result (AreReached tables.now found.old → ReachesWhere tables.now reach.old reach.new on.number set) }
+{
+    if depth == 0 {
+        reach.widen();
+        return Ok(());
+    }
+    find(alloc, tables, depth - 1, set, found)?;
+    match found.of(set) {
+        Some(other) => reach.join_where(tables.planning.schema, on, other),
+        None => {
+            reach.widen();
+            Ok(())
+        }
+    }
+}
+
+/// Finds the types of a selection set, where they weren't found yet.
+#[cycle(reach)]
+fn find(
+    alloc: Global,
+    tables: &Tables<'_>,
+    depth: usize,
+    set: usize,
+    found: &mut Reaches,
+) -> Result<(), AllocError>
+    ensures still { AreReached tables.now found.old → AreReached tables.now found.new }
+{
+    if found.of(set).is_some() {
+        return Ok(());
+    }
+    let mut reach = Reach::none(alloc);
+    add_listed(alloc, tables, depth, set, found, &mut reach)?;
+    found.keep(set, reach)
+}
+
+/// Adds the types of a selection set.
+#[cycle(reach)]
+fn add_listed(
+    alloc: Global,
+    tables: &Tables<'_>,
+    depth: usize,
+    set: usize,
+    found: &mut Reaches,
+    reach: &mut Reach,
+) -> Result<(), AllocError>
+    ensures still { AreReached tables.now found.old → AreReached tables.now found.new }
+    ensures adds { OnOk result (AreReached tables.now found.old → ReachesSets tables.now reach.old reach.new (set ∷ [])) }
+{
+    match tables.lists.get(set) {
+        Some(list) => add_steps(alloc, tables, depth, list.steps.as_slice(), found, reach),
+        None => Ok(()),
+    }
+}
+
+/// Adds the types of a selection set, which are found once.
+fn add_set(
+    alloc: Global,
+    tables: &Tables<'_>,
+    set: usize,
+    found: &mut Reaches,
+    reach: &mut Reach,
+) -> Result<(), AllocError>
+    ensures still { AreReached tables.now found.old → AreReached tables.now found.new }
+    ensures adds { OnOk result (AreReached tables.now found.old → ReachesSets tables.now reach.old reach.new (set ∷ [])) }
+{
+    let depth = tables.planning.fragments.len().saturating_add(NESTED);
+    find(alloc, tables, depth, set, found)?;
+    match found.of(set) {
+        Some(other) => reach.join(other),
+        None => {
+            reach.widen();
+            Ok(())
+        }
+    }
+}
+
+/// The same of some sets.
+fn add_sets(
+    alloc: Global,
+    tables: &Tables<'_>,
+    sets: &[usize],
+    found: &mut Reaches,
+    reach: &mut Reach,
+) -> Result<(), AllocError>
+    ensures still { AreReached tables.now found.old → AreReached tables.now found.new }
+    ensures adds { OnOk result (AreReached tables.now found.old → ReachesSets tables.now reach.old reach.new sets.now) }
+{
+    for set in sets {
+        add_set(alloc, tables, *set, found, reach)?;
+    }
+    Ok(())
+}
+
+/// The same of the sets of a number.
+fn add_number(
+    alloc: Global,
+    tables: &Tables<'_>,
+    joins: &Joins,
+    number: usize,
+    found: &mut Reaches,
+    reach: &mut Reach,
+) -> Result<(), AllocError>
+    ensures still { AreReached tables.now found.old → AreReached tables.now found.new }
+    ensures adds { OnOk result (AreReached tables.now found.old → ReachesSets tables.now reach.old reach.new (sets_in_joins joins.now number)) }
+{
+    if number < joins.count {
+        return add_set(alloc, tables, number, found, reach);
+    }
+    match joins.lists.get(number - joins.count) {
+        Some(sets) => add_sets(alloc, tables, sets.as_slice(), found, reach),
+        None => Ok(()),
+    }
+}
+
+/// The types of objects for which the selection sets of some numbers may have fields.
+pub fn reach_of(
+    alloc: Global,
+    tables: &Tables<'_>,
+    joins: &Joins,
+    numbers: &[usize],
+    found: &mut Reaches,
+) -> Result<Reach, AllocError>
+    ensures still { AreReached tables.now found.old → AreReached tables.now found.new }
+    ensures reach { IfOk result (λ reach. AreReached tables.now found.old → ReachesNumbers tables.now joins.now numbers.now reach) }
+{
+    let mut reach = Reach::none(alloc);
+    for number in numbers {
+        add_number(alloc, tables, joins, *number, found, &mut reach)?;
+    }
+    Ok(reach)
+}
