@@ -16,6 +16,7 @@ use Rattle.plan_model.specs.MergingWalk.{IsAcyclic}
 use Rattle.plan_model.specs.Plans.{type_weight}
 use Rattle.plan_model.specs.Visits.{NodeFault, too_deep, fault_of, Visit, visits, planned}
 use Rattle.plan_table.specs.declared.rows.NodeRow.{NodeRow}
+use Rattle.plan_table.specs.ListSizes.{size_from}
 use Rattle.plan_table.specs.Rows.{Below, Row, rows_below}
 use Rattle.plan_table.specs.Tables.{setting_without_values, meaning_of, below_at, setting_in, row_in, row_of, table_rows}
 use Rattle.collected_fields.specs.declared.planning.Planning.{Planning}
@@ -128,7 +129,7 @@ module _ (e : Setting) (depth T : ℕ) (first : Bool) (handed : HandedSize) (g :
   row_there : (looked : Looked) (l : ℕ) → IsFound e T handed (first_call own_fields) looked → row_looked (setting_without_values e.schema e.weights) depth T first own_fields looked ≡ node_row e T handed (suc l) depth first g
   unfolding form_at weight_at
   row_there looked l found =
-      ap (λ m. row_by (form_of e.schema m) (meaning_weight e m) looked.size looked.arguments (below_at e (place_of e T m))) found.meaning
+      ap (λ m. row_by (form_of e.schema m) (meaning_weight e m) (size_from looked.source) looked.arguments (below_at e (place_of e T m))) found.meaning
       ∙ (ap (λ s. row_by_call s looked.arguments) found.size
       ∙ (ap (λ a. row_by_call (size_at e T (first_call own_fields) handed) a) found.arguments
       ∙ ap (λ b. row_by (form_at e T (first_call own_fields)) (weight_at e T (first_call own_fields)) (size_at e T (first_call own_fields) handed) (capped (cost_at e T (first_call own_fields))) b)
@@ -180,7 +181,7 @@ module _ (old mid new : Building) (depth T : ℕ) (first : Bool) (field : Collec
 -- ---- rows that are pushed
 
 pub row_alike : (e : Setting) (row : NodeRow) (depth T : ℕ) (first : Bool) (fields : List CollectedField) (looked : Looked) → row.key ≡ key_seen fields → row.name ≡ (first_call fields).name → row.asked ≡ list_any (asks e) fields
-    → row.depth ≡ depth → row.on.number ≡ T → row.first ≡ first → row.field ≡ looked.field → row.size ≡ looked.size → row.arguments ≡ looked.arguments → row_of e row ≡ row_looked e depth T first fields looked
+    → row.depth ≡ depth → row.on.number ≡ T → row.first ≡ first → row.field ≡ looked.field → row.size ≡ size_from looked.source → row.arguments ≡ looked.arguments → row_of e row ≡ row_looked e depth T first fields looked
 unfolding row_of
 row_alike e row depth T first fields looked a b c d g h i j k = rw (a) (rw (b) (rw (c) (rw (d) (rw (g) (rw (h) (rw (i) (rw (j) (rw (k) refl))))))))
 
@@ -192,10 +193,10 @@ row_pushed old new depth T first all looked (Err failed) row h is = tt
 
 -- ---- frames
 
-pub frames : (old : Building) (c : Collector) → planning_of c ≡ planning_of old.collector → written_at c ≡ written_at old.collector → frame (record { collector = c; plan = old.plan; left = old.left; calls = old.calls }) ≡ frame old
+pub frames : (old : Building) (c : Collector) → planning_of c ≡ planning_of old.collector → written_at c ≡ written_at old.collector → frame (record { collector = c; plan = old.plan; left = old.left; calls = old.calls; keys = old.keys }) ≡ frame old
 frames old c planning written = ap (λ (pl : Planning). (pl, written_at c, setting_in old.plan, old.plan.root.number, old.plan.schema.now, old.plan.weights.now)) planning ∙ ap (λ (w : ℕ → WrittenSelections). (planning_of old.collector, w, setting_in old.plan, old.plan.root.number, old.plan.schema.now, old.plan.weights.now)) written
 
-pub can_after : (old : Building) (c : Collector) → planning_of c ≡ planning_of old.collector → (IsReady old.collector → IsReady c) → CanBuild old → CanBuild (record { collector = c; plan = old.plan; left = old.left; calls = old.calls })
+pub can_after : (old : Building) (c : Collector) → planning_of c ≡ planning_of old.collector → (IsReady old.collector → IsReady c) → CanBuild old → CanBuild (record { collector = c; plan = old.plan; left = old.left; calls = old.calls; keys = old.keys })
 can_after old c planning ready can = record {
   collector = ready can.collector;
   plan = can.plan ∙ ap (λ (pl : Planning). setting_without_values (setting_of_planning pl).schema (setting_of_planning pl).weights) (sym planning);
@@ -207,7 +208,7 @@ pub kept_before : (old : Building) (pl : Planning) → pl ≡ planning_of old.co
 kept_before old pl is can = subst (λ (x : Planning). AreKept (setting_of_planning x) old.calls) (sym is) can.calls
 
 pub can_still : (old : Building) (pl : Planning) (left : ℕ) (calls : Calls) → pl ≡ planning_of old.collector → (AreKept (setting_of_planning pl) old.calls → AreKept (setting_of_planning pl) calls) → CanBuild old
-    → CanBuild (record { collector = old.collector; plan = old.plan; left = left; calls = calls })
+    → CanBuild (record { collector = old.collector; plan = old.plan; left = left; calls = calls; keys = old.keys })
 can_still old pl left calls is kept can = record {
   collector = can.collector;
   plan = can.plan;

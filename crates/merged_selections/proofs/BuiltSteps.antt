@@ -49,7 +49,7 @@ abbrev pub setting_of : Frame → Setting
 setting_of f = setting_of_planning f.0
 
 module _ (old now : Building) (same : frame now ≡ frame old) (more : HasMore old.collector.joins now.collector.joins) where
-  same_setting : setting_built now ≡ setting_built old
+  pub same_setting : setting_built now ≡ setting_built old
   same_setting = ap setting_of same
 
   same_written : written_at now.collector ≡ written_at old.collector
@@ -58,7 +58,7 @@ module _ (old now : Building) (same : frame now ≡ frame old) (more : HasMore o
   same_below : (numbers : List ℕ) → All (IsNumber old.collector) numbers → flat_map (meaning_at now.collector) numbers ≡ flat_map (meaning_at old.collector) numbers
   same_below numbers known = same_meanings old.collector now.collector same_written more numbers known
 
-  same_position : (numbers : List ℕ) (handed : HandedSize) → All (IsNumber old.collector) numbers → position_built now numbers handed ≡ position_built old numbers handed
+  pub same_position : (numbers : List ℕ) (handed : HandedSize) → All (IsNumber old.collector) numbers → position_built now numbers handed ≡ position_built old numbers handed
   same_position numbers handed known = ap (λ (ws : List WrittenSelections). record { selections = ws; handed = handed }) (same_below numbers known)
 
   same_group : (g : Group) → All (IsNumber old.collector) g.below.items → group_seen now.collector g ≡ group_seen old.collector g

@@ -5,7 +5,9 @@ pub mod BuiltNodes
 pub mod BuiltParts
 pub mod BuiltPlans
 pub mod BuiltSteps
+pub mod FewerTypes
 pub mod NodeFaults
+pub mod NodeSizes
 pub mod Opened
 pub mod SideBySide
 pub mod VisitedParts

@@ -19,6 +19,7 @@ use Rattle.plan_model.specs.Collecting.{CollectedField}
 use Rattle.plan_model.specs.SameArguments.{same_arguments}
 use Rattle.plan_model.specs.Visits.{NodeFault, conflict, refused_argument, refused_size, no_possible_type, argument_fault, arguments_differ, size_fault, fault_of}
 use Rattle.plan_model.proofs.SameValues.{same_as_equal}
+use Rattle.plan_table.specs.ListSizes.{size_from}
 use Rattle.plan_table.specs.Tables.{meaning_of}
 use Rattle.merged_selections.specs.declared.node.Looked.{Looked}
 use Rattle.merged_selections.specs.declared.why.Why.{Why}
@@ -105,7 +106,7 @@ module _ (e : Setting) (T : ℕ) (m : Meaning) where
         ∙ ap (λ p. or_else (first_of refused_by fields) (or_else (fault_where (list_any (other_by (if_coerced (arguments_of e m f.call.arguments))) fields) conflict) (or_else (option_map refused_size (fault_in (sized_answer handed f.call))) (fault_where (lacks_types p) no_possible_type)))) own_place)))
 
     -- what is found of it
-    pub found_by_meaning : (handed : HandedSize) (looked : Looked) → meaning_of looked.field ≡ m → looked.size ≡ size_in (form_of e.schema m) (sized_answer handed f.call) → looked.arguments ≡ capped (cost_of e m (if_coerced (arguments_of e m f.call.arguments)))
+    pub found_by_meaning : (handed : HandedSize) (looked : Looked) → meaning_of looked.field ≡ m → size_from looked.source ≡ size_in (form_of e.schema m) (sized_answer handed f.call) → looked.arguments ≡ capped (cost_of e m (if_coerced (arguments_of e m f.call.arguments)))
         → handed_data looked.hands ≡ option_map (λ n. (sized_by e m, n)) (length_in (sized_answer None f.call)) → IsFound e T handed f.call looked
     unfolding size_at cost_at hands_at form_at
     found_by_meaning handed looked field size arguments hands = record {
@@ -203,10 +204,10 @@ module _ (e : Setting) (T : ℕ) (m : Meaning) (bare : (w : CollectedField) → 
       ∙ ap (λ o. or_else o (fault_where (lacks_types (place_of e T m)) no_possible_type)) is)))
 
 module _ (e : Setting) (T : ℕ) (handed : HandedSize) (f : CollectedField) (others : List CollectedField) (names : names_not f.call.name others ≡ false) where
-  pub name_is_planned : (looked : Looked) → meaning_at e T f.call ≡ name_of_type → looked.field ≡ None → looked.size ≡ None → looked.arguments ≡ 0 → handed_data looked.hands ≡ None → (fault_of e T handed (f ∷ others) ≡ None) × IsFound e T handed f.call looked
+  pub name_is_planned : (looked : Looked) → meaning_at e T f.call ≡ name_of_type → looked.field ≡ None → looked.source ≡ None → looked.arguments ≡ 0 → handed_data looked.hands ≡ None → (fault_of e T handed (f ∷ others) ≡ None) × IsFound e T handed f.call looked
   name_is_planned looked means field size arguments hands = (
     fault_without_arguments e T name_of_type (λ w. refl) handed f others means names None refl,
-    found_by_meaning e T name_of_type f means handed looked (ap meaning_of field) size arguments hands,
+    found_by_meaning e T name_of_type f means handed looked (ap meaning_of field) (ap size_from size) arguments hands,
   )
 
   pub no_field_is_told : meaning_at e T f.call ≡ no_such_field → fault_of e T handed (f ∷ others) ≡ Some no_possible_type

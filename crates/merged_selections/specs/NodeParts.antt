@@ -1,13 +1,18 @@
 -- What is looked up of a field, as definitions see it.
-use Rattle.std.specs.Prelude.{ℕ, Bool, true, false, not, ◌&&◌, List, [], ◌∷◌, option_map, Option, None, Some}
+use Rattle.std.specs.Prelude.{◌≡◌, ℕ, Bool, true, false, not, ◌&&◌, nat_eq, List, [], ◌∷◌, map, option_map, Option, None, Some, Vec}
+use Rattle.std.specs.declared.alloc.Global.{Global}
+use Rattle.std.specs.List.{list_any}
 use Rattle.response_model.specs.Plan.{Form, single, listed}
 use Rattle.schema_rules.specs.declared.kind.Kind.{Kind}
 use Rattle.schema_rules.specs.Kinds.{is_object, is_output_only}
+use Rattle.input_values.specs.declared.inputs.shape.TypeId.{TypeId}
+use Rattle.schema_model.specs.Numbers.{type_number}
 use Rattle.schema_model.specs.SchemaData.{SchemaData, possible}
 use Rattle.schema_model.specs.declared.entries.FieldId.{FieldId}
 use Rattle.document_rules.specs.Sites.{Meaning as MeaningData, name_of_type, known_field, no_such_field, is_composite, type_of_field}
 use Rattle.plan_model.specs.SelectedFields.{HandedSize, form_of, is_asked}
 use Rattle.plan_model.specs.Collecting.{CollectedField}
+use Rattle.collected_fields.specs.Reached.{IsObjectType}
 use Rattle.merged_selections.specs.declared.lookups.Meaning.{Meaning}
 use Rattle.merged_selections.specs.declared.lookups.Meaning.TheVariants.{NameOfType, Known, NoSuchField}
 use Rattle.merged_selections.specs.declared.lookups.Handed.{Handed}
@@ -56,3 +61,12 @@ asks_in s f = is_asked s f.parent f.call
 abbrev pub types_at : SchemaData → Option FieldId → List ℕ
 types_at s None = []
 types_at s (Some field) = types_below s field.number
+
+-- the types that are left of some, or all of them where none are left out
+abbrev pub types_left : Option (Vec TypeId Global) → List TypeId → List TypeId
+types_left None types = types
+types_left (Some left) types = left.items
+
+-- They are types of objects.
+abbrev pub AreObjectTypes : SchemaData → List TypeId → Type 0
+AreObjectTypes s types = (T : ℕ) → list_any (nat_eq T) (map type_number types) ≡ true → IsObjectType s T

@@ -1,5 +1,5 @@
 -- The tests of a node, one after another, and what is found of it where it passes them.
-use Rattle.std.specs.Prelude.{◌≡◌, ℕ, Bool, true, not, List, ◌∷◌, map, option_map, ◌++◌, All, IfSome, slice_get, Option, None, Some, Result, Ok, Err, if◌then◌else◌}
+use Rattle.std.specs.Prelude.{◌≡◌, ℕ, Bool, true, false, not, List, ◌∷◌, map, option_map, ◌++◌, All, IfSome, slice_get, Option, None, Some, Result, Ok, Err}
 use Rattle.std.specs.List.{list_any}
 use Rattle.std.specs.Str.{bytes_eq}
 use Rattle.cost_num.specs.Capped.{capped}
@@ -7,8 +7,9 @@ use Rattle.schema_rules.specs.First.{or_else, fault_where, first_of}
 use Rattle.schema_model.specs.Arguments.{ArgData, args_data}
 use Rattle.cost_directives.specs.Weights.{argument_cost_in}
 use Rattle.cost_directives.specs.declared.sizes.Size.{Size}
-use Rattle.cost_directives.specs.declared.sizes.Size.TheVariants.{Any, At}
 use Rattle.cost_directives.specs.declared.sizes.SizeFault.{SizeFault}
+use Rattle.cost_directives.specs.declared.sources.SizeSource.{SizeSource}
+use Rattle.cost_directives.specs.SizeSources.{size_source_in}
 use Rattle.variable_coercion.specs.declared.faults.ArgFault.{ArgFault}
 use Rattle.variable_coercion.specs.Refusals.{Refusal}
 use Rattle.variable_coercion.specs.Calls.{argument_told, IsTold}
@@ -22,6 +23,7 @@ use Rattle.plan_model.specs.Visits.{NodeFault, too_deep, conflict, refused_argum
 use Rattle.collected_fields.specs.declared.planning.Planning.{Planning}
 use Rattle.collected_fields.specs.declared.collected.Collected.{Collected}
 use Rattle.collected_fields.specs.Views.{setting_of_planning, collected_field}
+use Rattle.plan_table.specs.ListSizes.{size_from}
 use Rattle.plan_table.specs.Tables.{meaning_of}
 use Rattle.merged_selections.specs.declared.call.Call.{Call}
 use Rattle.merged_selections.specs.declared.calls.Calls.{Calls}
@@ -29,7 +31,7 @@ use Rattle.merged_selections.specs.declared.lookups.Handed.{Handed}
 use Rattle.merged_selections.specs.declared.node.Looked.{Looked}
 use Rattle.merged_selections.specs.declared.why.Why.{Why}
 use Rattle.merged_selections.specs.declared.why.Why.TheVariants.{TooDeep, Conflict, Argument, Size as SizeWhy, NoPossibleType}
-use Rattle.merged_selections.specs.NodeParts.{handed_data, lacks_types_below}
+use Rattle.merged_selections.specs.NodeParts.{handed_data, has_lists, lacks_types_below}
 use Rattle.plan_model.specs.GivenAlike.{AreGivenAlike}
 
 -- ---- what a refusal tells; want of memory tells nothing
@@ -97,7 +99,7 @@ module _ (e : Setting) (field : ℕ) where
     -- what is found of it
     pub record IsFoundOf (looked : Looked) : Type 0 where
       pub meaning : meaning_of looked.field ≡ known_field field
-      pub size : looked.size ≡ size_in (form_of e.schema (known_field field)) own_size
+      pub size : size_from looked.source ≡ size_in (form_of e.schema (known_field field)) own_size
       pub arguments : looked.arguments ≡ capped (argument_cost_in e.weights field args)
       pub hands : handed_data looked.hands ≡ handed_by e field args
 
@@ -200,9 +202,11 @@ module _ (p : Planning) (of : FieldId) where
     abbrev pub IsFoundHere : Looked → Type 0
     IsFoundHere looked = IsFoundOf setting_seen of.number (handed_data handed) (name_seen first) (args_data call.args) looked
 
-    abbrev pub LooksAfterSize : Size → Result Looked Why → Type 0
-    LooksAfterSize size result =
-        IsCallHere → own_size setting_seen of.number (handed_data handed) (name_seen first) (args_data call.args) ≡ Ok size → Looks IsFoundHere result (fault_after_size setting_seen of.number (handed_data handed) (name_seen first) (args_data call.args))
+    -- where the source is that of its size
+    abbrev pub LooksAfterSize : Option SizeSource → Result Looked Why → Type 0
+    LooksAfterSize source result =
+        IsCallHere → size_from source ≡ size_in (form_of setting_seen.schema (known_field of.number)) (own_size setting_seen of.number (handed_data handed) (name_seen first) (args_data call.args))
+        → Looks IsFoundHere result (fault_after_size setting_seen of.number (handed_data handed) (name_seen first) (args_data call.args))
 
     abbrev pub LooksAfterArguments : Result Looked Why → Type 0
     LooksAfterArguments result = IsCallHere → Looks IsFoundHere result (fault_after_arguments setting_seen of.number (handed_data handed) (name_seen first) (args_data call.args))
@@ -225,7 +229,7 @@ names_not name fields = list_any (λ f. not (bytes_eq f.call.name name)) fields
 -- What is found of a node that passes the tests.
 pub record IsFound (e : Setting) (T : ℕ) (handed : HandedSize) (c : FieldCall) (looked : Looked) : Type 0 where
   pub meaning : meaning_of looked.field ≡ meaning_at e T c
-  pub size : looked.size ≡ size_at e T c handed
+  pub size : size_from looked.source ≡ size_at e T c handed
   pub arguments : looked.arguments ≡ capped (cost_at e T c)
   pub hands : handed_data looked.hands ≡ hands_at e T c
 
@@ -237,7 +241,12 @@ fields_seen first others = collected_field first ∷ map collected_field others
 abbrev pub LooksAt : Setting → ℕ → Option Handed → List CollectedField → Result Looked Why → Type 0
 LooksAt e T handed fields result = Looks (IsFound e T (handed_data handed) (first_call fields)) result (fault_of e T (handed_data handed) fields)
 
--- the size of a list
-abbrev pub size_of : Bool → Size → Option ℕ
-size_of is_list Any = None
-size_of is_list (At size) = if is_list then Some size else None
+-- ---- the source of its size
+
+abbrev pub where_listed : Bool → SizeSource → Option SizeSource
+where_listed true source = Some source
+where_listed false source = None
+
+-- where the declared size of a field's list comes from; none where it is no list
+abbrev pub source_at : Setting → ℕ → List ArgData → Option ℕ → Option SizeSource
+source_at e field args taken = where_listed (has_lists e.schema field) (size_source_in e.weights field args taken)

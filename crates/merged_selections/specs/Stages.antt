@@ -18,6 +18,7 @@ use Rattle.collected_fields.specs.declared.collected.Group.{Group}
 use Rattle.collected_fields.specs.Views.{collected_field}
 use Rattle.collected_fields.specs.Groups.{GroupData}
 use Rattle.collected_fields.specs.Gathering.{IsReady, planning_of, setting_at, written_at, meaning_at, IsNumber, group_seen, groups_seen}
+use Rattle.plan_table.specs.ListSizes.{size_from}
 use Rattle.plan_table.specs.Rows.{Row, below_in, rows_below, rows_of_types, rows_of_nodes}
 use Rattle.plan_table.specs.Tables.{setting_without_values, meaning_of, below_at, setting_in, table_rows}
 use Rattle.merged_selections.specs.declared.node.Looked.{Looked}
@@ -143,7 +144,7 @@ row_looked e depth T first fields looked = record {
     field = (first_call fields).name;
     asked = list_any (asks e) fields;
     form = form_of e.schema (meaning_of looked.field);
-    size = looked.size;
+    size = size_from looked.source;
     weight = meaning_weight e (meaning_of looked.field);
     arguments = looked.arguments;
   };

@@ -14,6 +14,7 @@ use crate::building::Building;
 use crate::calls::Calls;
 use crate::fault::PlanFault;
 use crate::few::are_few;
+use crate::keys::Keys;
 use crate::stop::fault_of;
 use collected_fields::{Collector, Planning};
 use cost_directives::Weights;
@@ -63,6 +64,7 @@ fn build_from<'a, 'b>(
         plan: Plan::new(alloc, schema, weights, root),
         left: NODE_LIMIT,
         calls: Calls::new(alloc),
+        keys: Keys::new(alloc),
     };
     match building.build_types(alloc, 1, &[root], &[list], None) {
         Ok(()) => Ok(building.into_plan()),

@@ -4,11 +4,12 @@ ghost use Rattle.std.specs.Prelude.{◌≡◌, ◌∷◌, ◌≤◌, map};
 ghost use Rattle.schema_model.specs.SchemaViews.{schema_data};
 ghost use Rattle.schema_model.specs.Numbers.{type_number};
 ghost use Rattle.collected_fields.specs.Lists.{HasMore};
-ghost use Rattle.merged_selections.specs.NodeParts.{handed_data, types_at};
-ghost use Rattle.merged_selections.specs.Stages.{frame, CanBuild, BuildsTypes, BuildsType, BuildsGroups, BuildsGroup, BuildsNode, PushesRow};
+ghost use Rattle.merged_selections.specs.NodeParts.{handed_data, types_at, types_left, AreObjectTypes};
+ghost use Rattle.merged_selections.specs.Stages.{frame, setting_built, CanBuild, BuildsTypes, BuildsType, BuildsGroups, BuildsGroup, BuildsNode, PushesRow};
 
 use crate::LEVEL_LIMIT;
 use crate::calls::Calls;
+use crate::keys::Keys;
 use crate::lookups::{Handed, any_asks, key_of, name_of, types_below};
 use crate::node::{Looked, look};
 use crate::stop::{Stop, stopped, under};
@@ -16,7 +17,7 @@ use crate::why::Why;
 use collected_fields::{Collected, Collector, Group};
 use gql_base::Text;
 use input_values::TypeId;
-use plan_table::{NodeRow, Plan};
+use plan_table::{NodeRow, Plan, size_from};
 use schema_model::{FieldId, Schema};
 use std::alloc::{AllocError, Global};
 
@@ -29,6 +30,8 @@ pub struct Building<'p, 'a> {
     pub left: usize,
     /// The calls that were made.
     pub calls: Calls<'p>,
+    /// The response keys of the rows.
+    pub keys: Keys<'p>,
 }
 
 /// The types of the objects that may stand at a field; none at `__typename`.
@@ -38,6 +41,16 @@ fn types_at<'p>(schema: &'p Schema, field: Option<FieldId>) -> &'p [TypeId]
     match field {
         Some(field) => types_below(schema, field),
         None => &[],
+    }
+}
+
+/// The types that are left of some, or all of them where none are left out.
+fn left_of<'t>(left: &'t Option<Vec<TypeId>>, types: &'t [TypeId]) -> &'t [TypeId]
+    ensures { result.now ≡ types_left left.now types.now }
+{
+    match left {
+        Some(left) => left.as_slice(),
+        None => types,
     }
 }
 
@@ -69,17 +82,39 @@ impl<'p, 'a> Building<'p, 'a> {
         ensures pushed { PushesRow self.old depth on.number first (field.now ∷ others.now) looked.now result self.new }
     {
         let asked = any_asks(self.plan.schema(), field, others);
+        let key = self.keys.row_key(alloc, key_of(field))?;
+        let name = Text::copy_of(alloc, name_of(field))?;
         self.plan.push(NodeRow {
-            key: Text::copy_of(alloc, key_of(field))?,
+            key,
             depth,
-            name: Text::copy_of(alloc, name_of(field))?,
+            name,
             on,
             first,
             field: looked.field,
             asked,
-            size: looked.size,
+            size: size_from(looked.source),
+            source: looked.source,
             arguments: looked.arguments,
         })
+    }
+
+    /// The nodes of a position for these types of objects. Those for whose objects it has no fields are left out.
+    #[cycle(build)]
+    fn build_position(
+        &mut self,
+        alloc: Global,
+        depth: u32,
+        types: &[TypeId],
+        lists: &[usize],
+        handed: Option<Handed<'p>>,
+    ) -> Result<(), Stop>
+        ensures frame { frame self.new ≡ frame self.old }
+        ensures numbers { HasMore self.old.collector.joins self.new.collector.joins }
+        ensures ready { CanBuild self.old → CanBuild self.new }
+        ensures built { AreObjectTypes (setting_built self.old).schema types.now → BuildsTypes self.old depth result self.new types.now lists.now (handed_data handed.entry) }
+    {
+        let left = self.collector.types_with_fields(alloc, types, lists)?;
+        self.build_types(alloc, depth, left_of(&left, types), lists, handed)
     }
 
     /// The nodes of a position for these types and of what stands below them.
@@ -216,7 +251,7 @@ impl<'p, 'a> Building<'p, 'a> {
             Ok(looked) => {
                 self.push_row(alloc, depth, of, first, field, others, &looked)?;
                 let types = types_at(planning.schema, looked.field);
-                match self.build_types(alloc, depth + 1, types, below, looked.hands) {
+                match self.build_position(alloc, depth + 1, types, below, looked.hands) {
                     Ok(()) => Ok(()),
                     Err(stop) => Err(under(alloc, stop, key)),
                 }

@@ -13,6 +13,7 @@ mod fault;
 mod few;
 mod hashes;
 mod held;
+mod keys;
 mod laws;
 mod lookups;
 mod node;

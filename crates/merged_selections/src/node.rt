@@ -1,8 +1,9 @@
 //! The tests of a node, in their order, and what is found of one that passes them.
 
 ghost use Rattle.std.specs.Prelude.{◌≡◌, ◌<◌, length, map};
+ghost use Rattle.schema_model.specs.Arguments.{args_data};
 ghost use Rattle.collected_fields.specs.Views.{setting_of_planning, collected_field};
-ghost use Rattle.merged_selections.specs.NodeTests.{AreKept, LooksAfterSize, LooksAfterArguments, LooksAfterFirst, LooksAfterNames, LooksAt, fields_seen, names_not, size_of};
+ghost use Rattle.merged_selections.specs.NodeTests.{AreKept, LooksAfterSize, LooksAfterArguments, LooksAfterFirst, LooksAfterNames, LooksAt, fields_seen, names_not, source_at};
 
 use crate::arguments::any_differs;
 use crate::call::Call;
@@ -10,9 +11,9 @@ use crate::calls::Calls;
 use crate::lookups::{Handed, Meaning, handed_in, has_lists, lacks_types, meaning_on, name_of};
 use crate::why::Why;
 use collected_fields::{Collected, Planning};
-use cost_directives::Size;
+use cost_directives::SizeSource;
 use input_values::TypeId;
-use schema_model::FieldId;
+use schema_model::{Args, FieldId};
 use std::alloc::Global;
 
 /// What is found of a node.
@@ -20,21 +21,27 @@ use std::alloc::Global;
 pub struct Looked<'a> {
     /// The field; none for `__typename`.
     pub field: Option<FieldId>,
-    /// The declared size of its list.
-    pub size: Option<u64>,
+    /// Where the declared size of its list comes from; none where it is no list.
+    pub source: Option<SizeSource>,
     /// What its arguments cost.
     pub arguments: u64,
     /// The size that it hands down.
     pub hands: Option<Handed<'a>>,
 }
 
-/// The size of a list, if it is one.
-fn size_in(is_list: bool, size: Size) -> Option<u64>
-    ensures { result ≡ size_of is_list size }
+/// Where the declared size of a field's list comes from; none where it is no list.
+fn source_at(
+    planning: &Planning<'_>,
+    of: FieldId,
+    args: &Args,
+    taken: Option<u64>,
+) -> Option<SizeSource>
+    ensures { result ≡ source_at (setting_of_planning planning.now) of.number (args_data args.now) taken }
 {
-    match size {
-        Size::Any => None,
-        Size::At(size) => { if is_list { Some(size) } else { None } }
+    if has_lists(planning.schema, of) {
+        Some(planning.weights.size_source(of, args, taken))
+    } else {
+        None
     }
 }
 
@@ -42,18 +49,18 @@ fn after_size<'a>(
     planning: &Planning<'a>,
     of: FieldId,
     call: &Call<'a>,
-    size: Size,
+    source: Option<SizeSource>,
     handed: Option<Handed<'_>>,
     first: &Collected<'a>,
 ) -> Result<Looked<'a>, Why>
-    ensures { LooksAfterSize planning.now of handed.entry first.now call.now size result }
+    ensures { LooksAfterSize planning.now of handed.entry first.now call.now source result }
 {
     if lacks_types(planning.schema, of) {
         return Err(Why::NoPossibleType);
     }
     Ok(Looked {
         field: Some(of),
-        size: size_in(has_lists(planning.schema, of), size),
+        source,
         arguments: call.cost,
         hands: call.hands,
     })
@@ -70,7 +77,10 @@ fn after_arguments<'a>(
 {
     let taken = handed_in(planning.schema, of, handed, name_of(first));
     match planning.weights.declared_size(of, &call.args, taken) {
-        Ok(size) => after_size(planning, of, call, size, handed, first),
+        Ok(_) => {
+            let source = source_at(planning, of, &call.args, taken);
+            after_size(planning, of, call, source, handed, first)
+        }
         Err(fault) => Err(Why::Size(fault)),
     }
 }
@@ -148,7 +158,7 @@ pub fn look<'a>(
         Meaning::Known(field) => after_names(alloc, planning, field, handed, first, others, calls),
         Meaning::NameOfType => Ok(Looked {
             field: None,
-            size: None,
+            source: None,
             arguments: 0,
             hands: None,
         }),

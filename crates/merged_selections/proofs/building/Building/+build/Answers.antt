@@ -11,9 +11,23 @@ use Rattle.merged_selections.specs.Outcomes.{outcome, IsStop}
 use Rattle.collected_fields.specs.declared.collector.Collector.{Collector}
 use Rattle.collected_fields.specs.Lists.{HasMore}
 use Rattle.collected_fields.proofs.ListLaws.{more_itself, more_again}
-use Rattle.merged_selections.specs.Stages.{levels_from, setting_built, node_seen, BuildsGroups}
+use Rattle.input_values.specs.declared.inputs.shape.TypeId.{TypeId}
+use Rattle.merged_selections.specs.Stages.{levels_from, setting_built, node_seen, BuildsGroups, BuildsTypes}
+use Rattle.merged_selections.proofs.FewerTypes.{objects_at, left_built}
 use Rattle.merged_selections.proofs.BuiltNodes.{frames, can_after, kept_before, can_still, below_visits, below_built, below_stops, below_fine, rows_there, past_limit, too_deep_stops, fault_stops, levels_more, no_levels}
 use Rattle.merged_selections.proofs.building.Building.+build.Goals as goal
+
+pub build_position-returns-clause-built : goal.build_position-returns-clause-built
+build_position-returns-clause-built t c = λ objects.
+    left_built c.args.self.now (record { collector = c.types_with_fields.new.self; plan = c.args.self.now.plan; left = c.args.self.now.left; calls = c.args.self.now.calls; keys = c.args.self.now.keys }) c.build_types.new.self (frames c.args.self.now c.types_with_fields.new.self c.types_with_fields.ensures.grows.planning c.types_with_fields.ensures.grows.written) c.types_with_fields.ensures.grows.numbers
+    (can_after c.args.self.now c.types_with_fields.new.self c.types_with_fields.ensures.grows.planning c.types_with_fields.ensures.grows.ready) refl refl c.args.depth c.args.lists.now (handed_data c.args.handed) c.build_types.result c.args.types.now c.in_ok-left.left c.in_ok-left.ensures.left objects
+    (subst (λ (ts : List TypeId). BuildsTypes (record { collector = c.types_with_fields.new.self; plan = c.args.self.now.plan; left = c.args.self.now.left; calls = c.args.self.now.calls; keys = c.args.self.now.keys }) c.args.depth c.build_types.result c.build_types.new.self ts c.args.lists.now (handed_data c.args.handed)) c.left_of.ensures c.build_types.ensures.built)
+
+pub build_position-returns-clause-ready : goal.build_position-returns-clause-ready
+build_position-returns-clause-ready t c = λ can. c.build_types.ensures.ready (can_after c.args.self.now c.types_with_fields.new.self c.types_with_fields.ensures.grows.planning c.types_with_fields.ensures.grows.ready can)
+
+pub build_position-returns-in_err-left-clause-ready : goal.build_position-returns-in_err-left-clause-ready
+build_position-returns-in_err-left-clause-ready t c = λ can. can_after c.args.self.now c.types_with_fields.new.self c.types_with_fields.ensures.grows.planning c.types_with_fields.ensures.grows.ready can
 
 pub build_types-returns-in-Err-clause-built : goal.build_types-returns-in-Err-clause-built
 build_types-returns-in-Err-clause-built t c =
@@ -55,9 +69,9 @@ build_groups-returns-clause-built t c =
 
 pub build_type-returns-clause-built : goal.build_type-returns-clause-built
 build_type-returns-clause-built t c =
-    type_built c.args.self.now (record { collector = c.collect.new.self; plan = c.args.self.now.plan; left = c.args.self.now.left; calls = c.args.self.now.calls }) c.build_groups.new.self (frames c.args.self.now c.collect.new.self c.collect.ensures.grows.planning c.collect.ensures.grows.written) refl refl c.args.depth c.args.of.number c.args.lists.now (handed_data c.args.handed) c.in_ok-groups.groups.items c.build_groups.result
+    type_built c.args.self.now (record { collector = c.collect.new.self; plan = c.args.self.now.plan; left = c.args.self.now.left; calls = c.args.self.now.calls; keys = c.args.self.now.keys }) c.build_groups.new.self (frames c.args.self.now c.collect.new.self c.collect.ensures.grows.planning c.collect.ensures.grows.written) refl refl c.args.depth c.args.of.number c.args.lists.now (handed_data c.args.handed) c.in_ok-groups.groups.items c.build_groups.result
     (can_after c.args.self.now c.collect.new.self c.collect.ensures.grows.planning c.collect.ensures.grows.ready) c.in_ok-groups.ensures.gives
-    (subst (λ (gs : List Group). BuildsGroups (record { collector = c.collect.new.self; plan = c.args.self.now.plan; left = c.args.self.now.left; calls = c.args.self.now.calls }) c.args.depth c.build_groups.result c.build_groups.new.self c.args.of.number gs (handed_data c.args.handed)) c.as_slice.ensures.value c.build_groups.ensures.built)
+    (subst (λ (gs : List Group). BuildsGroups (record { collector = c.collect.new.self; plan = c.args.self.now.plan; left = c.args.self.now.left; calls = c.args.self.now.calls; keys = c.args.self.now.keys }) c.args.depth c.build_groups.result c.build_groups.new.self c.args.of.number gs (handed_data c.args.handed)) c.as_slice.ensures.value c.build_groups.ensures.built)
 
 pub build_node-returns-then-self-eq0-clause-built : goal.build_node-returns-then-self-eq0-clause-built
 build_node-returns-then-self-eq0-clause-built t c = λ can. past_limit (setting_built c.args.self.now) c.args.of.number (handed_data c.args.handed) (node_seen c.args.self.now (c.args.field.now ∷ c.args.others.now) c.args.below.now) (levels_from c.args.depth) c.args.self.now.left c.if-self-eq0.true
@@ -70,32 +84,32 @@ build_node-returns-in-Err-clause-built t c = λ can. fault_stops (setting_built 
     (subst (λ (pl : Planning). IsThere (fault_told c.in-Err.why) (fault_of (setting_of_planning pl) c.args.of.number (handed_data c.args.handed) (map collected_field (c.args.field.now ∷ c.args.others.now)))) c.planning-planning.ensures (c.in-Err.ensures.looks (kept_before c.args.self.now _ c.planning-planning.ensures can.0)))
     c.stopped-in-Err.ensures
 
-pub build_node-returns-in-Ok-build_types-clause-built : goal.build_node-returns-in-Ok-build_types-clause-built
-build_node-returns-in-Ok-build_types-clause-built t c = λ can.
-    let here = below_built c.args.self.now c.push_row.new.self c.build_types.new.self c.args.depth c.args.of.number c.args.first c.args.field.now c.args.others.now (handed_data c.args.handed) c.in-Ok.looked c.types_at-types.result.now c.args.below.now c.in_ok-push_row-in-Ok.ensures.collector (subst (λ (pl : Planning). IsFound (setting_of_planning pl) c.args.of.number (handed_data c.args.handed) (collected_field c.args.field.now).call c.in-Ok.looked) c.planning-planning.ensures (c.in-Ok.ensures.looks (kept_before c.args.self.now _ c.planning-planning.ensures can.0)).1)
-    (c.types_at-types.ensures ∙ ap (λ (pl : Planning). types_at (setting_of_planning pl).schema c.in-Ok.looked.field) c.planning-planning.ensures) (Ok c.in-Ok-build_types.field-0) (c.in_ok-push_row-in-Ok.ensures.ready (can_still c.args.self.now _ _ c.look.new.calls c.planning-planning.ensures c.in-Ok.ensures.kept can.0)) can.1 c.in-Ok-build_types.ensures.built in (
-      below_fine (setting_built c.args.self.now) c.args.of.number (handed_data c.args.handed) (node_seen c.args.self.now (c.args.field.now ∷ c.args.others.now) c.args.below.now) c.args.self.now.left c.if-self-eq0.false c.key_of-key.result.now c.key_of-key.ensures (levels_from c.args.depth) (levels_from (c.args.depth + 1)) c.build_types.new.self.left (levels_more c.args.depth c.if-depth-gt-LEVEL_LIMIT.false) (ap (λ (pl : Planning). fault_of (setting_of_planning pl) c.args.of.number (handed_data c.args.handed) (map collected_field (c.args.field.now ∷ c.args.others.now))) (sym c.planning-planning.ensures) ∙ (c.in-Ok.ensures.looks (kept_before c.args.self.now _ c.planning-planning.ensures can.0)).0)
+pub build_node-returns-in-Ok-build_position-clause-built : goal.build_node-returns-in-Ok-build_position-clause-built
+build_node-returns-in-Ok-build_position-clause-built t c = λ can.
+    let here = below_built c.args.self.now c.push_row.new.self c.build_position.new.self c.args.depth c.args.of.number c.args.first c.args.field.now c.args.others.now (handed_data c.args.handed) c.in-Ok.looked c.types_at-types.result.now c.args.below.now c.in_ok-push_row-in-Ok.ensures.collector (subst (λ (pl : Planning). IsFound (setting_of_planning pl) c.args.of.number (handed_data c.args.handed) (collected_field c.args.field.now).call c.in-Ok.looked) c.planning-planning.ensures (c.in-Ok.ensures.looks (kept_before c.args.self.now _ c.planning-planning.ensures can.0)).1)
+    (c.types_at-types.ensures ∙ ap (λ (pl : Planning). types_at (setting_of_planning pl).schema c.in-Ok.looked.field) c.planning-planning.ensures) (Ok c.in-Ok-build_position.field-0) (c.in_ok-push_row-in-Ok.ensures.ready (can_still c.args.self.now _ _ c.look.new.calls c.planning-planning.ensures c.in-Ok.ensures.kept can.0)) can.1 (c.in-Ok-build_position.ensures.built (objects_at c.args.self.now _ c.push_row.new.self.collector c.in-Ok.looked.field c.types_at-types.result.now c.planning-planning.ensures c.in_ok-push_row-in-Ok.ensures.collector c.types_at-types.ensures)) in (
+      below_fine (setting_built c.args.self.now) c.args.of.number (handed_data c.args.handed) (node_seen c.args.self.now (c.args.field.now ∷ c.args.others.now) c.args.below.now) c.args.self.now.left c.if-self-eq0.false c.key_of-key.result.now c.key_of-key.ensures (levels_from c.args.depth) (levels_from (c.args.depth + 1)) c.build_position.new.self.left (levels_more c.args.depth c.if-depth-gt-LEVEL_LIMIT.false) (ap (λ (pl : Planning). fault_of (setting_of_planning pl) c.args.of.number (handed_data c.args.handed) (map collected_field (c.args.field.now ∷ c.args.others.now))) (sym c.planning-planning.ensures) ∙ (c.in-Ok.ensures.looks (kept_before c.args.self.now _ c.planning-planning.ensures can.0)).0)
           (ap (λ n. outcome n (below_visits (setting_built c.args.self.now) c.args.of.number (handed_data c.args.handed) (node_seen c.args.self.now (c.args.field.now ∷ c.args.others.now) c.args.below.now) (levels_from (c.args.depth + 1)))) (sym c.in_ok-push_row-in-Ok.ensures.left) ∙ here.0),
-      rows_there c.args.self.now c.push_row.new.self c.build_types.new.self c.args.depth c.args.of.number c.args.first c.args.field.now c.args.others.now (handed_data c.args.handed) c.in-Ok.looked c.types_at-types.result.now c.args.below.now c.in_ok-push_row-in-Ok.ensures.collector (subst (λ (pl : Planning). IsFound (setting_of_planning pl) c.args.of.number (handed_data c.args.handed) (collected_field c.args.field.now).call c.in-Ok.looked) c.planning-planning.ensures (c.in-Ok.ensures.looks (kept_before c.args.self.now _ c.planning-planning.ensures can.0)).1)
+      rows_there c.args.self.now c.push_row.new.self c.build_position.new.self c.args.depth c.args.of.number c.args.first c.args.field.now c.args.others.now (handed_data c.args.handed) c.in-Ok.looked c.types_at-types.result.now c.args.below.now c.in_ok-push_row-in-Ok.ensures.collector (subst (λ (pl : Planning). IsFound (setting_of_planning pl) c.args.of.number (handed_data c.args.handed) (collected_field c.args.field.now).call c.in-Ok.looked) c.planning-planning.ensures (c.in-Ok.ensures.looks (kept_before c.args.self.now _ c.planning-planning.ensures can.0)).1)
           (c.types_at-types.ensures ∙ ap (λ (pl : Planning). types_at (setting_of_planning pl).schema c.in-Ok.looked.field) c.planning-planning.ensures) c.if-depth-gt-LEVEL_LIMIT.false can.0.plan c.in_ok-push_row-in-Ok.ensures.pushed here.1,
     )
 
-pub build_node-returns-in-Err-build_types-clause-built : goal.build_node-returns-in-Err-build_types-clause-built
-build_node-returns-in-Err-build_types-clause-built t c = λ can.
-    below_stops (setting_built c.args.self.now) c.args.of.number (handed_data c.args.handed) (node_seen c.args.self.now (c.args.field.now ∷ c.args.others.now) c.args.below.now) c.args.self.now.left c.if-self-eq0.false c.key_of-key.result.now c.key_of-key.ensures (levels_from c.args.depth) (levels_from (c.args.depth + 1)) (levels_more c.args.depth c.if-depth-gt-LEVEL_LIMIT.false) (ap (λ (pl : Planning). fault_of (setting_of_planning pl) c.args.of.number (handed_data c.args.handed) (map collected_field (c.args.field.now ∷ c.args.others.now))) (sym c.planning-planning.ensures) ∙ (c.in-Ok.ensures.looks (kept_before c.args.self.now _ c.planning-planning.ensures can.0)).0) c.in-Err-build_types.stop c.under.result
-    (subst (λ n. IsStop c.in-Err-build_types.stop (outcome n (below_visits (setting_built c.args.self.now) c.args.of.number (handed_data c.args.handed) (node_seen c.args.self.now (c.args.field.now ∷ c.args.others.now) c.args.below.now) (levels_from (c.args.depth + 1))))) c.in_ok-push_row-in-Ok.ensures.left
-    (below_built c.args.self.now c.push_row.new.self c.build_types.new.self c.args.depth c.args.of.number c.args.first c.args.field.now c.args.others.now (handed_data c.args.handed) c.in-Ok.looked c.types_at-types.result.now c.args.below.now c.in_ok-push_row-in-Ok.ensures.collector (subst (λ (pl : Planning). IsFound (setting_of_planning pl) c.args.of.number (handed_data c.args.handed) (collected_field c.args.field.now).call c.in-Ok.looked) c.planning-planning.ensures (c.in-Ok.ensures.looks (kept_before c.args.self.now _ c.planning-planning.ensures can.0)).1)
-    (c.types_at-types.ensures ∙ ap (λ (pl : Planning). types_at (setting_of_planning pl).schema c.in-Ok.looked.field) c.planning-planning.ensures) (Err c.in-Err-build_types.stop) (c.in_ok-push_row-in-Ok.ensures.ready (can_still c.args.self.now _ _ c.look.new.calls c.planning-planning.ensures c.in-Ok.ensures.kept can.0)) can.1 c.in-Err-build_types.ensures.built))
+pub build_node-returns-in-Err-build_position-clause-built : goal.build_node-returns-in-Err-build_position-clause-built
+build_node-returns-in-Err-build_position-clause-built t c = λ can.
+    below_stops (setting_built c.args.self.now) c.args.of.number (handed_data c.args.handed) (node_seen c.args.self.now (c.args.field.now ∷ c.args.others.now) c.args.below.now) c.args.self.now.left c.if-self-eq0.false c.key_of-key.result.now c.key_of-key.ensures (levels_from c.args.depth) (levels_from (c.args.depth + 1)) (levels_more c.args.depth c.if-depth-gt-LEVEL_LIMIT.false) (ap (λ (pl : Planning). fault_of (setting_of_planning pl) c.args.of.number (handed_data c.args.handed) (map collected_field (c.args.field.now ∷ c.args.others.now))) (sym c.planning-planning.ensures) ∙ (c.in-Ok.ensures.looks (kept_before c.args.self.now _ c.planning-planning.ensures can.0)).0) c.in-Err-build_position.stop c.under.result
+    (subst (λ n. IsStop c.in-Err-build_position.stop (outcome n (below_visits (setting_built c.args.self.now) c.args.of.number (handed_data c.args.handed) (node_seen c.args.self.now (c.args.field.now ∷ c.args.others.now) c.args.below.now) (levels_from (c.args.depth + 1))))) c.in_ok-push_row-in-Ok.ensures.left
+    (below_built c.args.self.now c.push_row.new.self c.build_position.new.self c.args.depth c.args.of.number c.args.first c.args.field.now c.args.others.now (handed_data c.args.handed) c.in-Ok.looked c.types_at-types.result.now c.args.below.now c.in_ok-push_row-in-Ok.ensures.collector (subst (λ (pl : Planning). IsFound (setting_of_planning pl) c.args.of.number (handed_data c.args.handed) (collected_field c.args.field.now).call c.in-Ok.looked) c.planning-planning.ensures (c.in-Ok.ensures.looks (kept_before c.args.self.now _ c.planning-planning.ensures can.0)).1)
+    (c.types_at-types.ensures ∙ ap (λ (pl : Planning). types_at (setting_of_planning pl).schema c.in-Ok.looked.field) c.planning-planning.ensures) (Err c.in-Err-build_position.stop) (c.in_ok-push_row-in-Ok.ensures.ready (can_still c.args.self.now _ _ c.look.new.calls c.planning-planning.ensures c.in-Ok.ensures.kept can.0)) can.1 (c.in-Err-build_position.ensures.built (objects_at c.args.self.now _ c.push_row.new.self.collector c.in-Ok.looked.field c.types_at-types.result.now c.planning-planning.ensures c.in_ok-push_row-in-Ok.ensures.collector c.types_at-types.ensures))))
     c.under.ensures
 
 pub build_node-returns-in_err-push_row-in-Ok-clause-ready : goal.build_node-returns-in_err-push_row-in-Ok-clause-ready
 build_node-returns-in_err-push_row-in-Ok-clause-ready t c = λ can. c.in_err-push_row-in-Ok.ensures.ready (can_still c.args.self.now _ _ c.look.new.calls c.planning-planning.ensures c.in-Ok.ensures.kept can)
 
-pub build_node-returns-in-Ok-build_types-clause-ready : goal.build_node-returns-in-Ok-build_types-clause-ready
-build_node-returns-in-Ok-build_types-clause-ready t c = λ can. c.in-Ok-build_types.ensures.ready (c.in_ok-push_row-in-Ok.ensures.ready (can_still c.args.self.now _ _ c.look.new.calls c.planning-planning.ensures c.in-Ok.ensures.kept can))
+pub build_node-returns-in-Ok-build_position-clause-ready : goal.build_node-returns-in-Ok-build_position-clause-ready
+build_node-returns-in-Ok-build_position-clause-ready t c = λ can. c.in-Ok-build_position.ensures.ready (c.in_ok-push_row-in-Ok.ensures.ready (can_still c.args.self.now _ _ c.look.new.calls c.planning-planning.ensures c.in-Ok.ensures.kept can))
 
-pub build_node-returns-in-Err-build_types-clause-ready : goal.build_node-returns-in-Err-build_types-clause-ready
-build_node-returns-in-Err-build_types-clause-ready t c = λ can. c.in-Err-build_types.ensures.ready (c.in_ok-push_row-in-Ok.ensures.ready (can_still c.args.self.now _ _ c.look.new.calls c.planning-planning.ensures c.in-Ok.ensures.kept can))
+pub build_node-returns-in-Err-build_position-clause-ready : goal.build_node-returns-in-Err-build_position-clause-ready
+build_node-returns-in-Err-build_position-clause-ready t c = λ can. c.in-Err-build_position.ensures.ready (c.in_ok-push_row-in-Ok.ensures.ready (can_still c.args.self.now _ _ c.look.new.calls c.planning-planning.ensures c.in-Ok.ensures.kept can))
 
 pub build_type-returns-clause-ready : goal.build_type-returns-clause-ready
 build_type-returns-clause-ready t c = λ can. c.build_groups.ensures.ready (can_after c.args.self.now c.collect.new.self c.collect.ensures.grows.planning c.collect.ensures.grows.ready can)
@@ -103,8 +117,8 @@ build_type-returns-clause-ready t c = λ can. c.build_groups.ensures.ready (can_
 pub build_node-returns-in_err-push_row-in-Ok-clause-numbers : goal.build_node-returns-in_err-push_row-in-Ok-clause-numbers
 build_node-returns-in_err-push_row-in-Ok-clause-numbers t c = subst (λ (k : Collector). HasMore c.args.self.now.collector.joins k.joins) (sym c.in_err-push_row-in-Ok.ensures.collector) (more_itself c.args.self.now.collector.joins)
 
-pub build_node-returns-in-Ok-build_types-clause-numbers : goal.build_node-returns-in-Ok-build_types-clause-numbers
-build_node-returns-in-Ok-build_types-clause-numbers t c = subst (λ (k : Collector). HasMore k.joins c.build_types.new.self.collector.joins) c.in_ok-push_row-in-Ok.ensures.collector c.in-Ok-build_types.ensures.numbers
+pub build_node-returns-in-Ok-build_position-clause-numbers : goal.build_node-returns-in-Ok-build_position-clause-numbers
+build_node-returns-in-Ok-build_position-clause-numbers t c = subst (λ (k : Collector). HasMore k.joins c.build_position.new.self.collector.joins) c.in_ok-push_row-in-Ok.ensures.collector c.in-Ok-build_position.ensures.numbers
 
-pub build_node-returns-in-Err-build_types-clause-numbers : goal.build_node-returns-in-Err-build_types-clause-numbers
-build_node-returns-in-Err-build_types-clause-numbers t c = subst (λ (k : Collector). HasMore k.joins c.build_types.new.self.collector.joins) c.in_ok-push_row-in-Ok.ensures.collector c.in-Err-build_types.ensures.numbers
+pub build_node-returns-in-Err-build_position-clause-numbers : goal.build_node-returns-in-Err-build_position-clause-numbers
+build_node-returns-in-Err-build_position-clause-numbers t c = subst (λ (k : Collector). HasMore k.joins c.build_position.new.self.collector.joins) c.in_ok-push_row-in-Ok.ensures.collector c.in-Err-build_position.ensures.numbers

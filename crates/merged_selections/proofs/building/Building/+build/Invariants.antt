@@ -9,20 +9,23 @@ use Rattle.merged_selections.specs.Outcomes.{outcome}
 use Rattle.merged_selections.specs.Stages.{levels_from, types_rows, groups_visits, groups_rows, frame, setting_built, position_built, CanBuild, CanBuildAt, CanBuildGroup}
 use Rattle.merged_selections.proofs.building.Building.+build.Given as goal
 
+abbrev pub decreases-build_position : goal.decreases-build_position
+decreases-build_position l = 6 * levels_from l.depth + 5
+
 abbrev pub decreases-build_types : goal.decreases-build_types
-decreases-build_types l = 5 * levels_from l.depth + 4
+decreases-build_types l = 6 * levels_from l.depth + 4
 
 abbrev pub decreases-build_type : goal.decreases-build_type
-decreases-build_type l = 5 * levels_from l.depth + 3
+decreases-build_type l = 6 * levels_from l.depth + 3
 
 abbrev pub decreases-build_groups : goal.decreases-build_groups
-decreases-build_groups l = 5 * levels_from l.depth + 2
+decreases-build_groups l = 6 * levels_from l.depth + 2
 
 abbrev pub decreases-build_group : goal.decreases-build_group
-decreases-build_group l = 5 * levels_from l.depth + 1
+decreases-build_group l = 6 * levels_from l.depth + 1
 
 abbrev pub decreases-build_node : goal.decreases-build_node
-decreases-build_node l = 5 * levels_from l.depth
+decreases-build_node l = 6 * levels_from l.depth
 
 abbrev pub invariant-build_types-types : goal.invariant-build_types-types
 invariant-build_types-types l = (frame l.self ≡ frame l.fn.self) × HasMore l.fn.self.collector.joins l.self.collector.joins × (CanBuild l.fn.self → CanBuild l.self)
