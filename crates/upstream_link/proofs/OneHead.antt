@@ -13,7 +13,7 @@ use Rattle.std.proofs.lemmas.List.Elements.{All-cons}
 use Rattle.std.proofs.lemmas.List.Sums.{AllPass-from_list_all}
 use Rattle.httparse.specs.Grammar.{RequestHead, IsRequestHead, ReadsRequest, Field, IsField, LineEnd, crlf, AllPass, IsToken, is_token_byte, is_value_byte, print_field, print_request, print_section}
 use Rattle.httparse.proofs.GrammarLemmas.{request_unique, print_request-append}
-use Rattle.upstream_link.specs.RequestBytes.{start_bytes, fields_bytes, length_bytes, end_bytes, head_bytes, request_bytes, written_field, written_fields, request_head, MayBeSent, bytes_with, head_with}
+use Rattle.upstream_link.specs.RequestBytes.{start_bytes, fields_bytes, length_bytes, end_bytes, head_bytes, request_bytes, written_field, written_fields, request_head, MayBeSent, IsReadAsOne, bytes_with, head_with}
 
 -- ---- the fields
 
@@ -91,7 +91,7 @@ same_bytes host target body further n =
 pub reads_head : (host target body : List ℕ) (further : List Field) → MayBeSent host target further body → ReadsRequest (bytes_with host target further body) (head_with host target further body) body
 reads_head host target body further may = (is_head host target further body may, same_bytes host target body further (length body))
 
-pub one_head : (host target body rest : List ℕ) (further : List Field) (h : RequestHead) → MayBeSent host target further body → ReadsRequest (bytes_with host target further body) h rest
-    → (h ≡ head_with host target further body) × (rest ≡ body)
-one_head host target body rest further h may reads =
-    request_unique (bytes_with host target further body) h (head_with host target further body) rest body reads (reads_head host target body further may)
+pub one_head : (host target body : List ℕ) (further : List Field) → MayBeSent host target further body
+    → IsReadAsOne (bytes_with host target further body) (head_with host target further body) body
+one_head host target body further may = λ read rest reads.
+    request_unique (bytes_with host target further body) read (head_with host target further body) rest body reads (reads_head host target body further may)

@@ -1,7 +1,7 @@
 -- The bytes of a request to the upstream (RFC 9112, section 3).
-use Rattle.std.specs.Prelude.{ℕ, ◌<◌, ◌^◌, List, [], ◌∷◌, ◌++◌, length, codes, IsUtf8, All, flat_map}
+use Rattle.std.specs.Prelude.{◌≡◌, ℕ, ◌<◌, ◌^◌, List, [], ◌∷◌, ◌++◌, length, codes, IsUtf8, All, flat_map}
 use Rattle.std.specs.Fmt.{decimal}
-use Rattle.httparse.specs.Grammar.{RequestHead, Field, IsField, LineEnd, crlf, AllPass, is_uri_byte, is_value_byte, print_field}
+use Rattle.httparse.specs.Grammar.{RequestHead, Field, IsField, LineEnd, ReadsRequest, crlf, AllPass, is_uri_byte, is_value_byte, print_field}
 
 -- the request line, and the host
 abbrev pub start_bytes : List ℕ → List ℕ → List ℕ
@@ -67,3 +67,7 @@ bytes_with host target further body = request_bytes host target (flat_map print_
 
 abbrev pub head_with : List ℕ → List ℕ → List Field → List ℕ → RequestHead
 head_with host target further body = request_head host target further (length body)
+
+-- whoever reads a request from the front of these bytes reads this head, and this is left
+abbrev pub IsReadAsOne : List ℕ → RequestHead → List ℕ → Type 0
+IsReadAsOne bytes head left = (read : RequestHead) (rest : List ℕ) → ReadsRequest bytes read rest → (read ≡ head) × (rest ≡ left)

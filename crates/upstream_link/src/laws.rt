@@ -1,13 +1,13 @@
 //! Laws on requests and replies.
 
 ghost use Rattle.std.specs.Prelude.{◌≡◌, ◌⊎◌, ◌≤◌, ℕ, ◌++◌, List, Bool, true, false, Some, Ok, Err, length, take, drop};
-ghost use Rattle.httparse.specs.Grammar.{Field, RequestHead, ReadsRequest};
+ghost use Rattle.httparse.specs.Grammar.{Field, ReadsRequest};
 ghost use Rattle.upstream_link.specs.declared.fault.LinkFault.{LinkFault};
 ghost use Rattle.upstream_link.specs.declared.fault.LinkFault.TheVariants as fault;
 ghost use Rattle.upstream_link.specs.declared.reply.UpstreamReply.{UpstreamReply};
 ghost use Rattle.upstream_link.specs.Replies.{ReplyOf, HoldsReply, HoldsFault, IsUndecided, AreOne};
 ghost use Rattle.upstream_link.specs.Service.{IsSeen, AreSeen};
-ghost use Rattle.upstream_link.specs.RequestBytes.{MayBeSent, bytes_with, head_with};
+ghost use Rattle.upstream_link.specs.RequestBytes.{MayBeSent, IsReadAsOne, bytes_with, head_with};
 ghost use Rattle.upstream_link.specs.Chunks.{trailer_length};
 ghost use Rattle.upstream_link.specs.Trailers.{IsTrailer};
 
@@ -19,8 +19,8 @@ use crate::heads::look_at_head;
 pub fn a_request_is_one_head()
     ensures reads { (host target body : List ℕ) (further : List Field) → MayBeSent host target further body
         → ReadsRequest (bytes_with host target further body) (head_with host target further body) body }
-    ensures one { (host target body rest : List ℕ) (further : List Field) (h : RequestHead) → MayBeSent host target further body
-        → ReadsRequest (bytes_with host target further body) h rest → (h ≡ head_with host target further body) × (rest ≡ body) }
+    ensures one { (host target body : List ℕ) (further : List Field) → MayBeSent host target further body
+        → IsReadAsOne (bytes_with host target further body) (head_with host target further body) body }
 {}
 
 /// What is passed over behind the last chunk is a trailer: lines that aren't empty, and then an empty one. It has a length just where such
