@@ -4,9 +4,10 @@ use Rattle.std.specs.Prelude.{◌≢◌, ◌==◌, ◌||◌}
 use Rattle.std.proofs.lemmas.List.{length-append}
 use Rattle.std.proofs.lemmas.Bool.Decides.{nat_tests}
 use Rattle.std.specs.Io.KnownBytes.{Appends}
-use Rattle.account_shared.specs.Views.{PassesView}
+use Rattle.account_shared.specs.Gains.{ClientCall}
 use Rattle.outside.proofs.Taking.{took_none, took_more}
 use Rattle.doors.specs.Visits.{Told}
+use Rattle.gateway_core.specs.Numbers.{numbers_taken}
 use Rattle.gateway_connections.specs.declared.ending.ConnectionEnd.{ConnectionEnd}
 use Rattle.gateway_connections.specs.declared.ending.ConnectionEnd.TheVariants as ending
 use Rattle.gateway_connections.specs.declared.ending.Served.{Served}
@@ -15,7 +16,7 @@ use Rattle.gateway_connections.specs.Replies.{written}
 use Rattle.gateway_connections.specs.Exchanges.{Service, Exchange, IsExchange}
 use Rattle.gateway_connections.specs.Connections.{Stop, not_begun, StopsAt, EndsWith, carries, closes, last_of, calls_of, replies_from}
 use Rattle.gateway_connections.specs.Serving.{Makes, Serves, Turns, GoesOnAfter}
-use Rattle.gateway_connections.proofs.Growing.{leaves_none, makes_none, makes_then, asks_none, asks_grow, asks_more, none_made, one_more_made, each_more, no_replies, one_more_reply, appended_then}
+use Rattle.gateway_connections.proofs.Growing.{leaves_none, makes_none, AddUp, makes_then, asks_none, asks_grow, asks_more, none_made, one_more_made, each_more, no_replies, one_more_reply, appended_then}
 
 pub appended_none : (written : Option (List ℕ)) → Appends written written []
 appended_none None = tt
@@ -35,28 +36,30 @@ stays_open close number r few e =
     (one.0, omega (arith, not_last, few), grind (arith, nat_tests))
 
 -- before the first request
-pub goes_on_first : (s : Service) (p : PassesView) (t : Told) → GoesOnAfter s p p 0 [] t t
-goes_on_first s p t = record {
+pub goes_on_first : (s : Service) (made : ℕ) (Gained : List ClientCall → Type 0) (t : Told) → Gained [] → GoesOnAfter s made Gained 0 [] t t
+goes_on_first s made Gained t none = record {
   exchanges = [];
-  each = none_made s p.made;
+  each = none_made s made;
   goes_on = tt;
   few = omega arith;
   counted = refl;
   bytes = [];
   took = took_none t.left;
   asks = asks_none s.passed [];
-  makes = makes_none p t;
+  makes = makes_none Gained t none;
   out = subst (Appends t.written t.written) (sym (no_replies 0)) (appended_none t.written);
 }
 
-numbers_of : (p q : PassesView) (a b : Told) (xs : List Exchange) → Makes p q a b xs → q.made ≡ p.made + length (calls_of xs)
-numbers_of p q a b xs m = m.gains.made
+-- so many numbers of calls are made now where these calls were gained
+abbrev pub Counts : Service → ℕ → ℕ → (List ClientCall → Type 0) → Type 0
+Counts s made now Before = (calls : List ClientCall) → Before calls → now ≡ made + numbers_taken s.slots calls
 
 -- a turn more, after which the connection goes on
-pub goes_on_more : (s : Service) (p q r : PassesView) (number : ℕ) (kept : List ℕ) (front : Option (List ℕ)) (a b c : Told)
-    → GoesOnAfter s p q number kept a b → (t : Turns s q r number kept front b c None)
-    → GoesOnAfter s p r (number + 1) (t.turned.1) a c
-goes_on_more s p q r number kept front a b c g t =
+pub goes_on_more : (s : Service) (made now : ℕ) (Before Now All : List ClientCall → Type 0) → AddUp Before Now All → Counts s made now Before
+    → (number : ℕ) (kept : List ℕ) (front : Option (List ℕ)) (a b c : Told)
+    → GoesOnAfter s made Before number kept a b → (t : Turns s now Now number kept front b c None)
+    → GoesOnAfter s made All (number + 1) (t.turned.1) a c
+goes_on_more s made now Before Now All then counts number kept front a b c g t =
     let u = t.turned in
     let x = u.0 in
     let xs = g.exchanges in
@@ -64,14 +67,14 @@ goes_on_more s p q r number kept front a b c g t =
     let here : number ≡ 0 + length xs = omega (arith, g.counted) in
     record {
       exchanges = xs ++ x ∷ [];
-      each = one_more_made s p.made xs x g.each (subst (λ n. IsExchange s n (Unit {0}) x) (numbers_of p q a b xs g.makes) u.5);
+      each = one_more_made s made xs x g.each (subst (λ n. IsExchange s n (Unit {0}) x) (counts (calls_of xs) g.makes.gains) u.5);
       goes_on = each_more (λ y. (y.ask.close ≡ false) × (y.reply.status ≢ 500)) xs x g.goes_on (open_.0, open_.2);
       few = open_.1;
       counted = omega (arith, g.counted, length-append xs (x ∷ []));
       bytes = g.bytes ++ t.bytes;
       took = took_more a.left b.left c.left g.bytes t.bytes g.took t.took;
       asks = asks_more s.passed (g.bytes ++ t.bytes) xs x (kept ++ t.bytes) u.1 (asks_grow s.passed g.bytes xs kept t.bytes g.asks) u.3;
-      makes = makes_then p q r a b c xs (x ∷ []) g.makes (subst (Makes q r b c) u.2 t.makes);
+      makes = makes_then Before Now All then a b c xs (x ∷ []) g.makes (subst (Makes Now b c) u.2 t.makes);
       out = subst (Appends a.written c.written)
           ((λ i. replies_from 0 xs ++ written (closed i) x.reply) ∙ ap (λ k. replies_from 0 xs ++ written (closes k x) x.reply) here ∙ sym (one_more_reply 0 xs x))
           (appended_then a.written b.written c.written (replies_from 0 xs) (written false x.reply) g.out u.7);
@@ -87,12 +90,13 @@ stops_as : (s : Service) (stop : Stop) (ended : Bool) (here : List ℕ) (m n k l
 stops_as s stop ended here m n k l e f x = subst (λ i. StopsAt s i l here ended stop) e (subst (λ j. StopsAt s m j here ended stop) f x)
 
 -- the last turn
-pub goes_to_end : (s : Service) (p q r : PassesView) (number : ℕ) (kept : List ℕ) (front : Option (List ℕ)) (a b c : Told) (served : Served)
-    → GoesOnAfter s p q number kept a b → Turns s q r number kept front b c (Some served) → Serves s p r a c served
-goes_to_end s p q r number kept front a b c served g t =
+pub goes_to_end : (s : Service) (made now : ℕ) (Before Now All : List ClientCall → Type 0) → AddUp Before Now All → Counts s made now Before
+    → (number : ℕ) (kept : List ℕ) (front : Option (List ℕ)) (a b c : Told) (served : Served)
+    → GoesOnAfter s made Before number kept a b → Turns s now Now number kept front b c (Some served) → Serves s made All a c served
+goes_to_end s made now Before Now All then counts number kept front a b c served g t =
     let u = t.turned in
     let xs = g.exchanges in
-    let all = makes_then p q r a b c xs (last_of u.0) g.makes (subst (Makes q r b c) u.1 t.makes) in
+    let all = makes_then Before Now All then a b c xs (last_of u.0) g.makes (subst (Makes Now b c) u.1 t.makes) in
     record {
       calls = calls_of (xs ++ last_of u.0);
       runs = record {
@@ -108,7 +112,7 @@ goes_to_end s p q r number kept front a b c served g t =
           here = kept ++ t.bytes;
           asks = asks_grow s.passed g.bytes xs kept t.bytes g.asks;
           stop = u.0;
-          stops = stops_as s u.0 t.ended (kept ++ t.bytes) number (length xs) q.made (p.made + length (calls_of xs)) g.counted (numbers_of p q a b xs g.makes) u.2;
+          stops = stops_as s u.0 t.ended (kept ++ t.bytes) number (length xs) now (made + numbers_taken s.slots (calls_of xs)) g.counted (counts (calls_of xs) g.makes.gains) u.2;
           between = b.written;
           replied = g.out;
           out = ends_as number (length xs) u.0 b.written c.written served.replies served.end g.counted u.3;
@@ -120,8 +124,9 @@ goes_to_end s p q r number kept front a b c served g t =
     }
 
 -- nothing was read, and nothing written
-pub never_begun : (s : Service) (p : PassesView) (t : Told) (served : Served) → served.end ≡ ending.Memory → served.replies ≡ 0 → Serves s p p t t served
-never_begun s p t served is none = record {
+pub never_begun : (s : Service) (made : ℕ) (Gained : List ClientCall → Type 0) (t : Told) (served : Served) → Gained [] → served.end ≡ ending.Memory → served.replies ≡ 0
+    → Serves s made Gained t t served
+never_begun s made Gained t served nothing is none = record {
   calls = calls_of [];
   runs = record {
     bytes = [];
@@ -130,7 +135,7 @@ never_begun s p t served is none = record {
     at_end = λ e. absurd (cc e);
     connection = record {
       exchanges = [];
-      each = none_made s p.made;
+      each = none_made s made;
       goes_on = tt;
       few = omega arith;
       here = [];
@@ -144,5 +149,5 @@ never_begun s p t served is none = record {
     leaves = leaves_none t;
     calls_are = refl;
   };
-  gains = (makes_none p t).gains;
+  gains = (makes_none Gained t nothing).gains;
 }

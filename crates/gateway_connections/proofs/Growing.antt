@@ -3,9 +3,7 @@ use Rattle.std.proofs.Common.{inl, ◌≡◌, ℕ, ◌+◌, List, [], ◌∷◌,
 use Rattle.std.proofs.lemmas.List.{append-nil, length-append}
 use Rattle.std.specs.Io.KnownBytes.{Appends}
 use Rattle.std.specs.List.{AllByRecursion}
-use Rattle.account_shared.specs.Views.{PassesView}
-use Rattle.account_shared.specs.Gains.{Gains}
-use Rattle.account_shared.proofs.Stretches.{none_gained, gained_then}
+use Rattle.account_shared.specs.Gains.{ClientCall}
 use Rattle.outside.specs.Dials.{Dial, Logged, LoggedBy}
 use Rattle.outside.specs.Faults.{RoseBy}
 use Rattle.outside.specs.Ticks.{Ticks}
@@ -15,6 +13,8 @@ use Rattle.outside.proofs.Rises.{rose_by_none, rose_then}
 use Rattle.doors.specs.Visits.{Told}
 use Rattle.http_front.specs.Asks.{IsAsk}
 use Rattle.http_front.proofs.OneAnswer.{ask_stays}
+use Rattle.gateway_core.specs.Numbers.{numbers_taken}
+use Rattle.gateway_core.proofs.TakenNumbers.{taken_none, taken_then}
 use Rattle.gateway_connections.specs.Replies.{written}
 use Rattle.gateway_connections.specs.Exchanges.{Service, Exchange, IsExchange, AreExchanges, downs, failures}
 use Rattle.gateway_connections.specs.Connections.{AsksTo, calls_of, dials_of, moments_of, downs_of, failures_of, closes, replies_from}
@@ -92,11 +92,11 @@ leaves_then a b c xs ys m n = record {
     rose_as f g e = subst (λ k. RoseBy k f g) e
 
 -- where neither the clock nor the wire was used
-pub makes_still : (p : PassesView) (given back : Told) → back.readings ≡ given.readings → back.log ≡ given.log → back.dial_faults ≡ given.dial_faults → back.transfer_faults ≡ given.transfer_faults
-    → Makes p p given back []
+pub makes_still : (Gained : List ClientCall → Type 0) (given back : Told) → Gained [] → back.readings ≡ given.readings → back.log ≡ given.log → back.dial_faults ≡ given.dial_faults → back.transfer_faults ≡ given.transfer_faults
+    → Makes Gained given back []
 unfolding calls_of dials_of downs_of failures_of
-makes_still p given back e f g h = record {
-  gains = none_gained p;
+makes_still Gained given back none e f g h = record {
+  gains = none;
   leaves = record {
     ticks = subst (λ r. Ticks given.readings [] r) (sym e) (ticks_none given.readings);
     logged = inl (subst (λ l. Logged given.log [] l) (sym f) (logged_none given.log));
@@ -105,13 +105,17 @@ makes_still p given back e f g h = record {
   };
 }
 
-pub makes_none : (p : PassesView) (t : Told) → Makes p p t t []
+pub makes_none : (Gained : List ClientCall → Type 0) (t : Told) → Gained [] → Makes Gained t t []
 unfolding calls_of
-makes_none p t = record { gains = none_gained p; leaves = leaves_none t }
+makes_none Gained t none = record { gains = none; leaves = leaves_none t }
 
-pub makes_then : (p q r : PassesView) (a b c : Told) (xs ys : List Exchange) → Makes p q a b xs → Makes q r b c ys → Makes p r a c (xs ++ ys)
-makes_then p q r a b c xs ys m n = record {
-  gains = subst (Gains p r) (sym (calls_then xs ys)) (gained_then p q r (calls_of xs) (calls_of ys) m.gains n.gains);
+-- what was gained before, and what is gained then, is what is gained in all
+abbrev pub AddUp : (Before Now All : List ClientCall → Type 0) → Type 0
+AddUp Before Now All = (these those : List ClientCall) → Before these → Now those → All (these ++ those)
+
+pub makes_then : (Before Now All : List ClientCall → Type 0) → AddUp Before Now All → (a b c : Told) (xs ys : List Exchange) → Makes Before a b xs → Makes Now b c ys → Makes All a c (xs ++ ys)
+makes_then Before Now All then a b c xs ys m n = record {
+  gains = subst All (sym (calls_then xs ys)) (then (calls_of xs) (calls_of ys) m.gains n.gains);
   leaves = leaves_then a b c xs ys m.leaves n.leaves;
 }
 
@@ -138,13 +142,13 @@ unfolding AreExchanges
 none_made s made = tt
 
 pub one_more_made : (s : Service) (made : ℕ) (xs : List Exchange) (x : Exchange) → AreExchanges s made xs
-    → IsExchange s (made + length (calls_of xs)) (Unit {0}) x → AreExchanges s made (xs ++ x ∷ [])
+    → IsExchange s (made + numbers_taken s.slots (calls_of xs)) (Unit {0}) x → AreExchanges s made (xs ++ x ∷ [])
 unfolding AreExchanges calls_of
-one_more_made s made [] x each is = (subst (λ n. IsExchange s n (Unit {0}) x) (omega arith) is, tt)
+one_more_made s made [] x each is = (subst (λ n. IsExchange s n (Unit {0}) x) (omega (arith, taken_none s.slots)) is, tt)
 one_more_made s made (y ∷ xs) x each is = (
   each.0,
-  one_more_made s (made + length y.calls) xs x each.1
-      (subst (λ n. IsExchange s n (Unit {0}) x) (omega (arith, length-append y.calls (calls_of xs))) is),
+  one_more_made s (made + numbers_taken s.slots y.calls) xs x each.1
+      (subst (λ n. IsExchange s n (Unit {0}) x) (omega (arith, taken_then s.slots y.calls (calls_of xs))) is),
 )
 
 pub each_more : (P : Exchange → Type 0) (xs : List Exchange) (x : Exchange) → AllByRecursion P xs → P x → AllByRecursion P (xs ++ x ∷ [])

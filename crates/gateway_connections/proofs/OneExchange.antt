@@ -1,12 +1,9 @@
 -- One exchange, and its turn.
-use Rattle.std.proofs.Common.{◌≡◌, ℕ, ◌+◌, inl, inr, List, [], ◌∷◌, refl, sym, ap, subst, arith, Bool, true, false, not, cond, nat_eq, Option, Some, None, Result}
+use Rattle.std.proofs.Common.{◌≡◌, ℕ, ◌+◌, ◌≤◌, inl, inr, List, [], ◌∷◌, refl, sym, ◌∙◌, subst, arith, Bool, Option, Some, None, Result}
 use Rattle.std.specs.Prelude.{IfSome}
 use Rattle.std.specs.Io.KnownBytes.{Appends}
-use Rattle.account_shared.specs.Views.{PassesView, IsIdle}
-use Rattle.std.proofs.lemmas.Bool.{and_from, eq-eqb}
-use Rattle.account_core.specs.Machine.{reservation, settlement, granted, done, Entry, entry, grant, is_grant}
-use Rattle.account_shared.specs.Gains.{ClientCall, client_call, grants_past, Gains, LeavesNoneOpen}
-use Rattle.account_shared.proofs.Idle.{idle_past, idle_past_refusal}
+use Rattle.account_core.specs.Machine.{reservation, settlement, granted, done}
+use Rattle.account_shared.specs.Gains.{ClientCall, client_call}
 use Rattle.outside.specs.Contents.{AppendsFront}
 use Rattle.outside.specs.Dials.{Dial, LoggedBy}
 use Rattle.outside.specs.Faults.{RoseBy}
@@ -21,10 +18,12 @@ use Rattle.upstream_link.specs.declared.fault.LinkFault.{LinkFault}
 use Rattle.upstream_link.specs.declared.reply.UpstreamReply.{UpstreamReply}
 use Rattle.upstream_link.specs.Exchanges.{CameTo}
 use Rattle.gateway_core.specs.declared.beginning.Denial.{Denial}
-use Rattle.gateway_core.specs.declared.beginning.Denial.TheVariants.{UnknownKey, Unexpanded, BadBody, Refused, NotLocal, Short, Memory}
+use Rattle.gateway_core.specs.declared.beginning.Denial.TheVariants.{UnknownKey, Unexpanded, BadBody, Refused, NotLocal, Short, Full, Memory}
 use Rattle.gateway_core.specs.declared.beginning.Begun.TheVariants.{Denied}
-use Rattle.gateway_core.specs.declared.beginning.LocalAnswer.{LocalAnswer}
-use Rattle.gateway_core.specs.Begins.{calls_begun, calls_answered}
+use Rattle.gateway_core.specs.Rules.{window_of}
+use Rattle.gateway_core.specs.Numbers.{numbers_taken, AreSettled}
+use Rattle.gateway_core.specs.Begins.{TellsFull, calls_begun}
+use Rattle.gateway_core.proofs.TakenNumbers.{few_taken}
 use Rattle.gateway_connections.specs.declared.reply.Reply.{Reply}
 use Rattle.gateway_connections.specs.declared.ending.ConnectionEnd.{ConnectionEnd}
 use Rattle.gateway_connections.specs.declared.ending.ConnectionEnd.TheVariants as ending
@@ -42,36 +41,58 @@ some_then (Some kept) P Q f h = f kept h
 pub at_some : (o : Option (List ℕ)) (kept : List ℕ) (P : List ℕ → Type 0) → o ≡ Some kept → IfSome o P → P kept
 at_some o kept P e h = subst (λ v. IfSome v P) e h
 
--- a denial leaves no grant open
-pub denied_idle : (p q : PassesView) (client window : ℕ) (denial : Denial) → Gains p q (calls_begun client window (Denied denial)) → IsIdle p → IsIdle q
-denied_idle p q client window UnknownKey g idle = idle_past p q [] g idle (λ k. refl)
-denied_idle p q client window (Unexpanded f) g idle = idle_past p q [] g idle (λ k. refl)
-denied_idle p q client window (BadBody f) g idle = idle_past p q [] g idle (λ k. refl)
-denied_idle p q client window (NotLocal f) g idle = idle_past p q [] g idle (λ k. refl)
-denied_idle p q client window (Refused r) g idle = idle_past p q [] g idle (λ k. refl)
-denied_idle p q client window (Short left bound) g idle = idle_past_refusal p q client window bound left g idle
-denied_idle p q client window Memory g idle = idle_past p q [] g idle (λ k. refl)
+-- ---- the calls of an exchange
 
--- nor does what was answered, whose grant was settled
-pub answered_idle : (p q : PassesView) (client window : ℕ) (answer : LocalAnswer) → answer.seq ≡ p.made → Gains p q (calls_answered client window answer) → IsIdle p → IsIdle q
-answered_idle p q client window answer numbered gains idle =
-    idle_past p q (calls_with answer.seq) gains idle (subst (λ n. LeavesNoneOpen p (calls_with n)) (sym numbered) (λ k. none (nat_eq client k)))
-  where
-    calls_with : ℕ → List ClientCall
-    calls_with n = client_call client (reservation window answer.finished.bound) (granted answer.window) ∷ client_call client (settlement n answer.window answer.finished.bound answer.finished.charged) done ∷ []
+denied_settled : (made client window : ℕ) (denial : Denial) → AreSettled made (calls_begun client window (Denied denial))
+denied_settled made client window UnknownKey = inl refl
+denied_settled made client window (Unexpanded f) = inl refl
+denied_settled made client window (BadBody f) = inl refl
+denied_settled made client window (NotLocal f) = inl refl
+denied_settled made client window (Refused r) = inl refl
+denied_settled made client window (Short left bound) = inr (inl (client, window, bound, left, refl))
+denied_settled made client window Full = inl refl
+denied_settled made client window Memory = inl refl
 
-    name : ℕ
-    name = p.label.name
+-- leave no grant open
+pub exchange_settled : (s : Service) (made : ℕ) (Untouched : Type 0) (x : Exchange) → IsExchange s made Untouched x → AreSettled made x.calls
+exchange_settled s made Untouched x (inl d) = subst (AreSettled made) (sym d.calls) (denied_settled made d.client (window_of s.rules x.moment) d.denial)
+exchange_settled s made Untouched x (inr (inl f)) =
+    let t = f.grant.ticket in
+    let window = window_of s.rules x.moment in
+    inr (inr (
+      f.client,
+      window,
+      t.window,
+      t.bound,
+      f.finished.charged,
+      f.calls ∙ (λ i. client_call f.client (reservation window t.bound) (granted t.window) ∷ client_call (f.is_granted.to_client i) (settlement (f.is_granted.numbered i) t.window t.bound f.finished.charged) done ∷ []),
+    ))
+exchange_settled s made Untouched x (inr (inr a)) =
+    let f = a.answer.finished in
+    let window = window_of s.rules x.moment in
+    inr (inr (
+      a.client,
+      window,
+      a.answer.window,
+      f.bound,
+      f.charged,
+      a.calls ∙ (λ i. client_call a.client (reservation window f.bound) (granted a.answer.window) ∷ client_call a.client (settlement (a.is_answered.numbered i) a.answer.window f.bound f.charged) done ∷ []),
+    ))
 
-    own : is_grant name p.made (grant name p.made answer.window answer.finished.bound) ≡ true
-    own = and_from (nat_eq name name) (nat_eq p.made p.made) (eq-eqb name name refl) (eq-eqb p.made p.made refl)
+-- and take few numbers
+pub few_more : (s : Service) (made now : ℕ) (Untouched : Type 0) (x : Exchange) → IsExchange s made Untouched x → now ≡ made + numbers_taken s.slots x.calls → now ≤ made + 2
+few_more s made now Untouched x is counted = omega (arith, counted, few_taken s.slots made x.calls (exchange_settled s made Untouched x is))
 
-    opened : Bool → List Entry
-    opened b = cond b (entry name p.made (reservation window answer.finished.bound) (granted answer.window) ∷ []) []
-
-    none : (b : Bool) → grants_past [] (cond b (entry name p.made (reservation window answer.finished.bound) (granted answer.window) ∷ cond b (entry name (p.made + 1) (settlement p.made answer.window answer.finished.bound answer.finished.charged) done ∷ []) []) (cond b (entry name (p.made + 1) (settlement p.made answer.window answer.finished.bound answer.finished.charged) done ∷ []) [])) ≡ []
-    none true = ap (λ t. cond (not t) (grant name p.made answer.window answer.finished.bound ∷ []) []) own
-    none false = refl
+-- where there is no room it is told, and only there, however that is said
+pub tells_full : (NoRoom Fills : Type 0) → (NoRoom → Fills) → (Fills → NoRoom) → (denial : Denial) → TellsFull NoRoom (Denied denial) → TellsFull Fills (Denied denial)
+tells_full NoRoom Fills to back UnknownKey told = tt
+tells_full NoRoom Fills to back (Unexpanded f) told = tt
+tells_full NoRoom Fills to back (BadBody f) told = tt
+tells_full NoRoom Fills to back (NotLocal f) told = tt
+tells_full NoRoom Fills to back (Refused r) told = tt
+tells_full NoRoom Fills to back (Short left bound) told = λ full. told (back full)
+tells_full NoRoom Fills to back Full told = to told
+tells_full NoRoom Fills to back Memory told = tt
 
 came_anyhow : (Untouched : Type 0) (request : List ℕ) (r : Result UpstreamReply LinkFault) (dials : List Dial) → CameTo Untouched request r dials → CameTo (Unit {0}) request r dials
 came_anyhow Untouched request r [] none = (none.0, tt)
@@ -85,6 +106,7 @@ exchange_anyhow s made Untouched x (inl d) = inl record {
   denial = d.denial;
   denied = d.denied;
   calls = d.calls;
+  full = d.full;
   outcome = d.outcome;
   dials = d.dials;
   untouched = tt;
@@ -94,6 +116,7 @@ exchange_anyhow s made Untouched x (inr (inr a)) = inr (inr record {
   client = a.client;
   answer = a.answer;
   is_answered = a.is_answered;
+  room = a.room;
   calls = a.calls;
   outcome = a.outcome;
   dials = a.dials;
@@ -104,6 +127,7 @@ exchange_anyhow s made Untouched x (inr (inl f)) = inr (inl record {
   client = f.client;
   grant = f.grant;
   is_granted = f.is_granted;
+  room = f.room;
   asked = f.asked;
   came_to = came_anyhow Untouched _ f.asked x.dials f.came_to;
   outcome = f.outcome;
@@ -115,11 +139,11 @@ exchange_anyhow s made Untouched x (inr (inl f)) = inr (inl record {
 })
 
 -- just one exchange was made
-pub made_one : (p q : PassesView) (given back : Told) (x : Exchange) (moment : ℕ) → Gains p q x.calls → x.moment ≡ moment → Tick given.readings moment back.readings
+pub made_one : (Gained : List ClientCall → Type 0) (given back : Told) (x : Exchange) (moment : ℕ) → Gained x.calls → x.moment ≡ moment → Tick given.readings moment back.readings
     → LoggedBy back.dial_faults given.log x.dials back.log → RoseBy (downs x.outcome) given.dial_faults back.dial_faults → RoseBy (failures x.outcome) given.transfer_faults back.transfer_faults
-    → Makes p q given back (x ∷ [])
-made_one p q given back x moment gains at tick logged down failed = record {
-  gains = subst (Gains p q) (sym (calls_one x)) gains;
+    → Makes Gained given back (x ∷ [])
+made_one Gained given back x moment gains at tick logged down failed = record {
+  gains = subst Gained (sym (calls_one x)) gains;
   leaves = record {
     ticks = ticks_one given.readings back.readings x.moment (subst (λ m. Tick given.readings m back.readings) (sym at) tick);
     logged = subst (λ d. LoggedBy back.dial_faults given.log d back.log) (sym (dials_one x)) logged;

@@ -14,7 +14,7 @@ use Rattle.upstream_link.specs.Exchanges.{CameTo}
 use Rattle.upstream_link.specs.Replies.{ReplyOf}
 use Rattle.upstream_link.specs.RequestBytes.{request_bytes}
 use Rattle.gateway_core.specs.declared.beginning.Denial.{Denial}
-use Rattle.gateway_core.specs.declared.beginning.Denial.TheVariants.{UnknownKey, Unexpanded, BadBody, Refused, NotLocal, Short, Memory}
+use Rattle.gateway_core.specs.declared.beginning.Denial.TheVariants.{UnknownKey, Unexpanded, BadBody, Refused, NotLocal, Short, Full, Memory}
 use Rattle.gateway_core.specs.declared.finishing.Finished.{Finished}
 use Rattle.gateway_core.specs.declared.grant.Grant.{Grant}
 use Rattle.gateway_core.specs.Rules.{Rules, window_of}
@@ -22,7 +22,8 @@ use Rattle.gateway_core.specs.Requests.{IsPricedAt, IsPromisedFor, IsLocalAt}
 use Rattle.gateway_core.specs.declared.beginning.Begun.TheVariants.{Denied}
 use Rattle.local_introspection.specs.declared.walk.Local.{Local}
 use Rattle.gateway_core.specs.declared.beginning.LocalAnswer.{LocalAnswer}
-use Rattle.gateway_core.specs.Begins.{IsDenied, IsUnfit, HasOneAnswer, calls_begun}
+use Rattle.gateway_core.specs.Numbers.{IsFullAt}
+use Rattle.gateway_core.specs.Begins.{IsDenied, IsUnfit, TellsFull, HasOneAnswer, calls_begun}
 use Rattle.gateway_core.specs.Grants.{promise_of}
 use Rattle.gateway_core.specs.PlanBounds.{IsMeasuredBy}
 use Rattle.gateway_core.specs.Measures.{Metered, HasNamedTypes, IsMeasuredFor, MeasuredIsAnswered}
@@ -30,8 +31,8 @@ use Rattle.gateway_core.specs.Finishes.{finished_as, IsUnanswered, IsStarved, Is
 use Rattle.gateway_core.specs.Messages.{denial_text, no_memory_text}
 use Rattle.gateway_connections.specs.declared.reply.Reply.{Reply}
 use Rattle.gateway_connections.specs.Replies.{Tells, IsDenialReply, finished_reply}
-use Rattle.gateway_connections.specs.Exchanges.{Service, Exchange, WasForwarded, WasAnswered, outcome_of, hint_of}
-use Rattle.gateway_connections.specs.Measured.{WasExchanged, WasShort, Brought, WasBrought, IsDue, WasGiven, WasGivenOr500, WasDueAndGiven, WasAnsweredHere, IsDueHere, WasGivenHere}
+use Rattle.gateway_connections.specs.Exchanges.{Service, Exchange, WasForwarded, WasAnswered, IsExchange, outcome_of, hint_of}
+use Rattle.gateway_connections.specs.Measured.{WasExchanged, WasShort, Brought, WasBrought, IsDue, WasGiven, WasGivenOr500, WasDueAndGiven, IsDueHere, WasGivenHere}
 
 -- A body is unfit or has a price; what is granted is answered as its reply is measured; and bytes begin with one reply.
 pub record OneResponse : Type 0 where
@@ -87,8 +88,8 @@ denied_500 x hint message (inl told) = ap (λ (r : Reply). r.status) told
 denied_500 x hint message (inr none) = ap (λ (r : Reply). r.status) none
 
 -- a body to which a response is due is fit
-fit : OneResponse → (s : Service) (x : Exchange) (metered : Metered) → IsDue s x metered → (denial : Denial) → denial ≢ Memory → IsUnfit s.rules x.ask.body.items denial → ⊥
-fit laws s x metered due denial told unfit =
+fit : OneResponse → (s : Service) (made : ℕ) (x : Exchange) (metered : Metered) → IsDue s made x metered → (denial : Denial) → denial ≢ Memory → IsUnfit s.rules x.ask.body.items denial → ⊥
+fit laws s made x metered due denial told unfit =
     let p = laws.priced s.rules x.ask.body.items due.reply.body.items metered due.measured in laws.priced_or_unfit s.rules x.ask.body.items p.0 denial told p.1 unfit
 
 -- without memory to ask the upstream there is none for an answer
@@ -97,15 +98,18 @@ starved g f (inl never) = absurd never
 starved g f (inr none) = none
 
 -- a denial is for want of memory where a response is due
-denied_due : OneResponse → (s : Service) (x : Exchange) (metered : Metered) (client : ℕ) (denial : Denial) → IsDenied s.rules x.ask.key x.ask.body.items client denial
-    → x.calls ≡ calls_begun client (window_of s.rules x.moment) (Denied denial) → (hint : Option Hint) → IsDenialReply hint denial x.reply → IsDue s x metered → x.reply.status ≡ 500
-denied_due laws s x metered client UnknownKey denied calls hint reply due = absurd (none-some due.client (sym denied ∙ due.known))
-denied_due laws s x metered client (Unexpanded fault) denied calls hint reply due = absurd (fit laws s x metered due (Unexpanded fault) (λ e. cc e) denied.1)
-denied_due laws s x metered client (BadBody fault) denied calls hint reply due = absurd (fit laws s x metered due (BadBody fault) (λ e. cc e) denied.1)
-denied_due laws s x metered client (Refused refusal) denied calls hint reply due = absurd (fit laws s x metered due (Refused refusal) (λ e. cc e) denied.1)
-denied_due laws s x metered client (NotLocal fault) denied calls hint reply due = absurd (fit laws s x metered due (NotLocal fault) (λ e. cc e) denied.1)
-denied_due laws s x metered client (Short left bound) denied calls hint reply due = absurd (due.covered (client, bound, left, calls))
-denied_due laws s x metered client Memory denied calls hint reply due = denied_500 x hint no_memory_text reply
+denied_due : OneResponse → (s : Service) (made : ℕ) (x : Exchange) (metered : Metered) (client : ℕ) (denial : Denial) → IsDenied s.rules x.ask.key x.ask.body.items client denial
+    → x.calls ≡ calls_begun client (window_of s.rules x.moment) (Denied denial) → (hint : Option Hint) → IsDenialReply hint denial x.reply → TellsFull (IsFullAt s.slots made) (Denied denial)
+    → IsDue s made x metered → x.reply.status ≡ 500
+denied_due laws s made x metered client UnknownKey denied calls hint reply full due = absurd (none-some due.client (sym denied ∙ due.known))
+denied_due laws s made x metered client (Unexpanded fault) denied calls hint reply full due = absurd (fit laws s made x metered due (Unexpanded fault) (λ e. cc e) denied.1)
+denied_due laws s made x metered client (BadBody fault) denied calls hint reply full due = absurd (fit laws s made x metered due (BadBody fault) (λ e. cc e) denied.1)
+denied_due laws s made x metered client (Refused refusal) denied calls hint reply full due = absurd (fit laws s made x metered due (Refused refusal) (λ e. cc e) denied.1)
+denied_due laws s made x metered client (NotLocal fault) denied calls hint reply full due = absurd (fit laws s made x metered due (NotLocal fault) (λ e. cc e) denied.1)
+denied_due laws s made x metered client (Short left bound) denied calls hint reply full due = absurd (due.covered (client, bound, left, calls))
+denied_due laws s made x metered client Full denied calls hint (inl told) full due = absurd (due.room (full, (ap (λ (r : Reply). r.status) told, ap (λ (r : Reply). r.body) told)))
+denied_due laws s made x metered client Full denied calls hint (inr none) full due = ap (λ (r : Reply). r.status) none
+denied_due laws s made x metered client Memory denied calls hint reply full due = denied_500 x hint no_memory_text reply
 
 given_by : (s : Service) (made : ℕ) (x : Exchange) (f : WasForwarded s made (Unit {0}) x) (metered : Metered)
     → f.finished ≡ finished_as 200 metered.text f.grant.ticket.bound metered.cost → WasGiven s x metered
@@ -138,35 +142,39 @@ answered_200 : (s : Service) (made : ℕ) (x : Exchange) → WasAnswered s made 
 answered_200 s made x a = status_of x a.answer.finished a.reply ∙ ap (λ (g : Finished). g.status) a.is_answered.finished
 
 -- a body to which a response is due has a price
-price : OneResponse → (s : Service) (x : Exchange) (metered : Metered) → IsDue s x metered → (bound : Cost) × IsPricedAt s.rules x.ask.body.items bound
-price laws s x metered due = laws.priced s.rules x.ask.body.items due.reply.body.items metered due.measured
+price : OneResponse → (s : Service) (made : ℕ) (x : Exchange) (metered : Metered) → IsDue s made x metered → (bound : Cost) × IsPricedAt s.rules x.ask.body.items bound
+price laws s made x metered due = laws.priced s.rules x.ask.body.items due.reply.body.items metered due.measured
 
-pub given_where_due : OneResponse → (s : Service) (x : Exchange) (metered : Metered) → HasNamedTypes s.rules → WasExchanged s x → IsDue s x metered → WasGivenOr500 s x metered
-given_where_due laws s x metered named (made, inl d) due = inr (denied_due laws s x metered d.client d.denial d.denied d.calls (hint_of s x.moment d.denial) d.reply due)
-given_where_due laws s x metered named (made, inr (inr a)) due = absurd ((laws.local s.rules x.ask.body.items).not_priced (price laws s x metered due).0 a.is_answered.answer.cost (price laws s x metered due).1 (local_at s made x a))
-given_where_due laws s x metered named (made, inr (inl f)) due = forwarded laws s made x f due.reply metered named due.brought due.measured
+pub given_where_due : OneResponse → (s : Service) (made : ℕ) (x : Exchange) (metered : Metered) → HasNamedTypes s.rules → IsExchange s made (Unit {0}) x → IsDue s made x metered → WasGivenOr500 s x metered
+given_where_due laws s made x metered named (inl d) due = inr (denied_due laws s made x metered d.client d.denial d.denied d.calls (hint_of s x.ask.key x.moment d.denial) d.reply d.full due)
+given_where_due laws s made x metered named (inr (inr a)) due = absurd ((laws.local s.rules x.ask.body.items).not_priced (price laws s made x metered due).0 a.is_answered.answer.cost (price laws s made x metered due).1 (local_at s made x a))
+given_where_due laws s made x metered named (inr (inl f)) due = forwarded laws s made x f due.reply metered named due.brought due.measured
 
 -- ---- where the gateway's own answer is due
 
 -- a denial is for want of memory there
-denied_here : OneResponse → (s : Service) (x : Exchange) (answer : Local) (client : ℕ) (denial : Denial) → IsDenied s.rules x.ask.key x.ask.body.items client denial
-    → x.calls ≡ calls_begun client (window_of s.rules x.moment) (Denied denial) → (hint : Option Hint) → IsDenialReply hint denial x.reply → IsDueHere s x answer → x.reply.status ≡ 500
-denied_here laws s x answer client denial denied calls hint reply due = each denial denied calls reply
+denied_here : OneResponse → (s : Service) (made : ℕ) (x : Exchange) (answer : Local) (client : ℕ) (denial : Denial) → IsDenied s.rules x.ask.key x.ask.body.items client denial
+    → x.calls ≡ calls_begun client (window_of s.rules x.moment) (Denied denial) → (hint : Option Hint) → IsDenialReply hint denial x.reply → TellsFull (IsFullAt s.slots made) (Denied denial)
+    → IsDueHere s made x answer → x.reply.status ≡ 500
+denied_here laws s made x answer client denial denied calls hint reply full due = each denial denied calls reply full
   where
     unfit : (other : Denial) → other ≢ Memory → IsUnfit s.rules x.ask.body.items other → ⊥
     unfit other told = (laws.local s.rules x.ask.body.items).not_unfit answer.cost other told (answer, due.is_answer, refl)
 
-    each : (other : Denial) → IsDenied s.rules x.ask.key x.ask.body.items client other → x.calls ≡ calls_begun client (window_of s.rules x.moment) (Denied other) → IsDenialReply hint other x.reply → x.reply.status ≡ 500
-    each UnknownKey is made told = absurd (none-some due.client (sym is ∙ due.known))
-    each (Unexpanded fault) is made told = absurd (unfit (Unexpanded fault) (λ e. cc e) is.1)
-    each (BadBody fault) is made told = absurd (unfit (BadBody fault) (λ e. cc e) is.1)
-    each (Refused refusal) is made told = absurd (unfit (Refused refusal) (λ e. cc e) is.1)
-    each (NotLocal fault) is made told = absurd (unfit (NotLocal fault) (λ e. cc e) is.1)
-    each (Short left bound) is made told = absurd (due.covered (client, bound, left, made))
-    each Memory is made told = denied_500 x hint no_memory_text told
+    each : (other : Denial) → IsDenied s.rules x.ask.key x.ask.body.items client other → x.calls ≡ calls_begun client (window_of s.rules x.moment) (Denied other) → IsDenialReply hint other x.reply
+        → TellsFull (IsFullAt s.slots made) (Denied other) → x.reply.status ≡ 500
+    each UnknownKey is calls told full = absurd (none-some due.client (sym is ∙ due.known))
+    each (Unexpanded fault) is calls told full = absurd (unfit (Unexpanded fault) (λ e. cc e) is.1)
+    each (BadBody fault) is calls told full = absurd (unfit (BadBody fault) (λ e. cc e) is.1)
+    each (Refused refusal) is calls told full = absurd (unfit (Refused refusal) (λ e. cc e) is.1)
+    each (NotLocal fault) is calls told full = absurd (unfit (NotLocal fault) (λ e. cc e) is.1)
+    each (Short left bound) is calls told full = absurd (due.covered (client, bound, left, calls))
+    each Full is calls (inl told) full = absurd (due.room (full, (ap (λ (r : Reply). r.status) told, ap (λ (r : Reply). r.body) told)))
+    each Full is calls (inr none) full = ap (λ (r : Reply). r.status) none
+    each Memory is calls told full = denied_500 x hint no_memory_text told
 
 -- what was answered is the one answer
-answered_so : OneResponse → (s : Service) (made : ℕ) (x : Exchange) (answer : Local) → WasAnswered s made (Unit {0}) x → IsDueHere s x answer → WasGivenHere s x answer
+answered_so : OneResponse → (s : Service) (made : ℕ) (x : Exchange) (answer : Local) → WasAnswered s made (Unit {0}) x → IsDueHere s made x answer → WasGivenHere s x answer
 answered_so laws s made x answer a due =
     let one = laws.local s.rules x.ask.body.items in
     let other = a.is_answered.answer in
@@ -180,10 +188,10 @@ answered_so laws s made x answer a due =
       replied = a.reply;
     }
 
-pub given_here : OneResponse → (s : Service) (x : Exchange) (answer : Local) → WasExchanged s x → IsDueHere s x answer → WasGivenHere s x answer ⊎ (x.reply.status ≡ 500)
-given_here laws s x answer (made, inl d) due = inr (denied_here laws s x answer d.client d.denial d.denied d.calls (hint_of s x.moment d.denial) d.reply due)
-given_here laws s x answer (made, inr (inr a)) due = inl (answered_so laws s made x answer a due)
-given_here laws s x answer (made, inr (inl f)) due =
+pub given_here : OneResponse → (s : Service) (made : ℕ) (x : Exchange) (answer : Local) → IsExchange s made (Unit {0}) x → IsDueHere s made x answer → WasGivenHere s x answer ⊎ (x.reply.status ≡ 500)
+given_here laws s made x answer (inl d) due = inr (denied_here laws s made x answer d.client d.denial d.denied d.calls (hint_of s x.ask.key x.moment d.denial) d.reply d.full due)
+given_here laws s made x answer (inr (inr a)) due = inl (answered_so laws s made x answer a due)
+given_here laws s made x answer (inr (inl f)) due =
     absurd ((laws.local s.rules x.ask.body.items).not_priced f.grant.ticket.bound answer.cost (laws.granted s.rules x.ask.body.items f.grant f.is_granted.promised) (answer, due.is_answer, refl))
 
 -- ---- where a response was given
@@ -198,6 +206,7 @@ record IsNoDenials (wanted : ℕ) : Type 0 where
   at_401 : 401 ≡ wanted → ⊥
   at_429 : 429 ≡ wanted → ⊥
   at_500 : 500 ≡ wanted → ⊥
+  at_503 : 503 ≡ wanted → ⊥
 
 no_denial : (wanted : ℕ) (hint : Option Hint) (denial : Denial) (r : Reply) → IsNoDenials wanted → IsDenialReply hint denial r → r.status ≡ wanted → ⊥
 no_denial wanted hint UnknownKey r others told is = tells_other hint 401 wanted (denial_text UnknownKey) r others.at_401 others.at_500 told is
@@ -206,13 +215,14 @@ no_denial wanted hint (BadBody fault) r others told is = tells_other hint 400 wa
 no_denial wanted hint (Refused refusal) r others told is = tells_other hint 400 wanted (denial_text (Refused refusal)) r others.at_400 others.at_500 told is
 no_denial wanted hint (NotLocal fault) r others told is = tells_other hint 400 wanted (denial_text (NotLocal fault)) r others.at_400 others.at_500 told is
 no_denial wanted hint (Short left bound) r others told is = tells_other hint 429 wanted (denial_text (Short left bound)) r others.at_429 others.at_500 told is
+no_denial wanted hint Full r others told is = tells_other hint 503 wanted (denial_text Full) r others.at_503 others.at_500 told is
 no_denial wanted hint Memory r others told is = tells_other hint 500 wanted (denial_text Memory) r others.at_500 others.at_500 told is
 
 no_200 : IsNoDenials 200
-no_200 = record { at_400 = λ e. omega (arith, e); at_401 = λ e. omega (arith, e); at_429 = λ e. omega (arith, e); at_500 = λ e. omega (arith, e) }
+no_200 = record { at_400 = λ e. omega (arith, e); at_401 = λ e. omega (arith, e); at_429 = λ e. omega (arith, e); at_500 = λ e. omega (arith, e); at_503 = λ e. omega (arith, e) }
 
 no_502 : IsNoDenials 502
-no_502 = record { at_400 = λ e. omega (arith, e); at_401 = λ e. omega (arith, e); at_429 = λ e. omega (arith, e); at_500 = λ e. omega (arith, e) }
+no_502 = record { at_400 = λ e. omega (arith, e); at_401 = λ e. omega (arith, e); at_429 = λ e. omega (arith, e); at_500 = λ e. omega (arith, e); at_503 = λ e. omega (arith, e) }
 
 finished_other : (f : Finished) (status : ℕ) (body : List ℕ) (bound charged : Cost) → (status ≡ 200 → ⊥) → f ≡ finished_as status body bound charged → f.status ≡ 200 → ⊥
 finished_other f status body bound charged other is at = other (sym (ap (λ (g : Finished). g.status) is) ∙ at)
@@ -240,7 +250,7 @@ measured_at g (Ok r) f (inr none) at = absurd (finished_other f 500 _ _ _ (λ e.
 measured_at g (Err fault) f (inl is) at = absurd (unanswered_other g.ticket.bound fault f is at)
 measured_at g (Err fault) f (inr none) at = absurd (finished_other f 500 _ _ _ (λ e. omega (arith, e)) none at)
 
-given_due : (s : Service) (made : ℕ) (x : Exchange) (f : WasForwarded s made (Unit {0}) x) → IsMeasured f.grant f.asked f.finished → WasDueAndGiven s x
+given_due : (s : Service) (made : ℕ) (x : Exchange) (f : WasForwarded s made (Unit {0}) x) → IsMeasured f.grant f.asked f.finished → WasDueAndGiven s made x
 given_due s made x f (r, is, (metered, measured, answered)) =
     let request = request_bytes s.host s.target x.ask.passed.items f.grant.forward in
     let by = brought_by (Unit {0}) request r x.dials (subst (λ a. CameTo (Unit {0}) request a x.dials) is f.came_to) in (
@@ -249,6 +259,7 @@ given_due s made x f (r, is, (metered, measured, answered)) =
         client = f.client;
         known = f.is_granted.known;
         covered = λ (short : WasShort s x). (let e : 2 ≡ 1 = ap length (sym f.calls ∙ short.3) in omega (arith, e));
+        room = λ full. (let e : 200 ≡ 503 = sym (status_of x f.finished f.reply ∙ ap (λ (g : Finished). g.status) answered) ∙ full.1.0 in omega (arith, e));
         reply = r;
         brought = subst (AllByRecursion (Brought r)) (sym by.1) (by.2, tt);
         measured = (promise_of f.grant, f.is_granted.promised, measured);
@@ -257,10 +268,10 @@ given_due s made x f (r, is, (metered, measured, answered)) =
       given_by s made x f metered answered,
     )
 
-pub due_where_given : (s : Service) (x : Exchange) → WasExchanged s x → x.reply.status ≡ 200 → WasDueAndGiven s x ⊎ WasAnsweredHere s x
-due_where_given s x (made, inl d) at = absurd (no_denial 200 (hint_of s x.moment d.denial) d.denial x.reply no_200 d.reply at)
-due_where_given s x (made, inr (inr a)) at = inr (made, a)
-due_where_given s x (made, inr (inl f)) at = inl (given_due s made x f (measured_at f.grant f.asked f.finished f.is_finished (sym (status_of x f.finished f.reply) ∙ at)))
+pub due_where_given : (s : Service) (made : ℕ) (x : Exchange) → IsExchange s made (Unit {0}) x → x.reply.status ≡ 200 → WasDueAndGiven s made x ⊎ WasAnswered s made (Unit {0}) x
+due_where_given s made x (inl d) at = absurd (no_denial 200 (hint_of s x.ask.key x.moment d.denial) d.denial x.reply no_200 d.reply at)
+due_where_given s made x (inr (inr a)) at = inr a
+due_where_given s made x (inr (inl f)) at = inl (given_due s made x f (measured_at f.grant f.asked f.finished f.is_finished (sym (status_of x f.finished f.reply) ∙ at)))
 
 -- ---- not both
 
@@ -286,13 +297,13 @@ given_status s x metered (inr none) at = let e : 500 ≡ 502 = sym none ∙ at i
 
 -- what is replied with 502 was forwarded
 forwarded_at : (s : Service) (y : Exchange) → WasExchanged s y → y.reply.status ≡ 502 → (made : ℕ) × WasForwarded s made (Unit {0}) y
-forwarded_at s y (made, inl d) at = absurd (no_denial 502 (hint_of s y.moment d.denial) d.denial y.reply no_502 d.reply at)
+forwarded_at s y (made, inl d) at = absurd (no_denial 502 (hint_of s y.ask.key y.moment d.denial) d.denial y.reply no_502 d.reply at)
 forwarded_at s y (made, inr (inl f)) at = (made, f)
 forwarded_at s y (made, inr (inr a)) at = let e : 200 ≡ 502 = sym (answered_200 s made y a) ∙ at in absurd (omega (arith, e))
 
 not_both_at : OneResponse → (s : Service) (made : ℕ) (x y : Exchange) (reply : UpstreamReply) → HasNamedTypes s.rules → WasExchanged s x → WasForwarded s made (Unit {0}) y
     → x.ask.body.items ≡ y.ask.body.items → WasBrought reply x → WasBrought reply y → x.reply.status ≡ 200 → y.reply.status ≡ 502 → ⊥
-not_both_at laws s made x y reply named (other, inl d) f same brought brought_too at at_too = no_denial 200 (hint_of s x.moment d.denial) d.denial x.reply no_200 d.reply at
+not_both_at laws s made x y reply named (other, inl d) f same brought brought_too at at_too = no_denial 200 (hint_of s x.ask.key x.moment d.denial) d.denial x.reply no_200 d.reply at
 not_both_at laws s made x y reply named (other, inr (inl g)) f same brought brought_too at at_too =
     let measured = measured_for laws s other x reply g brought at in
     given_status s y measured.0

@@ -8,6 +8,7 @@ use Rattle.outside.specs.Dials.{Dial}
 use Rattle.http_front.specs.declared.fault.FrontFault.{FrontFault}
 use Rattle.http_front.specs.declared.fault.FrontFault.TheVariants as fault
 use Rattle.http_front.specs.Asks.{IsAsk, HasFault}
+use Rattle.gateway_core.specs.Numbers.{numbers_taken}
 use Rattle.gateway_connections.specs.declared.reply.Reply.{Reply}
 use Rattle.gateway_connections.specs.declared.ending.ConnectionEnd.{ConnectionEnd}
 use Rattle.gateway_connections.specs.declared.ending.Served.{Served}
@@ -69,6 +70,7 @@ end_number ending.ReadFault = 2
 end_number ending.WriteFault = 3
 end_number ending.Limit = 4
 end_number ending.Memory = 5
+end_number ending.Lost = 6
 
 -- For want of memory it never began; the next request couldn't be read, and that was replied to or not; or the reply to an
 -- exchange carried `close`.
@@ -111,7 +113,7 @@ EndIs number (at_fault f None) end = end ≡ ending.Closed
 EndIs number (at_fault f (Some r)) end = EndsAfter number r.status end
 EndIs number (after_last x) end = (closes number x ≡ true) × EndsAfter number x.reply.status end
 
--- Where it stops: behind so many exchanges and calls, with these bytes to come. Of what it takes no further request is read.
+-- Where it stops: behind so many exchanges and numbers of calls, with these bytes to come. Of what it takes no further request is read.
 abbrev pub StopsAt : Service → ℕ → ℕ → List ℕ → Bool → Stop → Type 0
 StopsAt s number made here ended not_begun = (number ≡ 0) × (here ≡ []) × (ended ≡ false)
 StopsAt s number made here ended (at_fault f r) = HasFault here ended f × IsFaultReply f r
@@ -123,7 +125,7 @@ EndsWith number stop before after count end =
     (Appends before after (last_bytes number stop) × (count ≡ number + last_count stop) × EndIs number stop end)
     ⊎ (AppendsFront before after (last_bytes number stop) × (count ≡ number) × (end ≡ ending.WriteFault))
 
--- A connection: of these bytes, behind so many calls, with what was written before and after it, this count of replies that
+-- A connection: of these bytes, behind so many numbers of calls, with what was written before and after it, this count of replies that
 -- were written whole, and this end.
 pub record Connection (s : Service) (made : ℕ) (bytes : List ℕ) (ended : Bool) (before after : Option (List ℕ))
     (count : ℕ) (end : ConnectionEnd) : Type 0 where
@@ -134,7 +136,7 @@ pub record Connection (s : Service) (made : ℕ) (bytes : List ℕ) (ended : Boo
   pub here : List ℕ
   pub asks : AsksTo s.passed bytes exchanges here
   pub stop : Stop
-  pub stops : StopsAt s (length exchanges) (made + length (calls_of exchanges)) here ended stop
+  pub stops : StopsAt s (length exchanges) (made + numbers_taken s.slots (calls_of exchanges)) here ended stop
   -- what was written before the reply of the stop
   pub between : Option (List ℕ)
   pub replied : Appends before between (replies_from 0 exchanges)

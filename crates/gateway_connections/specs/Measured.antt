@@ -12,12 +12,15 @@ use Rattle.gateway_core.specs.Rules.{client_of, window_of}
 pub use Rattle.gateway_core.specs.Measures.{Metered}
 use Rattle.gateway_core.specs.Measures.{IsMeasuredFor}
 use Rattle.local_introspection.specs.declared.walk.Local.{Local}
+use Rattle.gateway_core.specs.declared.beginning.Denial.TheVariants.{Full}
 use Rattle.gateway_core.specs.declared.beginning.LocalAnswer.{LocalAnswer}
+use Rattle.gateway_core.specs.Numbers.{IsFullAt}
+use Rattle.gateway_core.specs.Messages.{message_body, denial_text}
 use Rattle.gateway_core.specs.Requests.{IsAnsweredFor}
 use Rattle.gateway_core.specs.Begins.{calls_answered}
 use Rattle.gateway_core.specs.Finishes.{settling, finished_as}
 use Rattle.gateway_connections.specs.Replies.{reply_as, finished_reply}
-use Rattle.gateway_connections.specs.Exchanges.{Service, Exchange, WasAnswered, IsExchange}
+use Rattle.gateway_connections.specs.Exchanges.{Service, Exchange, IsExchange}
 
 -- it went so, behind some calls
 abbrev pub WasExchanged : Service → Exchange → Type 0
@@ -39,12 +42,18 @@ WasBrought reply x = AllByRecursion (Brought reply) x.dials
 abbrev pub HasBrought : UpstreamReply → Exchange → Type 0
 HasBrought reply x = (d : Dial) × (x.dials ≡ d ∷ []) × Brought reply d
 
--- A response is due: the key is a client's, whose account wasn't short; the body asks for an operation that is accepted; and what
--- the upstream replied, without a fault of the wire, is a response to it that keeps the declared sizes, of which this is measured.
-pub record IsDue (s : Service) (x : Exchange) (metered : Metered) : Type 0 where
+-- There was no room for a grant at its turn, behind so many numbers of calls, and its reply says so.
+abbrev pub WasFull : Service → ℕ → Exchange → Type 0
+WasFull s made x = IsFullAt s.slots made × ((x.reply.status ≡ 503) × (x.reply.body ≡ message_body (denial_text Full)))
+
+-- A response is due to a request behind so many numbers of calls: the key is a client's, whose account wasn't short, and there was room for a
+-- grant; the body asks for an operation that is accepted; and what the upstream replied, without a fault of the wire, is a response to it that
+-- keeps the declared sizes, of which this is measured.
+pub record IsDue (s : Service) (made : ℕ) (x : Exchange) (metered : Metered) : Type 0 where
   pub client : ℕ
   pub known : client_of s.rules x.ask.key ≡ Some client
   pub covered : WasShort s x → ⊥
+  pub room : WasFull s made x → ⊥
   pub reply : UpstreamReply
   pub brought : WasBrought reply x
   pub measured : IsMeasuredFor s.rules x.ask.body.items reply.body.items metered
@@ -60,15 +69,13 @@ pub record WasGiven (s : Service) (x : Exchange) (metered : Metered) : Type 0 wh
 abbrev pub WasGivenOr500 : Service → Exchange → Metered → Type 0
 WasGivenOr500 s x metered = WasGiven s x metered ⊎ (x.reply.status ≡ 500)
 
--- The gateway answered it itself, behind some calls.
-abbrev pub WasAnsweredHere : Service → Exchange → Type 0
-WasAnsweredHere s x = (made : ℕ) × WasAnswered s made ⊤ x
-
--- The gateway's own answer is due: the key is a client's, whose account wasn't short; and the body asks for what is answered so.
-pub record IsDueHere (s : Service) (x : Exchange) (answer : Local) : Type 0 where
+-- The gateway's own answer is due: the key is a client's, whose account wasn't short, and there was room for a grant; and the body asks
+-- for what is answered so.
+pub record IsDueHere (s : Service) (made : ℕ) (x : Exchange) (answer : Local) : Type 0 where
   pub client : ℕ
   pub known : client_of s.rules x.ask.key ≡ Some client
   pub covered : WasShort s x → ⊥
+  pub room : WasFull s made x → ⊥
   pub is_answer : IsAnsweredFor s.rules x.ask.body.items answer
 
 -- It was given: replied with 200 and its text, and reserved and settled at its cost.
@@ -80,5 +87,5 @@ pub record WasGivenHere (s : Service) (x : Exchange) (answer : Local) : Type 0 w
   pub replied : x.reply ≡ finished_reply given.finished
 
 -- A response was due, its reply was brought by one dial, and it was given.
-abbrev pub WasDueAndGiven : Service → Exchange → Type 0
-WasDueAndGiven s x = (metered : Metered) × (due : IsDue s x metered) × HasBrought due.reply x × WasGiven s x metered
+abbrev pub WasDueAndGiven : Service → ℕ → Exchange → Type 0
+WasDueAndGiven s made x = (metered : Metered) × (due : IsDue s made x metered) × HasBrought due.reply x × WasGiven s x metered

@@ -19,6 +19,8 @@ pub enum ConnectionEnd {
     Limit,
     /// Memory was wanting.
     Memory,
+    /// The accounts were lost, and the last request has no reply. No connection over the gate's own cells ends so.
+    Lost,
 }
 
 impl ConnectionEnd {
@@ -34,6 +36,7 @@ impl ConnectionEnd {
             ConnectionEnd::WriteFault => 3,
             ConnectionEnd::Limit => 4,
             ConnectionEnd::Memory => 5,
+            ConnectionEnd::Lost => 6,
         }
     }
 }

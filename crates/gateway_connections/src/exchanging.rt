@@ -1,17 +1,15 @@
 //! One exchange: a request of a client, and its reply.
 
-ghost use Rattle.std.specs.Prelude.{◌≡◌, ◌≤◌, ◌<◌, ◌+◌, ◌^◌, IfSome};
-ghost use Rattle.account_shared.specs.Views.{Belongs, IsIdle};
+ghost use Rattle.std.specs.Prelude.{◌≡◌, ◌≤◌, ◌<◌, ◌+◌, ◌^◌, IfSome, IfOk, OnErr};
+ghost use Rattle.outside.specs.Faults.{Rose};
 ghost use Rattle.http_front.specs.ReplyBytes.{IsHint};
 ghost use Rattle.gateway_core.specs.Begins.{HasCostsWithin};
 ghost use Rattle.gateway_core.specs.Gates.{rules_of};
-ghost use Rattle.gateway_core.specs.Grants.{IsOpenGrant};
 ghost use Rattle.gateway_connections.specs.Replies.{IsWritable};
-ghost use Rattle.gateway_connections.specs.Exchanges.{Forwards, Replies, outcome_of, service_of, telling, short_hint, hint_of};
+ghost use Rattle.gateway_connections.specs.Exchanges.{Forwards, Replies, LosesForwarded, LosesExchange, outcome_of, service_of, service_in, telling, short_hint, hint_of};
 
 use crate::reply::{Reply, answered_reply, denial_reply};
-use account_shared::Passes;
-use gateway_core::{Begun, Denial, Gate, Grant, Outcome, begin, finish};
+use gateway_core::{Begun, Denial, Gate, Grant, Ledger, Outcome, begin_in, finish_in};
 use http_front::{Ask, Hint};
 use outside::Wire;
 use std::alloc::Global;
@@ -28,50 +26,60 @@ fn outcome_of(asked: Result<UpstreamReply, LinkFault>) -> Outcome
     }
 }
 
-// What is told at a moment to a client whose account is short.
-fn short_hint(gate: &Gate, moment: u64, denial: &Denial) -> Option<Hint>
+// What is told at a moment to a client whose account is short, if waiting may help.
+fn short_hint(gate: &Gate, ask: &Ask, moment: u64, denial: &Denial) -> Option<Hint>
     requires within { HasCostsWithin denial.now }
-    ensures hint { result ≡ short_hint (rules_of gate.now) moment denial.now }
+    ensures hint { result ≡ short_hint (rules_of gate.now) ask.now.key moment denial.now }
     ensures within { IfSome result IsHint }
 {
     match denial {
-        Denial::Short { left, bound: _ } => Some(Hint {
-            seconds: gate.seconds_left(moment),
-            left: *left,
-        }),
+        Denial::Short { left, bound } => {
+            if gate.may_have_room(ask.key.as_str(), *bound) {
+                Some(Hint {
+                    seconds: gate.seconds_left(moment),
+                    left: *left,
+                })
+            } else {
+                None
+            }
+        }
         _ => None,
     }
 }
 
 // What is told with a denial.
-fn hint_of(gate: &Gate, moment: u64, denial: &Denial) -> Option<Hint>
+fn hint_of(gate: &Gate, ask: &Ask, moment: u64, denial: &Denial) -> Option<Hint>
     requires within { HasCostsWithin denial.now }
-    ensures hint { result ≡ hint_of (service_of gate.now) moment denial.now }
+    ensures hint { result ≡ hint_of (service_of gate.now) ask.now.key moment denial.now }
     ensures within { IfSome result IsHint }
 {
     if gate.hints() {
-        short_hint(gate, moment, denial)
+        short_hint(gate, ask, moment, denial)
     } else {
         None
     }
 }
 
 // Forwards a granted request with lines of further fields, and finishes it.
-fn forward<R: Wait, W: Wire>(
+fn forward<L: Ledger, R: Wait, W: Wire>(
     gate: &Gate,
     alloc: Global,
     rt: &R,
-    passes: &mut Passes,
+    ledger: &mut L,
     wire: &mut W,
     grant: Grant,
     lines: &[u8],
-) -> Reply
-    requires belong { Belongs passes.old gate.now.accounts }
-    requires open { IsOpenGrant passes.old grant }
-    requires made { passes.old.made < 2 ^ 63 }
-    ensures belong { Belongs passes.new gate.now.accounts }
-    ensures forwarded { Forwards (service_of gate.now) (telling W.log W.dial_faults W.faults) grant.entry lines.now passes.old passes.new wire.old wire.new result }
-    ensures writable { IsWritable result }
+) -> Result<Reply, L::Lost>
+    requires belong { L.belongs ledger.old gate.now }
+    requires open { L.opens ledger.old grant.ticket }
+    requires made { L.made ledger.old < 2 ^ 63 }
+    ensures belong { IfOk result (λ reply. L.belongs ledger.new gate.now) }
+    ensures forwarded { IfOk result (Forwards (service_in L.slots gate.now) (telling W.log W.dial_faults W.faults) grant.entry lines.now (L.gains ledger.old ledger.new) wire.old wire.new) }
+    ensures writable { IfOk result IsWritable }
+    ensures lost { OnErr result (LosesForwarded (service_in L.slots gate.now) (telling W.log W.dial_faults W.faults) grant.entry lines.now
+        (L.loses ledger.old ledger.new grant.entry.ticket.client) wire.old wire.new) }
+    ensures count { L.faults ledger.old ≤ L.faults ledger.new }
+    ensures cause { OnErr result (Rose (L.faults ledger.old) (L.faults ledger.new)) }
 {
     let asked = ask(
         alloc,
@@ -81,39 +89,53 @@ fn forward<R: Wait, W: Wire>(
         lines,
         grant.forward().as_bytes(),
     );
-    let finished = finish(gate, alloc, rt, passes, grant, outcome_of(asked));
-    Reply {
+    let finished = finish_in(gate, alloc, rt, ledger, grant, outcome_of(asked))?;
+    Ok(Reply {
         status: finished.status,
         costs: Some((finished.bound, finished.charged)),
         hint: None,
         body: finished.body,
-    }
+    })
 }
 
 /// Makes one exchange: decides a request at a moment, in seconds; forwards it where it is granted, with the lines of those of its
 /// fields that are passed on; settles it; and gives the reply.
 ///
 /// It may wait for the steps of other workers.
-pub fn exchange<R: Wait, W: Wire>(
+///
+/// # Errors
+///
+/// The accounts were lost in a call that the exchange needs.
+pub fn exchange<L: Ledger, R: Wait, W: Wire>(
     gate: &Gate,
     alloc: Global,
     rt: &R,
-    passes: &mut Passes,
+    ledger: &mut L,
     wire: &mut W,
     ask: &Ask,
     moment: u64,
-) -> Reply
-    requires belong { Belongs passes.old gate.now.accounts }
-    requires made { passes.old.made < 2 ^ 62 }
-    ensures belong { Belongs passes.new gate.now.accounts }
-    ensures few { passes.new.made ≤ passes.old.made + 2 }
-    ensures idle { IsIdle passes.old → IsIdle passes.new }
-    ensures replied { Replies (service_of gate.now) (telling W.log W.dial_faults W.faults) ask.now moment passes.old passes.new wire.old wire.new result }
-    ensures writable { IsWritable result }
+) -> Result<Reply, L::Lost>
+    requires belong { L.belongs ledger.old gate.now }
+    requires made { L.made ledger.old < 2 ^ 62 }
+    requires idle { L.idle ledger.old }
+    ensures belong { IfOk result (λ reply. L.belongs ledger.new gate.now) }
+    ensures few { IfOk result (λ reply. L.made ledger.new ≤ L.made ledger.old + 2) }
+    ensures idle { IfOk result (λ reply. L.idle ledger.new) }
+    ensures replied { IfOk result (Replies (service_in L.slots gate.now) (telling W.log W.dial_faults W.faults) ask.now moment (L.made ledger.old) (L.gains ledger.old ledger.new) wire.old wire.new) }
+    ensures writable { IfOk result IsWritable }
+    ensures lost { OnErr result (LosesExchange (service_in L.slots gate.now) (telling W.log W.dial_faults W.faults) ask.now moment (L.made ledger.old) (L.gains ledger.old)
+        (λ before. L.loses before ledger.new) wire.old wire.new) }
+    ensures count { L.faults ledger.old ≤ L.faults ledger.new }
+    ensures cause { OnErr result (Rose (L.faults ledger.old) (L.faults ledger.new)) }
 {
-    match begin(gate, alloc, rt, passes, ask.key.as_str(), &ask.body, moment) {
-        Begun::Granted(grant) => forward(gate, alloc, rt, passes, wire, grant, &ask.passed),
-        Begun::Answered(answer) => answered_reply(answer.finished),
-        Begun::Denied(denial) => denial_reply(alloc, &denial, hint_of(gate, moment, &denial)),
+    let begun = begin_in(gate, alloc, rt, ledger, ask.key.as_str(), &ask.body, moment)?;
+    match begun {
+        Begun::Granted(grant) => Ok(forward(gate, alloc, rt, ledger, wire, grant, &ask.passed)?),
+        Begun::Answered(answer) => Ok(answered_reply(answer.finished)),
+        Begun::Denied(denial) => Ok(denial_reply(
+            alloc,
+            &denial,
+            hint_of(gate, ask, moment, &denial),
+        )),
     }
 }

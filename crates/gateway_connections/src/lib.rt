@@ -15,5 +15,5 @@ pub use exchanging::exchange;
 pub use gateway_core::{Gate, Settings, Totals, close};
 pub use laws::a_response_is_given_where_it_is_due;
 pub use reply::Reply;
-pub use serving::serve_connection;
+pub use serving::{serve_connection, serve_in};
 pub use sharing::replies_are_shared;

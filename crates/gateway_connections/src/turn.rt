@@ -1,21 +1,19 @@
 //! One turn of a connection: the next request, its exchange, and its reply.
 
-ghost use Rattle.std.specs.Prelude.{◌≡◌, ◌≢◌, ◌≤◌, ◌<◌, ◌+◌, ◌^◌, [], IfSome, Option, Some};
+ghost use Rattle.std.specs.Prelude.{◌≡◌, ◌≢◌, ◌≤◌, ◌<◌, ◌+◌, ◌^◌, [], IfSome, IfOk, OnErr, Option, Some};
 ghost use Rattle.outside.specs.Faults.{Rose};
-ghost use Rattle.account_shared.specs.Views.{Belongs, IsIdle};
 ghost use Rattle.gateway_core.specs.Messages.{message_body, no_memory_text};
 ghost use Rattle.gateway_connections.specs.Replies.{IsWritable};
-ghost use Rattle.gateway_connections.specs.Exchanges.{service_of};
+ghost use Rattle.gateway_connections.specs.Exchanges.{service_in, telling, LosesExchange};
 ghost use Rattle.gateway_connections.specs.Connections.{Refuses, Answers, IfEndsBy, UnlessEndsBy};
-ghost use Rattle.gateway_connections.specs.Serving.{TurnsFrom};
+ghost use Rattle.gateway_connections.specs.Serving.{TurnsFrom, LosesTurn};
 ghost use Rattle.gateway_connections.specs.declared.ending.ConnectionEnd.TheVariants as ending;
 
 use crate::ending::{ConnectionEnd, Served, carries_close, end_after, end_of_silence};
 use crate::exchanging::exchange;
 use crate::reply::{Reply, fault_reply, write};
-use account_shared::Passes;
 use doors::{Conn, Tells};
-use gateway_core::Gate;
+use gateway_core::{Gate, Ledger};
 use http_front::{Front, FrontFault};
 use outside::{Clock, Sink, Source, Wire, WriteFault};
 use std::alloc::Global;
@@ -93,40 +91,56 @@ fn answer<K: Sink>(
 
 /// Takes the next request, makes its exchange and replies to it; or replies to what is wrong with it. None where the connection
 /// goes on after that.
-pub(crate) fn turn<R: Wait, S: Source + Drop, K: Sink + Drop, W: Wire + Drop, C: Clock + Drop>(
+///
+/// # Errors
+///
+/// The accounts were lost, and the request has no reply.
+pub(crate) fn turn<
+    L: Ledger,
+    R: Wait,
+    S: Source + Drop,
+    K: Sink + Drop,
+    W: Wire + Drop,
+    C: Clock + Drop,
+>(
     gate: &Gate,
     alloc: Global,
     rt: &R,
-    passes: &mut Passes,
+    ledger: &mut L,
     front: &mut Front,
     conn: &mut Conn<S, K, W, C>,
     number: u32,
     spare: &mut Vec<u8>,
-) -> Option<Served>
-    requires belong { Belongs passes.old gate.now.accounts }
-    requires made { passes.old.made < 2 ^ 62 }
-    requires idle { IsIdle passes.old }
+) -> Result<Option<Served>, L::Lost>
+    requires belong { L.belongs ledger.old gate.now }
+    requires made { L.made ledger.old < 2 ^ 62 }
+    requires idle { L.idle ledger.old }
     requires few { number < 1000 }
     requires spare { spare.old.items ≡ message_body no_memory_text }
-    ensures belong { Belongs passes.new gate.now.accounts }
-    ensures few { passes.new.made ≤ passes.old.made + 2 }
-    ensures idle { IsIdle passes.new }
+    ensures belong { IfOk result (λ served. L.belongs ledger.new gate.now) }
+    ensures few { IfOk result (λ served. L.made ledger.new ≤ L.made ledger.old + 2) }
+    ensures idle { IfOk result (λ served. L.idle ledger.new) }
     ensures spare { spare.new.items ≡ message_body no_memory_text }
-    ensures turns { TurnsFrom (service_of gate.now) passes.old passes.new number front.old front.new
-        (⟦<Conn<S, K, W, C> as Tells>⟧.told conn.old) (⟦<Conn<S, K, W, C> as Tells>⟧.told conn.new) result }
-    ensures most { IfSome result (λ served. served.replies ≤ number + 1) }
+    ensures turns { IfOk result (TurnsFrom (service_in L.slots gate.now) (L.made ledger.old) (L.gains ledger.old ledger.new) number front.old front.new
+        (⟦<Conn<S, K, W, C> as Tells>⟧.told conn.old) (⟦<Conn<S, K, W, C> as Tells>⟧.told conn.new)) }
+    ensures most { IfOk result (λ turned. IfSome turned (λ served. served.replies ≤ number + 1)) }
     ensures reads { S.faults conn.old.source ≤ S.faults conn.new.source }
     ensures writes { K.faults conn.old.sink ≤ K.faults conn.new.sink }
-    ensures read_fault { IfEndsBy ending.ReadFault result (Rose (S.faults conn.old.source) (S.faults conn.new.source)) }
-    ensures write_fault { IfEndsBy ending.WriteFault result (Rose (K.faults conn.old.sink) (K.faults conn.new.sink)) }
-    ensures read_still { UnlessEndsBy ending.ReadFault result (S.faults conn.new.source ≡ S.faults conn.old.source) }
-    ensures write_still { UnlessEndsBy ending.WriteFault result (K.faults conn.new.sink ≡ K.faults conn.old.sink) }
+    ensures read_fault { IfOk result (λ turned. IfEndsBy ending.ReadFault turned (Rose (S.faults conn.old.source) (S.faults conn.new.source))) }
+    ensures write_fault { IfOk result (λ turned. IfEndsBy ending.WriteFault turned (Rose (K.faults conn.old.sink) (K.faults conn.new.sink))) }
+    ensures read_still { IfOk result (λ turned. UnlessEndsBy ending.ReadFault turned (S.faults conn.new.source ≡ S.faults conn.old.source)) }
+    ensures write_still { IfOk result (λ turned. UnlessEndsBy ending.WriteFault turned (K.faults conn.new.sink ≡ K.faults conn.old.sink)) }
+    ensures lost { OnErr result (IfSome front.old (λ kept. LosesTurn (service_in L.slots gate.now) kept (λ ask moment. LosesExchange (service_in L.slots gate.now) (telling W.log W.dial_faults W.faults)
+        ask moment (L.made ledger.old) (L.gains ledger.old) (λ before. L.loses before ledger.new) conn.old.wire conn.new.wire)
+        (⟦<Conn<S, K, W, C> as Tells>⟧.told conn.old) (⟦<Conn<S, K, W, C> as Tells>⟧.told conn.new))) }
+    ensures count { L.faults ledger.old ≤ L.faults ledger.new }
+    ensures cause { OnErr result (Rose (L.faults ledger.old) (L.faults ledger.new)) }
 {
     let ask = match front.next(alloc, gate.passed(), &mut conn.source) {
         Ok(ask) => ask,
-        Err(fault) => return Some(refuse(alloc, &mut conn.sink, fault, number, spare)),
+        Err(fault) => return Ok(Some(refuse(alloc, &mut conn.sink, fault, number, spare))),
     };
     let moment = conn.clock.seconds();
-    let reply = exchange(gate, alloc, rt, passes, &mut conn.wire, &ask, moment);
-    answer(alloc, &mut conn.sink, reply, ask.close, number, spare)
+    let reply = exchange(gate, alloc, rt, ledger, &mut conn.wire, &ask, moment)?;
+    Ok(answer(alloc, &mut conn.sink, reply, ask.close, number, spare))
 }

@@ -35,7 +35,7 @@ served_fit seconds clients served = All-map (FitsCap greatest) client_limit clie
 
 -- ---- what a window may take in
 
-remaining_within : (whole part : Cost) → Within greatest whole → Within greatest (remaining whole part)
+pub remaining_within : (whole part : Cost) → Within greatest whole → Within greatest (remaining whole part)
 remaining_within whole part within = record { types = omega (arith, within.types); fields = omega (arith, within.fields) }
 
 -- an allowance alone, and with at most another one beside it where it carries
@@ -54,7 +54,7 @@ own_room : (limit : Limit) (a : Account) (carries : Bool) → limit.carry ≡ ca
 own_room limit a true carry fits keeps = doubled limit a.carried fits carry keeps.carried
 own_room limit a false carry fits keeps = subst (λ (c : Cost). Within greatest (together limit.allowance c)) (sym (keeps.plain carry)) (alone limit fits)
 
-room_within : (limit : Limit) (a : Account) (at : ℕ) → FitsCap greatest limit → KeepsLimit limit a → Within greatest (room limit a at)
+pub room_within : (limit : Limit) (a : Account) (at : ℕ) → FitsCap greatest limit → KeepsLimit limit a → Within greatest (room limit a at)
 room_within limit a at fits keeps =
     let P : Cost → Type 0 = λ c. Within greatest (together limit.allowance c) in
     let over : Cost = surplus limit a.carried (used_of a) in

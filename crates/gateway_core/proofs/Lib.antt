@@ -3,9 +3,13 @@ pub mod PlanCovers
 pub mod ExaminedBodies
 pub mod BegunRequests
 pub mod PaidAnswers
+pub mod TakenNumbers
 pub mod CappedAccounts
+pub mod NextWindows
+pub mod MostRoom
 pub mod OneOutcome
 pub mod OneAnswer
 pub mod OneMeasure
 pub mod SharedGates
 pub mod FreshAccounts
+pub mod LostAccounts

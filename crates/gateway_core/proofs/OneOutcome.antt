@@ -40,7 +40,7 @@ use Rattle.local_introspection.specs.LocalAnswers.{IsAnsweredWith, IsRefusedFor 
 use Rattle.local_introspection.specs.AskAlike.{AskAlike as LocalAlike}
 use Rattle.local_introspection.specs.AskedHere.{asked_at, IsHereThat}
 use Rattle.gateway_core.specs.declared.beginning.Denial.{Denial}
-use Rattle.gateway_core.specs.declared.beginning.Denial.TheVariants.{UnknownKey, Unexpanded, BadBody, Refused, NotLocal, Short, Memory}
+use Rattle.gateway_core.specs.declared.beginning.Denial.TheVariants.{UnknownKey, Unexpanded, BadBody, Refused, NotLocal, Short, Full, Memory}
 use Rattle.gateway_core.specs.Rules.{Rules, HasWeights}
 use Rattle.gateway_core.specs.Requests.{request_of, Asks, AsksThat, GoesUpstream, IsRefusedBody, IsPricedAt, Knows, IsAnsweredFor, IsLocalAt, IsNotLocal}
 use Rattle.gateway_core.specs.Begins.{IsUnfit, HasOneAnswer}
@@ -280,6 +280,7 @@ module _ (laws : OneBody) (rules : Rules) (body : List ℕ) where
   priced_or_unfit bound (Refused refusal) told priced unfit = priced_or_refused bound refusal priced unfit
   priced_or_unfit bound (NotLocal fault) told priced unfit = upstream_or_here (λ r. IsAffordable r bound) (λ q. IsNotAnsweredFor q fault) priced (refused_asks fault unfit).1
   priced_or_unfit bound (Short left cost) told priced unfit = unfit
+  priced_or_unfit bound Full told priced unfit = unfit
   priced_or_unfit bound Memory told priced unfit = told refl
 
   local_or_unfit : (cost : Cost) (denial : Denial) → denial ≢ Memory → IsLocalAt rules body cost → IsUnfit rules body denial → ⊥
@@ -289,6 +290,7 @@ module _ (laws : OneBody) (rules : Rules) (body : List ℕ) where
   local_or_unfit cost (Refused refusal) told (answer, asks, costs) unfit = refused_or_here refusal (λ q. IsAnsweredWith q answer) unfit asks
   local_or_unfit cost (NotLocal fault) told (answer, asks, costs) unfit = answered_or_not answer fault asks unfit
   local_or_unfit cost (Short left bound) told local unfit = unfit
+  local_or_unfit cost Full told local unfit = unfit
   local_or_unfit cost Memory told local unfit = told refl
 
   -- a body that is no request is unfit for that alone
@@ -299,6 +301,7 @@ module _ (laws : OneBody) (rules : Rules) (body : List ℕ) where
   unread_alone reason told a (Refused g) too b = absurd (unread_or_refused reason g told a b)
   unread_alone reason told a (NotLocal g) too b = absurd (unread_or_asks reason (IsHereThat (Knows rules) (λ q. IsNotAnsweredFor q g)) told a (refused_asks g b).1)
   unread_alone reason told a (Short left bound) too b = absurd b
+  unread_alone reason told a Full too b = absurd b
   unread_alone reason told a Memory too b = absurd (too refl)
 
   refused_alone : (refusal : Refusal) → IsRefusedBody rules body refusal → (another : Denial) → another ≢ Memory → IsUnfit rules body another → Refused refusal ≡ another
@@ -308,6 +311,7 @@ module _ (laws : OneBody) (rules : Rules) (body : List ℕ) where
   refused_alone f a (Refused g) too b = ap Refused (one_refused f g a b)
   refused_alone f a (NotLocal g) too b = absurd (refused_or_here f (λ q. IsNotAnsweredFor q g) a (refused_asks g b).1)
   refused_alone f a (Short left bound) too b = absurd b
+  refused_alone f a Full too b = absurd b
   refused_alone f a Memory too b = absurd (too refl)
 
   not_local_alone : (fault : LocalFault) → IsNotLocal rules body fault → (another : Denial) → another ≢ Memory → IsUnfit rules body another → NotLocal fault ≡ another
@@ -317,6 +321,7 @@ module _ (laws : OneBody) (rules : Rules) (body : List ℕ) where
   not_local_alone f a (Refused g) too b = sym (refused_alone g b (NotLocal f) (λ e. cc e) a)
   not_local_alone f a (NotLocal g) too b = ap NotLocal (one_not_local f g a b)
   not_local_alone f a (Short left bound) too b = absurd b
+  not_local_alone f a Full too b = absurd b
   not_local_alone f a Memory too b = absurd (too refl)
 
   pub one_reason : (denial another : Denial) → denial ≢ Memory → another ≢ Memory → IsUnfit rules body denial → IsUnfit rules body another → denial ≡ another
@@ -326,6 +331,7 @@ module _ (laws : OneBody) (rules : Rules) (body : List ℕ) where
   one_reason (Refused f) another told too a b = refused_alone f a another too b
   one_reason (NotLocal f) another told too a b = not_local_alone f a another too b
   one_reason (Short left bound) another told too a b = absurd a
+  one_reason Full another told too a b = absurd a
   one_reason Memory another told too a b = absurd (told refl)
 
   pub one_answer : HasOneAnswer rules body

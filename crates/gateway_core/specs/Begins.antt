@@ -3,8 +3,7 @@ use Rattle.std.specs.Prelude.{◌≡◌, ◌≢◌, ◌⊎◌, ℕ, List, [], �
 use Rattle.cost_num.specs.declared.Cost.{Cost}
 use Rattle.cost_num.specs.Within.{Within}
 use Rattle.account_core.specs.Machine.{reservation, settlement, granted, short, done}
-use Rattle.account_shared.specs.Views.{PassesView}
-use Rattle.account_shared.specs.Gains.{ClientCall, client_call, Gains}
+use Rattle.account_shared.specs.Gains.{ClientCall, client_call}
 use Rattle.trusted_documents.specs.Requests.{HasFaultBy, IsUnexpandedBy}
 use Rattle.acceptance.specs.declared.fault.Refusal.{Refusal}
 use Rattle.acceptance.specs.declared.fault.AcceptFault.{AcceptFault}
@@ -15,16 +14,16 @@ use Rattle.gateway_core.specs.declared.beginning.Begun.{Begun}
 use Rattle.gateway_core.specs.declared.beginning.Begun.TheVariants.{Granted, Answered, Denied}
 use Rattle.gateway_core.specs.declared.beginning.LocalAnswer.{LocalAnswer}
 use Rattle.gateway_core.specs.declared.beginning.Denial.{Denial}
-use Rattle.gateway_core.specs.declared.beginning.Denial.TheVariants.{UnknownKey, Unexpanded, BadBody, Refused, NotLocal, Short, Memory}
+use Rattle.gateway_core.specs.declared.beginning.Denial.TheVariants.{UnknownKey, Unexpanded, BadBody, Refused, NotLocal, Short, Full, Memory}
 use Rattle.gateway_core.specs.Rules.{Rules, client_of, window_of, greatest}
 use Rattle.gateway_core.specs.Requests.{IsRefusedBody, IsPricedAt, IsPromisedFor, IsAnsweredFor, IsLocalAt, IsNotLocal}
 use Rattle.gateway_core.specs.declared.grant.Grant.{Grant}
-use Rattle.gateway_core.specs.Grants.{promise_of, IsOpenGrant}
+use Rattle.gateway_core.specs.Grants.{promise_of}
 use Rattle.gateway_core.specs.Finishes.{finished_as}
 
 -- Why a body of the client at this place, with this key, is denied. The key is tested first, then the expansion, then the body,
--- then the operation, and last whether the account has room for its bound, or for the cost of the gateway's own answer. For want of
--- memory nothing is said of the body.
+-- then the operation, and last whether its grant can be kept, and whether the account has room for its bound, or for the cost of the
+-- gateway's own answer. For want of memory nothing is said of the body.
 abbrev pub IsDenied : Rules → List ℕ → List ℕ → ℕ → Denial → Type 0
 IsDenied rules key body client UnknownKey = client_of rules key ≡ None
 IsDenied rules key body client (Unexpanded fault) = (client_of rules key ≡ Some client) × IsUnexpandedBy rules.trusted body fault
@@ -32,6 +31,7 @@ IsDenied rules key body client (BadBody fault) = (client_of rules key ≡ Some c
 IsDenied rules key body client (Refused refusal) = (client_of rules key ≡ Some client) × IsRefusedBody rules body refusal
 IsDenied rules key body client (NotLocal fault) = (client_of rules key ≡ Some client) × IsNotLocal rules body fault
 IsDenied rules key body client (Short left bound) = (client_of rules key ≡ Some client) × (IsPricedAt rules body bound ⊎ IsLocalAt rules body bound)
+IsDenied rules key body client Full = (client_of rules key ≡ Some client) × ((bound : Cost) × (IsPricedAt rules body bound ⊎ IsLocalAt rules body bound))
 IsDenied rules key body client Memory = client_of rules key ≡ Some client
 
 -- Why a body is denied, whoever sent it: it isn't expanded, it is no request, or its operation is refused.
@@ -83,16 +83,23 @@ calls_begun client window (Answered a) = calls_answered client window a
 calls_begun client window (Denied (Short left bound)) = client_call client (reservation window bound) (short left) ∷ []
 calls_begun client window (Denied other) = []
 
--- How a request of this key and body begins at a moment, and which calls it made.
-abbrev pub Begins : Rules → PassesView → List ℕ → List ℕ → ℕ → Begun → PassesView → Type 0
-Begins rules before key body moment begun now =
-    (client : ℕ) × IsBegun rules key body client before.made begun × Gains before now (calls_begun client (window_of rules moment) begun)
+-- How a request of this key and body begins at a moment behind so many numbers of calls. `Gained` says that just these calls were made.
+abbrev pub Begins : Rules → ℕ → (List ClientCall → Type 0) → List ℕ → List ℕ → ℕ → Begun → Type 0
+Begins rules made Gained key body moment begun =
+    (client : ℕ) × IsBegun rules key body client made begun × Gained (calls_begun client (window_of rules moment) begun)
 
 -- what is granted is open
-abbrev pub OpensIfBegun : PassesView → Begun → Type 0
-OpensIfBegun p (Granted g) = IsOpenGrant p g
-OpensIfBegun p (Answered a) = ⊤
-OpensIfBegun p (Denied denial) = ⊤
+abbrev pub OpensIfBegun : (Grant → Type 0) → Begun → Type 0
+OpensIfBegun IsOpen (Granted g) = IsOpen g
+OpensIfBegun IsOpen other = ⊤
+
+-- It is denied as full where there is no room for a grant; and where there is none, nothing is granted, and no account is told to be
+-- short.
+abbrev pub TellsFull : Type 0 → Begun → Type 0
+TellsFull NoRoom (Denied Full) = NoRoom
+TellsFull NoRoom (Denied (Short left bound)) = NoRoom → ⊥
+TellsFull NoRoom (Denied other) = ⊤
+TellsFull NoRoom other = NoRoom → ⊥
 
 -- the costs of a denial are within the cap
 abbrev pub HasCostsWithin : Denial → Type 0
@@ -125,14 +132,16 @@ IfRefusal (Refused refusal) P = P refusal
 IfRefusal Memory P = ⊤
 IfRefusal other P = ⊥
 
--- The account of the client covers the bound of the promise, and the ticket has this number; or it is short of it.
+-- The account of the client covers the bound of the promise, and the ticket has this number; or it is short of it, or full.
 abbrev pub IsReserved : Promise → ℕ → ℕ → Begun → Type 0
 IsReserved promise client made (Granted g) = (promise_of g ≡ promise) × (g.ticket.client ≡ client) × (g.ticket.seq ≡ made)
 IsReserved promise client made (Denied (Short left bound)) = bound ≡ promise.bound
+IsReserved promise client made (Denied Full) = ⊤
 IsReserved promise client made other = ⊥
 
--- The account of the client covered the cost of the answer, under this number of a call; or it is short of it.
+-- The account of the client covered the cost of the answer, under this number of a call; or it is short of it, or full.
 abbrev pub IsPaid : Local → ℕ → Begun → Type 0
 IsPaid answer made (Answered a) = (a.finished ≡ finished_as 200 answer.text answer.cost answer.cost) × (a.seq ≡ made)
 IsPaid answer made (Denied (Short left bound)) = bound ≡ answer.cost
+IsPaid answer made (Denied Full) = ⊤
 IsPaid answer made other = ⊥

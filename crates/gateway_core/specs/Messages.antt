@@ -14,7 +14,7 @@ use Rattle.request_bodies.specs.FaultTexts.{fault_text}
 use Rattle.acceptance.specs.Texts.{refusal_text}
 use Rattle.local_introspection.specs.LocalTexts.{local_text}
 use Rattle.gateway_core.specs.declared.beginning.Denial.{Denial}
-use Rattle.gateway_core.specs.declared.beginning.Denial.TheVariants.{UnknownKey, Unexpanded, BadBody, Refused, NotLocal, Short, Memory}
+use Rattle.gateway_core.specs.declared.beginning.Denial.TheVariants.{UnknownKey, Unexpanded, BadBody, Refused, NotLocal, Short, Full, Memory}
 
 -- the body that tells a message: a response with one error and no data
 abbrev pub message_body : List ℕ → List ℕ
@@ -32,6 +32,7 @@ denial_status (BadBody fault) = 400
 denial_status (Refused refusal) = 400
 denial_status (NotLocal fault) = 400
 denial_status (Short left bound) = 429
+denial_status Full = 503
 denial_status Memory = 500
 
 abbrev pub denial_text : Denial → List ℕ
@@ -41,6 +42,7 @@ denial_text (BadBody fault) = codes "REFUSED " ++ fault_text fault
 denial_text (Refused refusal) = codes "REFUSED " ++ refusal_text refusal
 denial_text (NotLocal fault) = codes "REFUSED " ++ local_text fault
 denial_text (Short left bound) = codes "OVER_BUDGET left " ++ (cost_text left ++ (codes " bound " ++ cost_text bound))
+denial_text Full = codes "JOURNAL_FULL"
 denial_text Memory = no_memory_text
 
 -- ---- why there is no reply of the upstream

@@ -1,23 +1,22 @@
 //! How a request begins.
 
-ghost use Rattle.std.specs.Prelude.{◌≡◌, ◌<◌, ◌^◌, length};
+ghost use Rattle.std.specs.Prelude.{◌≡◌, ◌≤◌, ◌<◌, ◌^◌, length, IfOk, OnErr};
 ghost use Rattle.static_cost.specs.CostBound.{IsWithin};
-ghost use Rattle.account_shared.specs.Views.{Belongs};
-ghost use Rattle.account_shared.specs.Gains.{Gains};
+ghost use Rattle.outside.specs.Faults.{Rose};
+ghost use Rattle.account_core.specs.Machine.{reservation};
 ghost use Rattle.gateway_core.specs.Rules.{window_of};
+ghost use Rattle.gateway_core.specs.Losses.{LosesCalls, LosesBegun};
 ghost use Rattle.gateway_core.specs.Gates.{rules_of};
 ghost use Rattle.gateway_core.specs.PlanBounds.{Covers};
-ghost use Rattle.gateway_core.specs.Begins.{Begins, OpensIfBegun, IfDenied, HasCostsWithin, IfAnswered, IsGiven, IsReserved, IsPaid, calls_begun};
+ghost use Rattle.gateway_core.specs.Begins.{Begins, OpensIfBegun, IfDenied, HasCostsWithin, IfAnswered, IsGiven, IsReserved, IsPaid, TellsFull, calls_begun};
 
 use crate::examining::{Examined, examine};
 use crate::finishing::Finished;
 use crate::gate::Gate;
 use crate::grant::Grant;
+use crate::ledger::{Ledger, Reserved};
 use crate::promise::Promise;
 use acceptance::Refusal;
-use account_core::Reply;
-use account_shared::Passes;
-use account_shared::laws::{gains_none, gains_then};
 use cost_num::Cost;
 use local_introspection::{Local, LocalFault};
 use request_bodies::BodyFault;
@@ -45,6 +44,8 @@ pub enum Denial {
         /// What a response costs at most.
         bound: Cost,
     },
+    /// There is no room to keep what would be granted.
+    Full,
     /// There was no memory.
     Memory,
 }
@@ -70,78 +71,89 @@ pub enum Begun<'g> {
 }
 
 // Reserves what was promised at the client's account. It takes no memory.
-fn reserve<'g, R: Wait>(
+fn reserve<'g, L: Ledger, R: Wait>(
     gate: &'g Gate,
     rt: &R,
-    passes: &mut Passes,
+    ledger: &mut L,
     client: u32,
     moment: u64,
     promise: Promise<'g>,
-) -> Begun<'g>
-    requires belong { Belongs passes.old gate.now.accounts }
-    requires made { passes.old.made < 2 ^ 62 }
+) -> Result<Begun<'g>, L::Lost>
+    requires belong { L.belongs ledger.old gate.now }
+    requires made { L.made ledger.old < 2 ^ 62 }
     requires client { client < length (rules_of gate.now).clients }
     requires covered { Covers promise.plan promise.bound }
-    ensures belong { Belongs passes.new gate.now.accounts }
-    ensures open { OpensIfBegun passes.new result }
-    ensures reserved { IsReserved promise.entry client passes.old.made result }
-    ensures call { Gains passes.old passes.new (calls_begun client (window_of (rules_of gate.now) moment) result) }
-    ensures within { IfDenied result HasCostsWithin }
+    ensures belong { IfOk result (λ begun. L.belongs ledger.new gate.now) }
+    ensures open { IfOk result (OpensIfBegun (λ g. L.opens ledger.new g.ticket)) }
+    ensures reserved { IfOk result (IsReserved promise.entry client (L.made ledger.old)) }
+    ensures call { IfOk result (λ begun. L.gains ledger.old ledger.new (calls_begun client (window_of (rules_of gate.now) moment) begun)) }
+    ensures within { IfOk result (λ begun. IfDenied begun HasCostsWithin) }
+    ensures full { IfOk result (TellsFull (L.full ledger.old)) }
+    ensures lost { OnErr result (L.loses ledger.old ledger.new client (reservation (window_of (rules_of gate.now) moment) promise.entry.bound)) }
+    ensures count { L.faults ledger.old ≤ L.faults ledger.new }
+    ensures cause { OnErr result (Rose (L.faults ledger.old) (L.faults ledger.new)) }
 {
     let window = moment / u64::from(gate.settings.window_seconds);
     let bound = promise.bound;
-    match gate.accounts.reserve(rt, passes, client, window, bound) {
-        Reply::Granted(ticket) => Begun::Granted(Grant {
+    let reserved = ledger.reserve(gate, rt, client, window, bound)?;
+    match reserved {
+        Reserved::Granted(ticket) => Ok(Begun::Granted(Grant {
             ticket,
             plan: promise.plan,
             alias: promise.alias,
             forward: promise.forward,
-        }),
-        Reply::Short { left } => Begun::Denied(Denial::Short { left, bound }),
+        })),
+        Reserved::Short { left } => Ok(Begun::Denied(Denial::Short { left, bound })),
+        Reserved::Full => Ok(Begun::Denied(Denial::Full)),
     }
 }
 
 // Reserves what an answer costs at the client's account, and settles it at once where it is granted. It takes no memory.
-fn pay<'g, R: Wait>(
+fn pay<'g, L: Ledger, R: Wait>(
     gate: &'g Gate,
     rt: &R,
-    passes: &mut Passes,
+    ledger: &mut L,
     client: u32,
     moment: u64,
     answer: Local,
-) -> Begun<'g>
-    requires belong { Belongs passes.old gate.now.accounts }
-    requires made { passes.old.made < 2 ^ 62 }
+) -> Result<Begun<'g>, L::Lost>
+    requires belong { L.belongs ledger.old gate.now }
+    requires made { L.made ledger.old < 2 ^ 62 }
     requires client { client < length (rules_of gate.now).clients }
     requires capped { IsWithin answer.cost }
-    ensures belong { Belongs passes.new gate.now.accounts }
-    ensures open { OpensIfBegun passes.new result }
-    ensures paid { IsPaid answer passes.old.made result }
-    ensures calls { Gains passes.old passes.new (calls_begun client (window_of (rules_of gate.now) moment) result) }
-    ensures within { IfDenied result HasCostsWithin }
-    ensures given { IfAnswered result IsGiven }
+    ensures belong { IfOk result (λ begun. L.belongs ledger.new gate.now) }
+    ensures open { IfOk result (OpensIfBegun (λ g. L.opens ledger.new g.ticket)) }
+    ensures paid { IfOk result (IsPaid answer (L.made ledger.old)) }
+    ensures calls { IfOk result (λ begun. L.gains ledger.old ledger.new (calls_begun client (window_of (rules_of gate.now) moment) begun)) }
+    ensures within { IfOk result (λ begun. IfDenied begun HasCostsWithin) }
+    ensures given { IfOk result (λ begun. IfAnswered begun IsGiven) }
+    ensures full { IfOk result (TellsFull (L.full ledger.old)) }
+    ensures lost { OnErr result (LosesCalls client (window_of (rules_of gate.now) moment) answer.cost (L.made ledger.old) (L.gains ledger.old) (λ before. L.loses before ledger.new)) }
+    ensures count { L.faults ledger.old ≤ L.faults ledger.new }
+    ensures cause { OnErr result (Rose (L.faults ledger.old) (L.faults ledger.new)) }
 {
-    gains_then();
     let window = moment / u64::from(gate.settings.window_seconds);
     let cost = answer.cost;
-    match gate.accounts.reserve(rt, passes, client, window, cost) {
-        Reply::Granted(ticket) => {
+    let reserved = ledger.reserve(gate, rt, client, window, cost)?;
+    match reserved {
+        Reserved::Granted(ticket) => {
             let window = ticket.window;
             let seq = ticket.seq;
-            gate.accounts.settle(rt, passes, ticket, cost);
+            ledger.settle(gate, rt, ticket, cost)?;
             let finished = Finished {
                 status: 200,
                 body: answer.text,
                 bound: cost,
                 charged: cost,
             };
-            Begun::Answered(LocalAnswer {
+            Ok(Begun::Answered(LocalAnswer {
                 finished,
                 window,
                 seq,
-            })
+            }))
         }
-        Reply::Short { left } => Begun::Denied(Denial::Short { left, bound: cost }),
+        Reserved::Short { left } => Ok(Begun::Denied(Denial::Short { left, bound: cost })),
+        Reserved::Full => Ok(Begun::Denied(Denial::Full)),
     }
 }
 
@@ -151,30 +163,37 @@ fn pay<'g, R: Wait>(
 /// and what the answer costs is reserved and settled.
 ///
 /// All memory is taken before the reservation. It may wait for the steps of other workers.
-pub fn begin<'g, R: Wait>(
+///
+/// # Errors
+///
+/// The accounts were lost in a call that the request needs.
+pub fn begin_in<'g, L: Ledger, R: Wait>(
     gate: &'g Gate,
     alloc: Global,
     rt: &R,
-    passes: &mut Passes,
+    ledger: &mut L,
     key: &str,
     body: &[u8],
     moment: u64,
-) -> Begun<'g>
-    requires belong { Belongs passes.old gate.now.accounts }
-    requires made { passes.old.made < 2 ^ 62 }
-    ensures belong { Belongs passes.new gate.now.accounts }
-    ensures open { OpensIfBegun passes.new result }
-    ensures begun { Begins (rules_of gate.now) passes.old key.now body.now moment result passes.new }
-    ensures within { IfDenied result HasCostsWithin }
-    ensures given { IfAnswered result IsGiven }
+) -> Result<Begun<'g>, L::Lost>
+    requires belong { L.belongs ledger.old gate.now }
+    requires made { L.made ledger.old < 2 ^ 62 }
+    ensures belong { IfOk result (λ begun. L.belongs ledger.new gate.now) }
+    ensures open { IfOk result (OpensIfBegun (λ g. L.opens ledger.new g.ticket)) }
+    ensures begun { IfOk result (Begins (rules_of gate.now) (L.made ledger.old) (L.gains ledger.old ledger.new) key.now body.now moment) }
+    ensures within { IfOk result (λ begun. IfDenied begun HasCostsWithin) }
+    ensures given { IfOk result (λ begun. IfAnswered begun IsGiven) }
+    ensures full { IfOk result (TellsFull (L.full ledger.old)) }
+    ensures lost { OnErr result (LosesBegun (rules_of gate.now) key.now body.now moment (L.made ledger.old) (L.gains ledger.old) (λ before. L.loses before ledger.new)) }
+    ensures count { L.faults ledger.old ≤ L.faults ledger.new }
+    ensures cause { OnErr result (Rose (L.faults ledger.old) (L.faults ledger.new)) }
 {
-    gains_none();
     let Some(client) = gate.client(key) else {
-        return Begun::Denied(Denial::UnknownKey);
+        return Ok(Begun::Denied(Denial::UnknownKey));
     };
     match examine(gate, alloc, body) {
-        Ok(Examined::Upstream(promise)) => reserve(gate, rt, passes, client, moment, promise),
-        Ok(Examined::Local(answer)) => pay(gate, rt, passes, client, moment, answer),
-        Err(denial) => Begun::Denied(denial),
+        Ok(Examined::Upstream(promise)) => Ok(reserve(gate, rt, ledger, client, moment, promise)?),
+        Ok(Examined::Local(answer)) => Ok(pay(gate, rt, ledger, client, moment, answer)?),
+        Err(denial) => Ok(Begun::Denied(denial)),
     }
 }

@@ -1,17 +1,16 @@
 //! How a granted request finishes.
 
-ghost use Rattle.std.specs.Prelude.{◌≡◌, ◌⊎◌, ◌<◌, ◌^◌, ◌∷◌, []};
+ghost use Rattle.std.specs.Prelude.{◌≡◌, ◌⊎◌, ◌≤◌, ◌<◌, ◌^◌, ◌∷◌, [], IfOk, OnErr};
+ghost use Rattle.outside.specs.Faults.{Rose};
 ghost use Rattle.cost_num.specs.Within.{Within};
-ghost use Rattle.account_shared.specs.Views.{Belongs};
-ghost use Rattle.account_shared.specs.Gains.{Gains};
 ghost use Rattle.gateway_core.specs.Rules.{greatest};
-ghost use Rattle.gateway_core.specs.Grants.{IsOpenGrant};
+ghost use Rattle.gateway_core.specs.Losses.{LosesFinished};
 ghost use Rattle.gateway_core.specs.Finishes.{IsReplied, link_charge, IsUnanswered, IsStarved, IsTold, IsFinished, settling};
 
 use crate::gate::Gate;
 use crate::grant::Grant;
+use crate::ledger::Ledger;
 use crate::messages::{link_message, link_status, message_body, not_response, size_broken};
-use account_shared::Passes;
 use cost_num::Cost;
 use gql_base::Text;
 use response_meter::{MeterFault, meter, print_answer};
@@ -42,7 +41,8 @@ pub struct Finished {
     pub charged: Cost,
 }
 
-const NOTHING: Cost = Cost {
+/// No cost.
+pub(crate) const NOTHING: Cost = Cost {
     types: 0,
     fields: 0,
 };
@@ -157,23 +157,30 @@ fn concluded(alloc: Global, grant: &Grant, outcome: Outcome) -> Finished
 /// nobody answered at nothing. Where there is no memory for the answer, its body is empty and the bound is charged.
 ///
 /// The settling takes no memory, and always happens. It may wait for the steps of other workers.
-pub fn finish<R: Wait>(
+///
+/// # Errors
+///
+/// The accounts were lost.
+pub fn finish_in<L: Ledger, R: Wait>(
     gate: &Gate,
     alloc: Global,
     rt: &R,
-    passes: &mut Passes,
+    ledger: &mut L,
     grant: Grant,
     outcome: Outcome,
-) -> Finished
-    requires belong { Belongs passes.old gate.now.accounts }
-    requires open { IsOpenGrant passes.old grant }
-    requires made { passes.old.made < 2 ^ 63 }
-    ensures belong { Belongs passes.new gate.now.accounts }
-    ensures finished { IsFinished grant.entry outcome result }
-    ensures bound { result.bound ≡ grant.entry.ticket.bound }
-    ensures settled { Gains passes.old passes.new (settling grant.entry.ticket result.charged ∷ []) }
-    ensures within { Within result.bound result.charged }
-    ensures capped { Within greatest result.bound }
+) -> Result<Finished, L::Lost>
+    requires belong { L.belongs ledger.old gate.now }
+    requires open { L.opens ledger.old grant.ticket }
+    requires made { L.made ledger.old < 2 ^ 63 }
+    ensures belong { IfOk result (λ finished. L.belongs ledger.new gate.now) }
+    ensures finished { IfOk result (IsFinished grant.entry outcome) }
+    ensures bound { IfOk result (λ finished. finished.bound ≡ grant.entry.ticket.bound) }
+    ensures settled { IfOk result (λ finished. L.gains ledger.old ledger.new (settling grant.entry.ticket finished.charged ∷ [])) }
+    ensures within { IfOk result (λ finished. Within finished.bound finished.charged) }
+    ensures capped { IfOk result (λ finished. Within greatest finished.bound) }
+    ensures lost { OnErr result (LosesFinished grant.entry outcome (L.loses ledger.old ledger.new grant.entry.ticket.client)) }
+    ensures count { L.faults ledger.old ≤ L.faults ledger.new }
+    ensures cause { OnErr result (Rose (L.faults ledger.old) (L.faults ledger.new)) }
 {
     let finished = concluded(alloc, &grant, outcome);
     let Grant {
@@ -182,6 +189,6 @@ pub fn finish<R: Wait>(
         alias: _,
         forward: _,
     } = grant;
-    gate.accounts.settle(rt, passes, ticket, finished.charged);
-    finished
+    ledger.settle(gate, rt, ticket, finished.charged)?;
+    Ok(finished)
 }

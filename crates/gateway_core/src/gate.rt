@@ -1,19 +1,25 @@
 //! The gate: by what it decides, and the accounts of its clients.
 
-ghost use Rattle.std.specs.Prelude.{◌≡◌, ◌<◌, ℕ, map, length, IfOk, IfSome, OnOk, OnErr, Some};
+ghost use Rattle.std.specs.Prelude.{◌≡◌, ◌<◌, ℕ, All, map, length, IfOk, IfSome, OnOk, OnErr, Some};
 ghost use Rattle.schema_model.specs.SchemaViews.{schema_data};
 ghost use Rattle.plan_model.specs.Sound.{CanBeFilled};
 ghost use Rattle.cost_directives.specs.Weights.{weights_of};
 ghost use Rattle.cost_directives.specs.WeightViews.{weights_data};
+ghost use Rattle.account_core.specs.Costs.{is_within};
+ghost use Rattle.account_core.specs.Numbers.{FitsCap};
 ghost use Rattle.account_cells.specs.Views.{after_split, split_off};
 ghost use Rattle.account_shared.specs.Views.{Belongs, IsIdle, JoinsTo, client_at, label_after_split, label_split_off, label_after_join};
 ghost use Rattle.client_files.specs.ClientFiles.{MayBeServed};
-ghost use Rattle.gateway_core.specs.Rules.{client_limit, client_of, seconds_left};
+ghost use Rattle.gateway_core.specs.Rules.{client_limit, client_of, greatest, most_carried, most_of, seconds_left, may_have_room, IsUpToNext};
 ghost use Rattle.gateway_core.specs.Propositions.{weights-prop, filled-prop};
 
+use crate::finishing::NOTHING;
+use crate::making::limits_of;
+use account_core::Limit;
 use account_shared::{Accounts, Passes};
 use client_files::Client;
 use cost_directives::Weights;
+use cost_num::Cost;
 use gql_base::{Indexed, Text};
 use local_introspection::Facts;
 use schema_model::Schema;
@@ -53,8 +59,29 @@ pub struct Gate {
     ghost limited: { accounts.limits ≡ map client_limit clients.items.items },
 }
 
+// The most that may ever be carried into a window of a client.
+fn most_carried(client: &Client) -> Cost
+    ensures { result ≡ most_carried (client_limit client.now) }
+{
+    if client.carry {
+        client.allowance
+    } else {
+        NOTHING
+    }
+}
+
+// Whether a client may ever spend so much in one window.
+fn is_room_of(client: &Client, bound: Cost) -> bool
+    ensures { result ≡ is_within (most_of (client_limit client.now)) bound }
+{
+    let allowance = client.allowance;
+    let carried = most_carried(client);
+    u128::from(bound.types) <= u128::from(allowance.types) + u128::from(carried.types)
+        && u128::from(bound.fields) <= u128::from(allowance.fields) + u128::from(carried.fields)
+}
+
 impl Gate {
-    ghost use Rattle.gateway_core.specs.Gates.{rules_of};
+    ghost use Rattle.gateway_core.specs.Gates.{rules_of, limits_of};
     ghost use Rattle.trusted_documents.specs.Listings.{listing_of};
 
     /// The place among the clients of the one with this key.
@@ -129,6 +156,19 @@ impl Gate {
         self.clients.items()
     }
 
+    /// What the clients may spend, in their order.
+    ///
+    /// # Errors
+    ///
+    /// `AllocError` where there was not enough memory.
+    pub fn limits(&self, alloc: Global) -> Result<Vec<Limit>, AllocError>
+        ensures limits { IfOk result (λ limits. limits.items ≡ limits_of self.now) }
+        ensures fit { IfOk result (λ limits. All (FitsCap greatest) limits.items) }
+    {
+        let limits = limits_of(alloc, self.clients.items())?;
+        Ok(limits)
+    }
+
     /// The upstream's host.
     pub fn host(&self) -> &str
         ensures { result.now ≡ self.now.settings.host }
@@ -160,10 +200,21 @@ impl Gate {
     /// How many seconds there are from a moment up to the next window.
     pub fn seconds_left(&self, moment: u64) -> u64
         ensures left { result ≡ seconds_left (rules_of self.now) moment }
+        ensures next { IsUpToNext (rules_of self.now) moment result }
         ensures some { 0 < result }
     {
         let window = u64::from(self.settings.window_seconds);
         window - moment % window
+    }
+
+    /// Whether the client with this key may ever have room for a bound, in a window in which nothing is spent or held.
+    pub fn may_have_room(&self, key: &str, bound: Cost) -> bool
+        ensures { result ≡ may_have_room (rules_of self.now) key.now bound }
+    {
+        match self.clients.first_named(key) {
+            Some(client) => is_room_of(client, bound),
+            None => false,
+        }
     }
 
     /// Splits passes off the first ones, for another worker. They have seen as much, and no call was made through them.

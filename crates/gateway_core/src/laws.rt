@@ -1,6 +1,10 @@
 //! What holds of all bodies, and of all replies to what is granted. These functions do nothing: their contracts are the laws.
 
-ghost use Rattle.std.specs.Prelude.{◌≡◌, ◌≢◌, ℕ, List};
+ghost use Rattle.std.specs.Prelude.{◌≡◌, ◌≢◌, ℕ, List, true};
+ghost use Rattle.account_core.specs.declared.Limit.{Limit as LimitType};
+ghost use Rattle.account_core.specs.Costs.{is_within};
+ghost use Rattle.account_core.specs.Machine.{Entry, HasRoom};
+ghost use Rattle.account_core.specs.History.{state_after, IsLegal};
 ghost use Rattle.response_meter.specs.declared.metered.Metered.{Metered};
 ghost use Rattle.response_meter.specs.declared.fault.MeterFault.{MeterFault};
 ghost use Rattle.cost_num.specs.declared.Cost.{Cost as CostType};
@@ -10,7 +14,7 @@ ghost use Rattle.gateway_core.specs.declared.finishing.Finished.{Finished as Fin
 ghost use Rattle.gateway_core.specs.declared.finishing.Outcome.{Outcome as OutcomeType};
 ghost use Rattle.gateway_core.specs.declared.grant.Grant.{Grant as GrantType};
 ghost use Rattle.gateway_core.specs.declared.promise.Promise.{Promise as PromiseType};
-ghost use Rattle.gateway_core.specs.Rules.{Rules, HasWeights};
+ghost use Rattle.gateway_core.specs.Rules.{Rules, HasWeights, most_of};
 ghost use Rattle.gateway_core.specs.Requests.{IsPricedAt, IsPromisedFor};
 ghost use Rattle.gateway_core.specs.Begins.{IsUnfit, HasOneAnswer};
 ghost use Rattle.gateway_core.specs.PlanBounds.{IsMeasuredBy};
@@ -49,6 +53,11 @@ pub fn a_body_comes_to_one_thing()
     operations_planned_well();
     greatest_is_bound();
 }
+
+/// What a client may never have room for is short in every window, whatever its account has come to.
+pub fn no_window_has_more_room()
+    ensures { (limit : LimitType) (history : List Entry) (window : ℕ) (bound : CostType) → IsLegal limit history → HasRoom limit (state_after limit history) window bound → is_within (most_of limit) bound ≡ true }
+{}
 
 /// A reply to what is granted is measured in one way, or has one first fault, and not both. So there is one answer to it, and to
 /// each outcome, but for want of memory. The types of the schema have different names, as those of a schema that is built have.

@@ -21,7 +21,7 @@ use std::alloc::{AllocError, Global};
 use std::sync::Wait;
 
 // What the clients may spend, in their order.
-fn limits_of(alloc: Global, clients: &[Client]) -> Result<Vec<Limit>, AllocError>
+pub(crate) fn limits_of(alloc: Global, clients: &[Client]) -> Result<Vec<Limit>, AllocError>
     ensures { IfOk result (λ limits. limits.items ≡ map client_limit clients.now) }
 {
     let mut limits = Vec::with_capacity(alloc, clients.len())?;

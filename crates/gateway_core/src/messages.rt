@@ -61,6 +61,7 @@ pub fn denial_status(denial: &Denial) -> u16
         Denial::Refused(_) => 400,
         Denial::NotLocal(_) => 400,
         Denial::Short { left: _, bound: _ } => 429,
+        Denial::Full => 503,
         Denial::Memory => 500,
     }
 }
@@ -107,6 +108,7 @@ pub fn denial_message(alloc: Global, denial: &Denial) -> Result<Text, AllocError
             refused(alloc, text.as_str())
         }
         Denial::Short { left, bound } => over_budget(alloc, *left, *bound),
+        Denial::Full => Text::copy_of(alloc, "JOURNAL_FULL"),
         Denial::Memory => Text::copy_of(alloc, "NO_MEMORY"),
     }
 }

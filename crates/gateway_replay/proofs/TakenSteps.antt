@@ -7,7 +7,7 @@ use Rattle.account_shared.specs.Gains.{client_call, Gains}
 use Rattle.replay_scripts.specs.Steps.{StepData, begins, ends, ReturnedData, reply, down, failed}
 use Rattle.upstream_link.specs.declared.fault.LinkFault.TheVariants as link
 use Rattle.gateway_core.specs.declared.beginning.Begun.TheVariants.{Granted, Answered, Denied}
-use Rattle.gateway_core.specs.declared.beginning.Denial.TheVariants.{UnknownKey, Unexpanded, BadBody, Refused, NotLocal, Short, Memory}
+use Rattle.gateway_core.specs.declared.beginning.Denial.TheVariants.{UnknownKey, Unexpanded, BadBody, Refused, NotLocal, Short, Full, Memory}
 use Rattle.gateway_core.specs.declared.finishing.Outcome.{Outcome}
 use Rattle.gateway_core.specs.declared.finishing.Outcome.TheVariants.{Reply, Fault, NoMemory}
 use Rattle.gateway_core.specs.declared.finishing.Finished.{Finished}
@@ -26,13 +26,14 @@ just_taken rules p q opens left step told t j = subst (JustOpen q) (sym t.left_a
     after : (step : StepData) (how : How) → ComesTo rules p.made opens step how → Gains p q (calls_of_step rules step how) → JustOpen q (opens_past_step opens step how)
     after (begins id key moment body) (begun_as client (Granted g)) c gains =
         just_granted p q opens (open_request id g) (window_of rules moment)
-        (subst (λ k. Gains p q (client_call k (reservation (window_of rules moment) g.ticket.bound) (granted g.ticket.window) ∷ [])) (sym c.to_client) gains) c.numbered j
-    after (begins id key moment body) (begun_as client (Answered a)) c gains = just_both p q opens client (window_of rules moment) a c.numbered gains j
+        (subst (λ k. Gains p q (client_call k (reservation (window_of rules moment) g.ticket.bound) (granted g.ticket.window) ∷ [])) (sym c.0.to_client) gains) c.0.numbered j
+    after (begins id key moment body) (begun_as client (Answered a)) c gains = just_both p q opens client (window_of rules moment) a c.0.numbered gains j
     after (begins id key moment body) (begun_as client (Denied UnknownKey)) c gains = just_none p q opens gains j
     after (begins id key moment body) (begun_as client (Denied (Unexpanded fault))) c gains = just_none p q opens gains j
     after (begins id key moment body) (begun_as client (Denied (BadBody fault))) c gains = just_none p q opens gains j
     after (begins id key moment body) (begun_as client (Denied (Refused refusal))) c gains = just_none p q opens gains j
     after (begins id key moment body) (begun_as client (Denied (NotLocal fault))) c gains = just_none p q opens gains j
+    after (begins id key moment body) (begun_as client (Denied Full)) c gains = absurd c.1
     after (begins id key moment body) (begun_as client (Denied (Short left bound))) c gains = just_short p q opens client (window_of rules moment) bound left gains j
     after (begins id key moment body) (begun_as client (Denied Memory)) c gains = just_none p q opens gains j
     after (begins id key moment body) no_room c gains = just_none p q opens gains j
@@ -75,6 +76,7 @@ few_calls rules made opens (begins id key moment body) (begun_as client (Denied 
 few_calls rules made opens (begins id key moment body) (begun_as client (Denied (BadBody fault))) c = omega arith
 few_calls rules made opens (begins id key moment body) (begun_as client (Denied (Refused refusal))) c = omega arith
 few_calls rules made opens (begins id key moment body) (begun_as client (Denied (NotLocal fault))) c = omega arith
+few_calls rules made opens (begins id key moment body) (begun_as client (Denied Full)) c = absurd c.1
 few_calls rules made opens (begins id key moment body) (begun_as client (Denied (Short left bound))) c = omega arith
 few_calls rules made opens (begins id key moment body) (begun_as client (Denied Memory)) c = omega arith
 few_calls rules made opens (begins id key moment body) no_room c = omega arith

@@ -8,7 +8,7 @@ use Rattle.gateway_core.specs.declared.beginning.Begun.TheVariants.{Granted}
 use Rattle.gateway_core.specs.declared.finishing.Finished.{Finished}
 use Rattle.gateway_core.specs.Rules.{Rules, window_of}
 use Rattle.gateway_core.specs.declared.grant.Grant.{Grant}
-use Rattle.gateway_core.specs.Begins.{IsBegun, calls_begun}
+use Rattle.gateway_core.specs.Begins.{IsBegun, TellsFull, calls_begun}
 use Rattle.gateway_core.specs.Finishes.{IsReplied, IsUnanswered, IsStarved, settling}
 
 -- a granted request that isn't finished, with the id by which the script names it
@@ -42,9 +42,10 @@ IsAnswered g (reply body) answer = IsReplied g body answer
 IsAnswered g down answer = IsUnanswered g.ticket.bound Down answer
 IsAnswered g failed answer = IsUnanswered g.ticket.bound Failed answer
 
--- What may come of a step after so many calls and with these requests open. Memory may be wanting wherever some is taken.
+-- What may come of a step after so many calls and with these requests open. Memory may be wanting wherever some is taken; but there is
+-- always room for a grant.
 abbrev pub ComesTo : Rules → ℕ → List OpenRequest → StepData → How → Type 0
-ComesTo rules made opens (begins id key moment body) (begun_as client answer) = IsBegun rules key body client made answer
+ComesTo rules made opens (begins id key moment body) (begun_as client answer) = IsBegun rules key body client made answer × TellsFull ⊥ answer
 ComesTo rules made opens (begins id key moment body) no_room = ⊤
 ComesTo rules made opens (ends id returned) (finished_with request answer) =
     (open_by id opens ≡ Some request) × (IsAnswered request.grant returned answer ⊎ IsStarved request.grant.ticket.bound answer)

@@ -85,7 +85,7 @@ did_still t s accounts v w belong idle same connections replies visits to_come f
 }
 
 -- one connection
-pub did_one : {D : Type 0} (t : DoorMembers D) (s : Service) (accounts : AccountsView) (v w : Worker D) (told back : Told) (served : Served) (serves : Serves s v.passes w.passes told back served) → (served.end ≡ ending.ReadFault → Rose told.read_faults back.read_faults) → (served.end ≡ ending.WriteFault → Rose told.write_faults back.write_faults) → Belongs w.passes accounts → IsIdle w.passes
+pub did_one : {D : Type 0} (t : DoorMembers D) (s : Service) (accounts : AccountsView) (v w : Worker D) (told back : Told) (served : Served) (serves : Serves s v.passes.made (Gains v.passes w.passes) told back served) → (served.end ≡ ending.ReadFault → Rose told.read_faults back.read_faults) → (served.end ≡ ending.WriteFault → Rose told.write_faults back.write_faults) → Belongs w.passes accounts → IsIdle w.passes
     → Gained (t.visits v.door) (record { given = told; back = back; ending = end_number served.end } ∷ []) (t.visits w.door)
     → w.connections ≡ v.connections + 1 → w.replies ≡ v.replies + served.replies → t.to_come v.door ≡ t.to_come w.door + 1 → t.out w.door ≡ false → served.replies ≤ 1000 → w.passes.made ≤ v.passes.made + 2000
     → Did t s accounts v w (record { given = told; back = back; calls = serves.calls; served = served } ∷ [])

@@ -1,20 +1,61 @@
--- What an account has left is within the cap, and both calls are the client's.
-use Rattle.std.proofs.Common.{◌/◌, ap}
+-- Both calls are the client's.
+use Rattle.std.proofs.Common.{◌/◌, ◌∷◌, [], inl, inr, ap, subst}
+use Rattle.account_core.specs.Machine.{reservation, granted}
+use Rattle.account_shared.specs.Gains.{client_call}
 use Rattle.gateway_core.specs.Rules.{window_of}
 use Rattle.gateway_core.specs.Gates.{rules_of}
-use Rattle.gateway_core.proofs.CappedAccounts.{gate_fits, known_to, left_within}
+use Rattle.gateway_core.specs.Losses.{LosesCalls}
+use Rattle.gateway_core.specs.Reservations.{IsReservedFor, calls_reserved}
 use Rattle.gateway_core.proofs.PaidAnswers.{paid}
+use Rattle.gateway_core.proofs.LostAccounts.{on_err, rose_since, lost_settling}
 use Rattle.gateway_core.proofs.beginning.pay.Goals as goal
 
-pub returns-in-Granted-clause-calls : goal.returns-in-Granted-clause-calls
-returns-in-Granted-clause-calls g c =
-    let ticket = c.in-Granted.ensures.ticket in
-    paid c.gains_then.ensures c.args.passes.now c.reserve.new.passes c.settle.new.passes c.args.client (c.args.moment / c.from.result) (window_of (rules_of c.args.gate.now) c.args.moment) c.args.answer.cost c.in-Granted.ticket
-    ticket.0 ticket.2 (ap (λ s. c.args.moment / s) c.from.ensures) c.in-Granted.ensures.call c.settle.ensures.call
+pub returns-in_ok-settle-in-Granted-clause-calls : goal.returns-in_ok-settle-in-Granted-clause-calls
+returns-in_ok-settle-in-Granted-clause-calls g c =
+    let book = c.args.ledger.now in
+    let middle = c.reserve.new.self in
+    let new = c.settle.new.self in
+    let cost = c.args.answer.cost in
+    let asked = c.args.moment / c.from.result in
+    let is = subst (IsReservedFor c.args.client (g.L.Ledger.made book) cost) c.in-Granted.is c.in_ok-reserved.ensures.reserved in
+    let one = subst (λ reserved. g.L.Ledger.gains book middle (calls_reserved c.args.client asked cost reserved)) c.in-Granted.is c.in_ok-reserved.ensures.call in
+    paid (g.L.Ledger.gains book middle) (g.L.Ledger.gains middle new) (g.L.Ledger.gains book new) (λ these those. g.met.L.Ledger.gains_then book middle new these those)
+    c.args.client asked (window_of (rules_of c.args.gate.now) c.args.moment) cost c.in-Granted.ticket is.0 is.2 (ap (λ s. c.args.moment / s) c.from.ensures) one c.in_ok-settle-in-Granted.ensures.call
 
-pub returns-in-Short-clause-within : goal.returns-in-Short-clause-within
-returns-in-Short-clause-within g c =
-    let gate = c.args.gate.now in (
-      left_within c.reserve.new.passes gate.accounts c.in-Short.ensures.belong (gate_fits gate) c.args.passes.now c.args.client (c.args.moment / c.from.result) c.args.answer.cost c.in-Short.left (known_to gate c.args.client c.requires.client) c.in-Short.ensures.call,
-      record { types = c.requires.capped.of_types; fields = c.requires.capped.of_fields },
-    )
+pub returns-in_err-reserved-clause-lost : goal.returns-in_err-reserved-clause-lost
+returns-in_err-reserved-clause-lost g c =
+    let book = c.args.ledger.now in
+    let new = c.reserve.new.self in
+    let cost = c.args.answer.cost in
+    let lost : LosesCalls c.args.client (window_of (rules_of c.args.gate.now) c.args.moment) cost (g.L.Ledger.made book) (g.L.Ledger.gains book) (λ before. g.L.Ledger.loses before new) =
+    record {
+      before = book;
+      lost = inl (g.met.L.Ledger.gains_none book, subst (λ w. g.L.Ledger.loses book new c.args.client (reservation w cost)) (ap (λ s. c.args.moment / s) c.from.ensures) c.in_err-reserved.ensures.lost);
+    } in
+    on_err c.from_residual.result _ lost
+
+pub returns-in_err-settle-in-Granted-clause-lost : goal.returns-in_err-settle-in-Granted-clause-lost
+returns-in_err-settle-in-Granted-clause-lost g c =
+    let book = c.args.ledger.now in
+    let middle = c.reserve.new.self in
+    let new = c.settle.new.self in
+    let cost = c.args.answer.cost in
+    let ticket = c.in-Granted.ticket in
+    let asked = c.args.moment / c.from.result in
+    let is = subst (IsReservedFor c.args.client (g.L.Ledger.made book) cost) c.in-Granted.is c.in_ok-reserved.ensures.reserved in
+    let one = subst (λ reserved. g.L.Ledger.gains book middle (calls_reserved c.args.client asked cost reserved)) c.in-Granted.is c.in_ok-reserved.ensures.call in
+    let lost : LosesCalls c.args.client (window_of (rules_of c.args.gate.now) c.args.moment) cost (g.L.Ledger.made book) (g.L.Ledger.gains book) (λ before. g.L.Ledger.loses before new) =
+    record {
+      before = middle;
+      lost = inr (
+        ticket.window,
+        subst (λ w. g.L.Ledger.gains book middle (client_call c.args.client (reservation w cost) (granted ticket.window) ∷ [])) (ap (λ s. c.args.moment / s) c.from.ensures) one,
+        lost_settling (g.L.Ledger.loses middle new) c.args.client (g.L.Ledger.made book) cost ticket is.0 is.1 is.2 c.in_err-settle-in-Granted.ensures.lost,
+      );
+    } in
+    on_err c.from_residual-in_err-settle-in-Granted.result _ lost
+
+pub returns-in_err-settle-in-Granted-clause-cause : goal.returns-in_err-settle-in-Granted-clause-cause
+returns-in_err-settle-in-Granted-clause-cause g c =
+    on_err c.from_residual-in_err-settle-in-Granted.result _
+    (rose_since (g.L.Ledger.faults c.args.ledger.now) (g.L.Ledger.faults c.reserve.new.self) (g.L.Ledger.faults c.settle.new.self) c.reserve.ensures.count c.in_err-settle-in-Granted.ensures.cause)

@@ -14,7 +14,7 @@ returns-in-Granted-clause-taken g c =
     let opened : Open = record { id = c.args.id; grant = c.in-Granted.grant } in
     record {
       how = begun_as begun.0 (Granted c.in-Granted.grant);
-      comes = subst (λ body. IsBegun (rules_of c.args.gate.now) c.args.key.now body begun.0 c.args.passes.now.made (Granted c.in-Granted.grant)) c.as_bytes.ensures.value begun.1;
+      comes = (subst (λ body. IsBegun (rules_of c.args.gate.now) c.args.key.now body begun.0 c.args.passes.now.made (Granted c.in-Granted.grant)) c.as_bytes.ensures.value begun.1, c.in-Granted.ensures.never_full);
       calls = begun.2;
       left_are = ap requests_of c.push_reserved.ensures.items
           ∙ (map_push request_of c.reserve.new.self.items opened ∙ ap (λ l. requests_of l ++ request_of opened ∷ []) c.reserve.ensures.items);
@@ -26,7 +26,7 @@ returns-in-Denied-clause-taken g c =
     let begun = c.in-Denied.ensures.begun in
     record {
       how = begun_as begun.0 (Denied c.in-Denied.denial);
-      comes = subst (λ body. IsBegun (rules_of c.args.gate.now) c.args.key.now body begun.0 c.args.passes.now.made (Denied c.in-Denied.denial)) c.as_bytes.ensures.value begun.1;
+      comes = (subst (λ body. IsBegun (rules_of c.args.gate.now) c.args.key.now body begun.0 c.args.passes.now.made (Denied c.in-Denied.denial)) c.as_bytes.ensures.value begun.1, c.in-Denied.ensures.never_full);
       calls = begun.2;
       left_are = ap requests_of c.reserve.ensures.items;
       told_is = refl;
@@ -37,7 +37,7 @@ returns-in-Answered-clause-taken g c =
     let begun = c.in-Answered.ensures.begun in
     record {
       how = begun_as begun.0 (Answered c.in-Answered.answer);
-      comes = subst (λ body. IsBegun (rules_of c.args.gate.now) c.args.key.now body begun.0 c.args.passes.now.made (Answered c.in-Answered.answer)) c.as_bytes.ensures.value begun.1;
+      comes = (subst (λ body. IsBegun (rules_of c.args.gate.now) c.args.key.now body begun.0 c.args.passes.now.made (Answered c.in-Answered.answer)) c.as_bytes.ensures.value begun.1, c.in-Answered.ensures.never_full);
       calls = begun.2;
       left_are = ap requests_of c.reserve.ensures.items;
       told_is = refl;
