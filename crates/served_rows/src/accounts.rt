@@ -5,6 +5,7 @@ ghost use Rattle.cost_num.specs.Within.{Within};
 ghost use Rattle.account_shared.specs.Views.{Belongs, IsIdle};
 ghost use Rattle.gateway_core.specs.Rules.{greatest};
 
+use crate::fault::RowFault;
 use account_core::Account;
 use account_shared::Passes;
 use client_files::CLIENT_LIMIT;
@@ -60,4 +61,9 @@ pub(crate) fn push_closed<R: Wait>(
 {
     let totals = close(gate, rt, passes);
     push_totals(alloc, into, &totals)
+}
+
+/// Lets go of a gate at which nothing was served.
+pub(crate) fn unserved(gate: Gate, passes: Passes, fault: RowFault) -> Result<String, RowFault> {
+    Err(fault)
 }

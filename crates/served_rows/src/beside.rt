@@ -3,13 +3,14 @@
 ghost use Rattle.std.specs.Prelude.{◌≡◌, ◌∷◌, [], All, false, IfOk};
 ghost use Rattle.served_rows.specs.Fresh.{fresh_untold};
 
-use crate::accounts::push_closed;
+use crate::accounts::{push_closed, unserved};
 use crate::case::Planned;
 use crate::fault::RowFault;
 use crate::gates::{Rules, gate_of};
 use crate::marked::push_marked;
 use crate::workers::{push_done, serve_doors};
 use doors::{Conn, Door, GateSink, GateWire, MemDoor, Tells, Twins};
+use gateway_workers::WorkDone;
 use outside::{Failures, ListClock, MemSource};
 use std::alloc::Global;
 use std::sync::atomic::AtomicU64;
@@ -88,6 +89,15 @@ fn push_door(into: &mut String, door: &GateDoor) -> Result<(), RowFault> {
     Ok(())
 }
 
+// Writes what workers did, and then the visits of each door.
+fn push_served(into: &mut String, done: WorkDone, doors: &[GateDoor]) -> Result<(), RowFault> {
+    push_done(into, done)?;
+    for door in doors {
+        push_door(into, door)?;
+    }
+    Ok(())
+}
+
 /// Serves a connection at each of two doors, the reply of which has so many bytes.
 pub(crate) fn run_beside<R: Threads + Wait + Sync>(
     alloc: Global,
@@ -96,7 +106,6 @@ pub(crate) fn run_beside<R: Threads + Wait + Sync>(
     plan: &Planned<'_>,
     bytes: usize,
 ) -> Result<String, RowFault> {
-    let (gate, mut passes) = gate_of(alloc, rules)?;
     let side = Side {
         sent: plan.sent,
         reply: plan.replies.first().copied().unwrap_or(""),
@@ -104,12 +113,15 @@ pub(crate) fn run_beside<R: Threads + Wait + Sync>(
         is_first: true,
     };
     let doors = doors_of(alloc, side)?;
-    let (done, doors) = serve_doors(&gate, alloc, rt, &mut passes, doors)?;
-    let mut text = String::new(alloc);
-    push_done(&mut text, done)?;
-    for door in &doors {
-        push_door(&mut text, door)?;
+    let (gate, mut passes) = gate_of(alloc, rules)?;
+    match serve_doors(&gate, alloc, rt, &mut passes, doors) {
+        Ok((done, doors)) => {
+            let mut text = String::new(alloc);
+            let told = push_served(&mut text, done, &doors);
+            push_closed(alloc, rt, &mut text, gate, passes)?;
+            told?;
+            Ok(text)
+        }
+        Err(fault) => unserved(gate, passes, fault),
     }
-    push_closed(alloc, rt, &mut text, gate, passes)?;
-    Ok(text)
 }

@@ -20,7 +20,7 @@ use plan_model::laws::built_schemas_can_be_filled;
 use schema_model::Schema;
 use schema_reader::read_schema_text;
 use std::alloc::Global;
-use trusted_documents::read_trusted;
+use trusted_documents::{Trusted, read_trusted};
 
 /// The texts of a schema file and of a client file, and of a list of trusted documents, if there is one; and what the settings say.
 #[derive(Clone, Copy)]
@@ -102,27 +102,70 @@ fn facts_in(alloc: Global, text: &str) -> Result<Facts, RowFault> {
     Ok(Facts::make(alloc, text)?)
 }
 
-// The gate with the list of the rules, if they have one.
-fn with_list(alloc: Global, gate: Gate, rules: Rules<'_>) -> Result<Gate, RowFault>
-    ensures { IfOk result (λ listed. listed.accounts ≡ gate.accounts) }
-{
+// What is known of the schema, where the rules say so.
+fn facts_of(alloc: Global, rules: Rules<'_>) -> Result<Option<Facts>, RowFault> {
+    if !rules.knows_schema {
+        return Ok(None);
+    }
+    Ok(Some(facts_in(alloc, rules.schema)?))
+}
+
+// The list of the rules, if they have one.
+fn list_of(alloc: Global, rules: Rules<'_>) -> Result<Option<Trusted>, RowFault> {
     let Some(text) = rules.trusted else {
-        return Ok(gate);
+        return Ok(None);
     };
     match read_trusted(alloc, text, rules.trusted_only) {
-        Ok(trusted) => Ok(gate.with_trusted(trusted)),
+        Ok(trusted) => Ok(Some(trusted)),
         Err(_) => Err(RowFault::Wrong("the list of trusted documents is refused")),
     }
 }
 
-// The gate with what is known of its schema, where the rules say so.
-fn with_schema(alloc: Global, gate: Gate, rules: Rules<'_>) -> Result<Gate, RowFault>
-    ensures { IfOk result (λ knowing. knowing.accounts ≡ gate.accounts) }
+// The gate with a list, if there is one.
+fn with_list(gate: Gate, trusted: Option<Trusted>) -> Gate
+    ensures { result.accounts ≡ gate.accounts }
 {
-    if !rules.knows_schema {
-        return Ok(gate);
+    match trusted {
+        Some(trusted) => gate.with_trusted(trusted),
+        None => gate,
     }
-    Ok(gate.with_facts(facts_in(alloc, rules.schema)?))
+}
+
+// The gate with what is known of its schema, if there is anything.
+fn with_schema(gate: Gate, facts: Option<Facts>) -> Gate
+    ensures { result.accounts ≡ gate.accounts }
+{
+    match facts {
+        Some(facts) => gate.with_facts(facts),
+        None => gate,
+    }
+}
+
+// The schema of the rules and its weights.
+fn weighed(alloc: Global, text: &str) -> Result<(Schema, Weights), RowFault>
+    ensures built { IfOk result (λ made. (text : List DefinitionTree) × SchemaBuilds text (Ok made.0)) }
+    ensures weights { IfOk result (λ made. weights_data made.1 ≡ weights_of (schema_data made.0) UNDECLARED) }
+{
+    let schema = schema_in(alloc, text)?;
+    let weights = weights_in(alloc, &schema)?;
+    Ok((schema, weights))
+}
+
+// A gate that has no list and knows nothing of its schema.
+fn bare_gate(alloc: Global, rules: Rules<'_>) -> Result<(Gate, Passes), RowFault>
+    ensures belong { IfOk result (λ made. Belongs made.1 made.0.accounts) }
+    ensures idle { IfOk result (λ made. IsIdle made.1) }
+    ensures first { IfOk result (λ made. made.1.label ≡ first_label) }
+{
+    built_schemas_can_be_filled();
+    let Clients {
+        window_seconds,
+        clients,
+    } = clients_in(alloc, rules.clients)?;
+    let settings = settings_of(alloc, window_seconds, rules)?;
+    let (schema, weights) = weighed(alloc, rules.schema)?;
+    let (gate, passes) = Gate::make(alloc, schema, weights, clients, settings)?;
+    Ok((gate, passes))
 }
 
 /// A gate by these rules, and the first passes to its fresh accounts.
@@ -131,15 +174,9 @@ pub(crate) fn gate_of(alloc: Global, rules: Rules<'_>) -> Result<(Gate, Passes),
     ensures idle { IfOk result (λ made. IsIdle made.1) }
     ensures first { IfOk result (λ made. made.1.label ≡ first_label) }
 {
-    built_schemas_can_be_filled();
-    let schema = schema_in(alloc, rules.schema)?;
-    let weights = weights_in(alloc, &schema)?;
-    let Clients {
-        window_seconds,
-        clients,
-    } = clients_in(alloc, rules.clients)?;
-    let settings = settings_of(alloc, window_seconds, rules)?;
-    let (gate, passes) = Gate::make(alloc, schema, weights, clients, settings)?;
-    let gate = with_list(alloc, gate, rules)?;
-    Ok((with_schema(alloc, gate, rules)?, passes))
+    let trusted = list_of(alloc, rules)?;
+    let facts = facts_of(alloc, rules)?;
+    let (gate, passes) = bare_gate(alloc, rules)?;
+    let gate = with_schema(with_list(gate, trusted), facts);
+    Ok((gate, passes))
 }

@@ -85,7 +85,8 @@ pub(crate) fn run_once<R: Wait>(
         text: String::new(alloc),
         has_failed: false,
     };
-    serve_each(&gate, alloc, rt, &mut passes, plans, each, &mut run)?;
+    let came = serve_each(&gate, alloc, rt, &mut passes, plans, each, &mut run);
     push_closed(alloc, rt, &mut run.text, gate, passes)?;
+    came?;
     Ok(run)
 }

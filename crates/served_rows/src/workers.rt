@@ -3,7 +3,7 @@
 ghost use Rattle.std.specs.Prelude.{◌≡◌, [], All, false, IfOk, OnOk};
 ghost use Rattle.account_shared.specs.Views.{Belongs, IsIdle, first_label};
 
-use crate::accounts::push_closed;
+use crate::accounts::{push_closed, unserved};
 use crate::case::{Planned, PlannedDoor};
 use crate::fault::RowFault;
 use crate::gates::{Rules, gate_of};
@@ -102,6 +102,15 @@ fn push_door(into: &mut String, door: &RowDoor) -> Result<(), RowFault> {
     Ok(())
 }
 
+// Writes what workers did, and then the visits of each door.
+fn push_served(into: &mut String, done: WorkDone, doors: &[RowDoor]) -> Result<(), RowFault> {
+    push_done(into, done)?;
+    for door in doors {
+        push_door(into, door)?;
+    }
+    Ok(())
+}
+
 /// Serves the doors of a row by workers.
 pub(crate) fn run_by_workers<R: Threads + Wait + Sync>(
     alloc: Global,
@@ -109,14 +118,16 @@ pub(crate) fn run_by_workers<R: Threads + Wait + Sync>(
     rules: Rules<'_>,
     plans: &[PlannedDoor<'_>],
 ) -> Result<String, RowFault> {
-    let (gate, mut passes) = gate_of(alloc, rules)?;
     let doors = doors_of(alloc, plans)?;
-    let (done, doors) = serve_doors(&gate, alloc, rt, &mut passes, doors)?;
-    let mut text = String::new(alloc);
-    push_done(&mut text, done)?;
-    for door in &doors {
-        push_door(&mut text, door)?;
+    let (gate, mut passes) = gate_of(alloc, rules)?;
+    match serve_doors(&gate, alloc, rt, &mut passes, doors) {
+        Ok((done, doors)) => {
+            let mut text = String::new(alloc);
+            let told = push_served(&mut text, done, &doors);
+            push_closed(alloc, rt, &mut text, gate, passes)?;
+            told?;
+            Ok(text)
+        }
+        Err(fault) => unserved(gate, passes, fault),
     }
-    push_closed(alloc, rt, &mut text, gate, passes)?;
-    Ok(text)
 }

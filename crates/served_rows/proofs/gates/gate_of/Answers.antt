@@ -1,7 +1,6 @@
-use Rattle.std.proofs.Common.{map}
-use Rattle.gateway_core.specs.Rules.{client_limit}
-use Rattle.served_rows.proofs.Idle.{fresh_idle}
+use Rattle.std.proofs.Common.{◌≡◌, sym, ◌∙◌, subst}
+use Rattle.account_shared.specs.Views.{Belongs}
 use Rattle.served_rows.proofs.gates.gate_of.Goals as goal
 
-pub returns-clause-idle : goal.returns-clause-idle
-returns-clause-idle c = fresh_idle (map client_limit c.in_ok-window_seconds.field-0.clients.items) c.in_ok-gate.passes c.in_ok-gate.ensures.fresh
+pub returns-clause-belong : goal.returns-clause-belong
+returns-clause-belong c = subst (Belongs c.in_ok-gate.passes) (sym (c.with_schema-gate.ensures ∙ c.with_list.ensures)) c.in_ok-gate.ensures.belong
