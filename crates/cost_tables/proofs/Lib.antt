@@ -1,0 +1,3 @@
+pub mod ColumnSums
+pub mod ShownColumns
+pub mod Written
