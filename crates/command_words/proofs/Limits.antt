@@ -2,7 +2,7 @@
 use Rattle.std.proofs.Common.{◌≤◌, ◌<◌, inl, inr, List, ℕ, [], ◌∷◌, Option, arith}
 use Rattle.std.specs.Prelude.{None, Some}
 use Rattle.command_words.specs.declared.command.Command.{Command}
-use Rattle.command_words.specs.declared.command.Command.TheVariants.{Help, Version, Check, Price, Introspect, Worst, Forward, Meter, Replay, Serve, Exercise, Migrate}
+use Rattle.command_words.specs.declared.command.Command.TheVariants.{Help, Version, Check, Price, Explain, Introspect, Worst, Forward, Meter, Replay, Serve, Exercise, Migrate}
 use Rattle.clap.specs.Simple.{matches_of}
 use Rattle.command_words.specs.Apps.{serve_app}
 use Rattle.command_words.specs.Defaults.{usual_workers, greatest_workers, greatest_connections, endless_connections}
@@ -24,6 +24,7 @@ serves_within (name ∷ words) Help asks = tt
 serves_within (name ∷ words) Version asks = tt
 serves_within (name ∷ words) (Check schema) asks = tt
 serves_within (name ∷ words) (Price asked) asks = tt
+serves_within (name ∷ words) (Explain asked) asks = tt
 serves_within (name ∷ words) (Introspect asked) asks = tt
 serves_within (name ∷ words) (Worst asked part) asks = tt
 serves_within (name ∷ words) (Forward asked) asks = tt

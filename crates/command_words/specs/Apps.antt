@@ -64,6 +64,10 @@ check_app = with_rule (top (codes "check")) (place (codes "schema"))
 abbrev pub price_app : App
 price_app = with_options (with_files (top (codes "price")))
 
+-- `explain SCHEMA DOCUMENT`
+abbrev pub explain_app : App
+explain_app = with_options (with_files (top (codes "explain")))
+
 -- `introspect SCHEMA DOCUMENT`
 abbrev pub introspect_app : App
 introspect_app = with_rule (with_rule (with_files (top (codes "introspect"))) (option (codes "variables"))) (option (codes "operation"))

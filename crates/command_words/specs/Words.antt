@@ -6,7 +6,7 @@ use Rattle.clap.specs.Walk.{Row, first_of, all_of}
 use Rattle.clap.specs.Simple.{App, matches_of}
 use Rattle.clap.specs.Faults.{fault_of}
 use Rattle.command_words.specs.declared.command.Command.{Command}
-use Rattle.command_words.specs.declared.command.Command.TheVariants.{Help, Version, Check, Price, Introspect, Worst, Forward, Meter, Replay, Serve, Exercise, Migrate}
+use Rattle.command_words.specs.declared.command.Command.TheVariants.{Help, Version, Check, Price, Explain, Introspect, Worst, Forward, Meter, Replay, Serve, Exercise, Migrate}
 use Rattle.command_words.specs.declared.command.Asked.{Asked}
 use Rattle.http_front.specs.Passed.{may_be_passed}
 use Rattle.command_words.specs.declared.command.AskedList.{AskedList}
@@ -15,7 +15,7 @@ use Rattle.command_words.specs.declared.command.AskedServe.{AskedServe}
 use Rattle.response_model.specs.declared.part.Part.{Part}
 use Rattle.response_model.specs.declared.part.Part.TheVariants.{Types, Fields}
 use Rattle.command_words.specs.Defaults.{usual_size, greatest_size, greatest_exercise, usual_target, usual_workers, greatest_workers, greatest_connections, endless_connections, greatest_waiting, greatest_passed}
-use Rattle.command_words.specs.Apps.{check_app, price_app, introspect_app, worst_app, forward_app, meter_app, replay_app, serve_app, exercise_app, migrate_app}
+use Rattle.command_words.specs.Apps.{check_app, price_app, explain_app, introspect_app, worst_app, forward_app, meter_app, replay_app, serve_app, exercise_app, migrate_app}
 
 -- The text is this number, in one decimal digit or more, and it is no greater than that.
 abbrev pub IsNumber : ℕ → List ℕ → ℕ → Type 0
@@ -141,6 +141,10 @@ abbrev pub GivesPrice : Rows → Command → Type 0
 GivesPrice rows (Price asked) = GivesAsked rows asked
 GivesPrice rows other = ⊥
 
+abbrev pub GivesExplain : Rows → Command → Type 0
+GivesExplain rows (Explain asked) = GivesAsked rows asked
+GivesExplain rows other = ⊥
+
 -- They give this operation, and no size of lists that declare none.
 abbrev pub GivesIntrospect : Rows → Command → Type 0
 GivesIntrospect rows (Introspect asked) = GivesOperation rows asked × (asked.undeclared ≡ usual_size)
@@ -180,6 +184,9 @@ AsksCheck words command = Reads check_app (λ rows. GivesCheck rows command) wor
 abbrev pub AsksPrice : List (List ℕ) → Command → Type 0
 AsksPrice words command = Reads price_app (λ rows. GivesPrice rows command) words
 
+abbrev pub AsksExplain : List (List ℕ) → Command → Type 0
+AsksExplain words command = Reads explain_app (λ rows. GivesExplain rows command) words
+
 abbrev pub AsksIntrospect : List (List ℕ) → Command → Type 0
 AsksIntrospect words command = Reads introspect_app (λ rows. GivesIntrospect rows command) words
 
@@ -210,6 +217,7 @@ AsksAfter name words Help = (name ≡ codes "--help") × (words ≡ [])
 AsksAfter name words Version = (name ≡ codes "--version") × (words ≡ [])
 AsksAfter name words (Check schema) = (name ≡ codes "check") × AsksCheck words (Check schema)
 AsksAfter name words (Price asked) = (name ≡ codes "price") × AsksPrice words (Price asked)
+AsksAfter name words (Explain asked) = (name ≡ codes "explain") × AsksExplain words (Explain asked)
 AsksAfter name words (Introspect asked) = (name ≡ codes "introspect") × AsksIntrospect words (Introspect asked)
 AsksAfter name words (Worst asked part) = (name ≡ codes "worst") × AsksWorst words (Worst asked part)
 AsksAfter name words (Forward asked) = (name ≡ codes "forward") × AsksForward words (Forward asked)

@@ -100,6 +100,8 @@ pub enum Command {
     Check { schema: Text },
     /// Says what an operation costs at most.
     Price { asked: Asked },
+    /// Says node by node why an operation costs what it costs at most, or why it is refused, and where.
+    Explain { asked: Asked },
     /// Answers an operation from the schema itself, and says what that costs.
     Introspect { asked: Asked },
     /// Writes a response that costs as much as any in this part of the cost.

@@ -6,7 +6,7 @@ use Rattle.command_outcomes.specs.declared.outcome.TheConstants.{FILE_FAILED}
 use Rattle.command_outcomes.specs.Outcomes.{FilesTold, NoFileFailed, IsStopped}
 use Rattle.command_outcomes.specs.Reading.{HasNoText}
 use Rattle.command_words.specs.declared.command.Command.{Command}
-use Rattle.command_words.specs.declared.command.Command.TheVariants.{Help, Version, Check, Price, Introspect, Worst, Forward, Meter, Replay, Serve, Exercise, Migrate}
+use Rattle.command_words.specs.declared.command.Command.TheVariants.{Help, Version, Check, Price, Explain, Introspect, Worst, Forward, Meter, Replay, Serve, Exercise, Migrate}
 use Rattle.command_words.specs.declared.command.Asked.{Asked}
 use Rattle.command_words.specs.declared.command.AskedList.{AskedList}
 use Rattle.command_words.specs.declared.command.AskedReplay.{AskedReplay}
@@ -99,6 +99,8 @@ module _ (files : FilesTold) where
   answer (Check schema) outcome (inr read) = none_failed outcome read.3
   answer (Price asked) outcome (inl none) = no_texts asked outcome none
   answer (Price asked) outcome (inr read) = none_failed outcome read.3
+  answer (Explain asked) outcome (inl none) = no_texts asked outcome none
+  answer (Explain asked) outcome (inr read) = none_failed outcome read.3
   answer (Introspect asked) outcome (inl none) = no_texts asked outcome none
   answer (Introspect asked) outcome (inr read) = none_failed outcome read.3
   answer (Worst asked part) outcome (inl none) = no_texts asked outcome none
@@ -119,6 +121,7 @@ module _ (files : FilesTold) where
   came Version doors outcome came_to = answer Version outcome came_to.0
   came (Check schema) doors outcome came_to = answer (Check schema) outcome came_to.0
   came (Price asked) doors outcome came_to = answer (Price asked) outcome came_to.0
+  came (Explain asked) doors outcome came_to = answer (Explain asked) outcome came_to.0
   came (Introspect asked) doors outcome came_to = answer (Introspect asked) outcome came_to.0
   came (Worst asked part) doors outcome came_to = answer (Worst asked part) outcome came_to.0
   came (Forward asked) doors outcome came_to = answer (Forward asked) outcome came_to.0

@@ -1,5 +1,5 @@
 -- By what a gateway is served that is made of what files hold.
-use Rattle.std.proofs.Common.{◌≡◌, ◌∙◌, ap, ap₂, ℕ, Bool, List}
+use Rattle.std.proofs.Common.{◌≡◌, ◌∙◌, ap, ap₂, ℕ, Bool, List, None}
 use Rattle.gateway_core.specs.declared.gate.Gate.{Gate}
 use Rattle.gateway_core.specs.declared.gate.Settings.{Settings}
 use Rattle.gateway_serving.specs.Decisions.{Rules, rules_of, Service, service_of}
@@ -9,7 +9,7 @@ use Rattle.gateway_run.specs.declared.serve_inputs.ServeInputs.{ServeInputs}
 use Rattle.gateway_run.specs.Serve.{service_by}
 
 with_parts : Rules → List ℕ → List ℕ → List (List ℕ) → Bool → Service
-with_parts rules host target passed hints = record { rules = rules; host = host; target = target; passed = passed; hints = hints }
+with_parts rules host target passed hints = record { rules = rules; host = host; target = target; passed = passed; hints = hints; slots = None }
 
 pub same_service : (gate : Gate) (asked : AskedServe) (inputs : ServeInputs) (settings : Settings) → rules_of gate ≡ rules_in inputs.rules inputs.list
     → gate.settings ≡ settings → settings.host ≡ asked.upstream → settings.target ≡ asked.target → settings.passed.items ≡ asked.passed.items → settings.hints ≡ asked.hints

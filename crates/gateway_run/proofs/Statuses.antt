@@ -5,7 +5,7 @@ use Rattle.std.specs.declared.alloc.Global.{Global}
 use Rattle.outside.specs.Faults.{Rose}
 use Rattle.command_outcomes.specs.Texts.{line}
 use Rattle.command_words.specs.declared.command.Command.{Command}
-use Rattle.command_words.specs.declared.command.Command.TheVariants.{Help, Version, Check, Price, Introspect, Worst, Forward, Meter, Replay, Serve, Exercise, Migrate}
+use Rattle.command_words.specs.declared.command.Command.TheVariants.{Help, Version, Check, Price, Explain, Introspect, Worst, Forward, Meter, Replay, Serve, Exercise, Migrate}
 use Rattle.command_words.specs.declared.command.Asked.{Asked}
 use Rattle.command_words.specs.declared.command.AskedList.{AskedList}
 use Rattle.command_words.specs.declared.command.AskedReplay.{AskedReplay}
@@ -25,6 +25,8 @@ use Rattle.operation_commands.specs.declared.asked.AskedTexts.{AskedTexts}
 use Rattle.command_outcomes.specs.Reading.{IsNoText, HasNoText}
 use Rattle.operation_commands.specs.Asked.{HasNoVariables, HaveNoOperation, HaveNoTexts, request_in}
 use Rattle.operation_commands.specs.Price.{PriceOf}
+use Rattle.told_refusals.specs.Told.{Spot}
+use Rattle.operation_commands.specs.Explain.{IsRefusedTelling, ExplainOf}
 use Rattle.operation_commands.specs.Introspect.{IntrospectOf}
 use Rattle.operation_commands.specs.Subjects.{MeterFault, NotResponse, SizeBroken, MeterMemory, Part, Plan, PlanTree, plan_tree}
 use Rattle.operation_commands.specs.Worst.{WorstOfTree, WorstOf}
@@ -80,6 +82,16 @@ module _ (IsName : List ℕ → Type 0) (files : FilesTold) where
   refused_answer text NotStarted refused = tt
   refused_answer text Usage refused = refused
   refused_answer text Memory refused = tt
+
+  telling_answer : (text : List ℕ) (spot : Option Spot) (outcome : Outcome) → IsRefusedTelling text spot outcome → IsAnswer IsName files outcome
+  telling_answer text spot (Done bytes) refused = absurd refused
+  telling_answer text spot (Refused told) refused = tt
+  telling_answer text spot (FileFailed name) refused = absurd refused
+  telling_answer text spot (Faulty status told) refused = absurd refused
+  telling_answer text spot (Served lines failed) refused = tt
+  telling_answer text spot NotStarted refused = tt
+  telling_answer text spot Usage refused = refused
+  telling_answer text spot Memory refused = tt
 
   stopped_answer : (name : List ℕ) (outcome : Outcome) → IsName name → IsStopped (λ other. other ≡ name) files outcome → IsAnswer IsName files outcome
   stopped_answer name (Done bytes) is stopped = absurd stopped
@@ -144,6 +156,11 @@ module _ (IsName : List ℕ → Type 0) (files : FilesTold) where
   price_answer asked texts outcome (inl memory) = memory_answer outcome memory
   price_answer asked texts outcome (inr (inl done)) = done_answer _ outcome done.2
   price_answer asked texts outcome (inr (inr refused)) = refused_answer _ outcome refused.2
+
+  explain_answer : (asked : Asked) (texts : AskedTexts) (outcome : Outcome) → ExplainOf asked texts outcome → IsAnswer IsName files outcome
+  explain_answer asked texts outcome (inl memory) = memory_answer outcome memory
+  explain_answer asked texts outcome (inr (inl done)) = done_answer _ outcome done.2
+  explain_answer asked texts outcome (inr (inr refused)) = telling_answer _ _ outcome refused.2
 
   introspect_answer : (asked : Asked) (texts : AskedTexts) (outcome : Outcome) → IntrospectOf asked texts outcome → IsAnswer IsName files outcome
   introspect_answer asked texts outcome (inl memory) = memory_answer outcome memory
@@ -223,6 +240,8 @@ answers (Check schema) files outcome (inl stopped) = stopped_answer (IsFileOf (C
 answers (Check schema) files outcome (inr read) = check_answer (IsFileOf (Check schema)) files schema read.0 outcome read.2
 answers (Price asked) files outcome (inl none) = asked_answer asked files outcome none
 answers (Price asked) files outcome (inr read) = price_answer (IsAskedFile asked) files asked read.0 outcome read.2
+answers (Explain asked) files outcome (inl none) = asked_answer asked files outcome none
+answers (Explain asked) files outcome (inr read) = explain_answer (IsAskedFile asked) files asked read.0 outcome read.2
 answers (Introspect asked) files outcome (inl none) = asked_answer asked files outcome none
 answers (Introspect asked) files outcome (inr read) = introspect_answer (IsAskedFile asked) files asked read.0 outcome read.2
 answers (Worst asked part) files outcome (inl none) = asked_answer asked files outcome none
@@ -284,6 +303,7 @@ came Help files doors outcome came_to = answers Help files outcome came_to.0
 came Version files doors outcome came_to = answers Version files outcome came_to.0
 came (Check schema) files doors outcome came_to = answers (Check schema) files outcome came_to.0
 came (Price asked) files doors outcome came_to = answers (Price asked) files outcome came_to.0
+came (Explain asked) files doors outcome came_to = answers (Explain asked) files outcome came_to.0
 came (Introspect asked) files doors outcome came_to = answers (Introspect asked) files outcome came_to.0
 came (Worst asked part) files doors outcome came_to = answers (Worst asked part) files outcome came_to.0
 came (Forward asked) files doors outcome came_to = answers (Forward asked) files outcome came_to.0

@@ -2,7 +2,7 @@
 use Rattle.std.specs.Prelude.{◌≡◌, ◌⊎◌, ℕ, List, Option, None, Some, Vec, true, false}
 use Rattle.std.specs.declared.alloc.Global.{Global}
 use Rattle.command_words.specs.declared.command.Command.{Command}
-use Rattle.command_words.specs.declared.command.Command.TheVariants.{Help, Version, Check, Price, Introspect, Worst, Forward, Meter, Replay, Serve, Exercise, Migrate}
+use Rattle.command_words.specs.declared.command.Command.TheVariants.{Help, Version, Check, Price, Explain, Introspect, Worst, Forward, Meter, Replay, Serve, Exercise, Migrate}
 use Rattle.command_words.specs.declared.command.Asked.{Asked}
 use Rattle.command_words.specs.declared.command.AskedList.{AskedList}
 use Rattle.command_words.specs.declared.command.AskedReplay.{AskedReplay}
@@ -19,6 +19,7 @@ use Rattle.command_outcomes.specs.Outcomes.{FilesTold, files_told, NoFileFailed,
 use Rattle.gateway_run.specs.Endings.{StreamTold, Gains, IsKept, HasFailed, FailsAmid, Ends}
 use Rattle.command_outcomes.specs.Check.{CheckCameTo}
 use Rattle.operation_commands.specs.Price.{PriceCameTo}
+use Rattle.operation_commands.specs.Explain.{ExplainCameTo}
 use Rattle.operation_commands.specs.Introspect.{IntrospectCameTo}
 use Rattle.operation_commands.specs.Worst.{WorstCameTo}
 use Rattle.operation_commands.specs.Forward.{ForwardCameTo}
@@ -34,6 +35,7 @@ AnswerCameTo Help files outcome = IsDone USAGE_TEXT.now outcome × NoFileFailed 
 AnswerCameTo Version files outcome = IsDone VERSION_TEXT.now outcome × NoFileFailed files
 AnswerCameTo (Check schema) files outcome = CheckCameTo schema files outcome
 AnswerCameTo (Price asked) files outcome = PriceCameTo asked files outcome
+AnswerCameTo (Explain asked) files outcome = ExplainCameTo asked files outcome
 AnswerCameTo (Introspect asked) files outcome = IntrospectCameTo asked files outcome
 AnswerCameTo (Worst asked part) files outcome = WorstCameTo asked part files outcome
 AnswerCameTo (Forward asked) files outcome = ForwardCameTo asked files outcome
@@ -98,6 +100,7 @@ IsFileOf Help name = ⊥
 IsFileOf Version name = ⊥
 IsFileOf (Check schema) name = name ≡ schema
 IsFileOf (Price asked) name = IsAskedFile asked name
+IsFileOf (Explain asked) name = IsAskedFile asked name
 IsFileOf (Introspect asked) name = IsAskedFile asked name
 IsFileOf (Worst asked part) name = IsAskedFile asked name
 IsFileOf (Forward asked) name = IsAskedFile asked name

@@ -1,5 +1,5 @@
 -- What a serve command comes to.
-use Rattle.std.specs.Prelude.{◌≡◌, ◌⊎◌, ◌++◌, ℕ, List, Option, Result, Ok, Err, codes, nat_lt}
+use Rattle.std.specs.Prelude.{◌≡◌, ◌⊎◌, ◌++◌, ℕ, List, Option, None, Result, Ok, Err, codes, nat_lt}
 use Rattle.std.specs.Fmt.{decimal}
 use Rattle.doors.specs.Starts.{Asked, Stopped}
 use Rattle.gateway_serving.specs.Decisions.{Service, WorkDone}
@@ -33,9 +33,9 @@ doors_call faults asked running stopped before now = record {
 abbrev pub AreUntouched : DoorsCall → Type 0
 AreUntouched doors = doors.now ≡ doors.before
 
--- by what requests are decided, where they are forwarded to and with which fields, and whether hints are told
+-- by what requests are decided, where they are forwarded to and with which fields, and whether hints are told: over shared cells
 abbrev pub service_by : AskedServe → ServeInputs → Service
-service_by asked inputs = record { rules = rules_in inputs.rules inputs.list; host = asked.upstream; target = asked.target; passed = asked.passed.items; hints = asked.hints }
+service_by asked inputs = record { rules = rules_in inputs.rules inputs.list; host = asked.upstream; target = asked.target; passed = asked.passed.items; hints = asked.hints; slots = None }
 
 -- what the doors are started with
 pub record IsServingOf (asked : AskedServe) (serving : Serving) : Type 0 where

@@ -18,6 +18,8 @@ pub const USAGE_TEXT: &[u8] = b"usage: tellcrock check SCHEMA
   prints how many types and fields a schema has, or which test it doesn't pass
 usage: tellcrock price SCHEMA DOCUMENT [--variables FILE] [--operation NAME] [--unsized N]
   prints the greatest type cost and the greatest field cost that a response can have
+usage: tellcrock explain SCHEMA DOCUMENT [--variables FILE] [--operation NAME] [--unsized N]
+  prints what each node of an operation adds to its price, or why it is refused, where, and what helps
 usage: tellcrock introspect SCHEMA DOCUMENT [--variables FILE] [--operation NAME]
   prints what the answer to an operation that asks for the schema costs, and the answer
 usage: tellcrock worst SCHEMA DOCUMENT types|fields [--variables FILE] [--operation NAME] [--unsized N]

@@ -14,7 +14,7 @@ use command_outcomes::{Outcome, check};
 use command_words::{Command, WordsFault, command_of};
 use doors::Doors;
 use gql_base::Text;
-use operation_commands::{forward, introspect, meter, price, worst};
+use operation_commands::{explain, forward, introspect, meter, price, worst};
 use outside::{Files, Sink};
 use std::alloc::Global;
 use std::sync::Wait;
@@ -48,6 +48,7 @@ fn outcome_of<Rt: Threads + Wait + Sync, F: Files, D: Doors>(
         Command::Version => done(alloc, VERSION_TEXT),
         Command::Check { schema } => check(alloc, schema, files),
         Command::Price { asked } => price(alloc, &asked, files),
+        Command::Explain { asked } => explain(alloc, &asked, files),
         Command::Introspect { asked } => introspect(alloc, &asked, files),
         Command::Worst { asked, part } => worst(alloc, &asked, part, files),
         Command::Forward { asked } => forward(alloc, &asked, files),

@@ -5,3 +5,4 @@ mod Measured
 mod OnePrice
 mod OneMeasure
 mod OperationLines
+mod TabledPlans

@@ -1,6 +1,8 @@
 pub mod Asked
 pub mod OwnAnswers
 pub mod Price
+pub mod Places
+pub mod Explain
 pub mod Introspect
 pub mod Worst
 pub mod Forward

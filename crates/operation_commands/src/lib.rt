@@ -4,16 +4,19 @@
 
 mod asked;
 mod asking;
+mod explaining;
 mod filling;
 mod forwarding;
 mod introspecting;
 mod meter_laws;
 mod metering;
 mod own_answers;
+mod places;
 mod price_laws;
 mod pricing;
 mod reply_texts;
 
+pub use explaining::explain;
 pub use filling::worst;
 pub use forwarding::forward;
 pub use introspecting::introspect;

@@ -47,8 +47,8 @@ fn priced(alloc: Global, cost: Cost) -> Outcome
     }
 }
 
-// What is asked, where it is accepted.
-fn accepted_request<'a>(
+/// What is asked, where it is accepted.
+pub(crate) fn accepted_request<'a>(
     alloc: Global,
     request: &Request<'a, 'a>,
 ) -> Result<Accepted<'a, 'a>, AskedFault>

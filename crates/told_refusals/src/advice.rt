@@ -40,7 +40,7 @@ pub const STAGES: &[(&str, &str)] = &[
 ];
 
 /// The sentences of a stage.
-pub fn advice_of(stage: &str) -> &'static [Advice] {
+pub(crate) fn advice_of(stage: &str) -> &'static [Advice] {
     match stage {
         "input" => INPUT,
         "body" => BODY,

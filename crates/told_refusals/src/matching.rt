@@ -46,7 +46,7 @@ fn fields_of<'a>(advice: &Advice, rest: &'a str) -> Option<Fields<'a>> {
 }
 
 /// What is said of a refusal, with what is put in.
-pub fn advice_on(refusal: &str) -> Option<(&'static Advice, Fields<'_>)> {
+pub(crate) fn advice_on(refusal: &str) -> Option<(&'static Advice, Fields<'_>)> {
     let (stage, rest) = stage_of(refusal)?;
     for advice in advice_of(stage) {
         if let Some(fields) = fields_of(advice, rest) {

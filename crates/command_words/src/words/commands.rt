@@ -5,11 +5,11 @@ ghost use Rattle.clap.specs.Walk.{rows_of, first_of};
 ghost use Rattle.clap.specs.Matches.{found_of};
 ghost use Rattle.response_model.specs.declared.part.Part.{Part as PartType};
 ghost use Rattle.command_words.specs.declared.command.Command.{Command as CommandType};
-ghost use Rattle.command_words.specs.Words.{GivesPart, GivesCheck, GivesPrice, GivesIntrospect, GivesWorst, GivesForward, GivesMeter, GivesReplay, GivesServe, IsRequests, GivesExercise, GivesMigrate, AsksCheck, AsksPrice, AsksIntrospect, AsksWorst, AsksForward, AsksMeter, AsksReplay, AsksServe, AsksExercise, AsksMigrate};
+ghost use Rattle.command_words.specs.Words.{GivesPart, GivesCheck, GivesPrice, GivesExplain, GivesIntrospect, GivesWorst, GivesForward, GivesMeter, GivesReplay, GivesServe, IsRequests, GivesExercise, GivesMigrate, AsksCheck, AsksPrice, AsksExplain, AsksIntrospect, AsksWorst, AsksForward, AsksMeter, AsksReplay, AsksServe, AsksExercise, AsksMigrate};
 
 use crate::builder::{
-    check_command, exercise_command, forward_command, introspect_command, meter_command,
-    migrate_command, price_command, replay_command, serve_command, worst_command,
+    check_command, exercise_command, explain_command, forward_command, introspect_command,
+    meter_command, migrate_command, price_command, replay_command, serve_command, worst_command,
 };
 use crate::command::{Command, GREATEST_EXERCISE, WordsFault};
 use crate::number::number_of;
@@ -66,6 +66,31 @@ pub fn price<'a>(alloc: Global, words: &'a [&'a str]) -> Result<Command, WordsFa
     };
     match matches_of(command, words) {
         Ok(matches) => price_of(alloc, &matches),
+        Err(fault) => Err(fault),
+    }
+}
+
+// The explanation that words ask for.
+fn explain_of(alloc: Global, matches: &ArgMatches) -> Result<Command, WordsFault>
+    ensures found { IfOk result (GivesExplain (rows_of (found_of matches.now))) }
+    ensures usage { result ≡ Err WordsFault.Usage → (command : CommandType) → GivesExplain (rows_of (found_of matches.now)) command → ⊥ }
+{
+    match asked_of(alloc, matches) {
+        Ok(asked) => Ok(Command::Explain { asked }),
+        Err(fault) => Err(fault),
+    }
+}
+
+/// `explain SCHEMA DOCUMENT`
+pub fn explain<'a>(alloc: Global, words: &'a [&'a str]) -> Result<Command, WordsFault>
+    ensures found { IfOk result (AsksExplain (map (λ s. s.now) words.entry.now)) }
+    ensures usage { result ≡ Err WordsFault.Usage → (command : CommandType) → AsksExplain (map (λ s. s.now) words.entry.now) command → ⊥ }
+{
+    let Ok(command) = explain_command(alloc) else {
+        return Err(WordsFault::Memory);
+    };
+    match matches_of(command, words) {
+        Ok(matches) => explain_of(alloc, &matches),
         Err(fault) => Err(fault),
     }
 }

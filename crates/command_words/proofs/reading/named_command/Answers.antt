@@ -1,5 +1,5 @@
 -- The first word names one command.
-use Rattle.command_words.proofs.Names.{only_check, only_price, only_introspect, only_worst, only_forward, only_meter, only_replay, only_serve, only_exercise, only_migrate}
+use Rattle.command_words.proofs.Names.{only_check, only_price, only_explain, only_introspect, only_worst, only_forward, only_meter, only_replay, only_serve, only_exercise, only_migrate}
 use Rattle.command_words.proofs.reading.named_command.Goals as goal
 
 pub returns-in-check-clause-usage : goal.returns-in-check-clause-usage
@@ -7,6 +7,9 @@ returns-in-check-clause-usage c = λ failed command. only_check c.args.name.now 
 
 pub returns-in-price-clause-usage : goal.returns-in-price-clause-usage
 returns-in-price-clause-usage c = λ failed command. only_price c.args.name.now _ command c.in-price.is (c.price.ensures.usage failed command)
+
+pub returns-in-explain-clause-usage : goal.returns-in-explain-clause-usage
+returns-in-explain-clause-usage c = λ failed command. only_explain c.args.name.now _ command c.in-explain.is (c.explain.ensures.usage failed command)
 
 pub returns-in-introspect-clause-usage : goal.returns-in-introspect-clause-usage
 returns-in-introspect-clause-usage c = λ failed command. only_introspect c.args.name.now _ command c.in-introspect.is (c.introspect.ensures.usage failed command)

@@ -17,6 +17,12 @@ returns-in-Price g c =
     (doors_call g.D.Doors.faults g.D.Doors.asked g.D.Doors.running g.D.Doors.stopped c.args.doors.now c.args.doors.now) c.price.result)
     (sym c.in-Price.is) (c.price.ensures, refl)
 
+pub returns-in-Explain : goal.returns-in-Explain
+returns-in-Explain g c =
+    subst (λ command. CommandCameTo command (files_told (g.F.Files.content c.args.files.now) (g.F.Files.faults c.args.files.now) (g.F.Files.faults c.explain.new.files))
+    (doors_call g.D.Doors.faults g.D.Doors.asked g.D.Doors.running g.D.Doors.stopped c.args.doors.now c.args.doors.now) c.explain.result)
+    (sym c.in-Explain.is) (c.explain.ensures, refl)
+
 pub returns-in-Introspect : goal.returns-in-Introspect
 returns-in-Introspect g c =
     subst (λ command. CommandCameTo command (files_told (g.F.Files.content c.args.files.now) (g.F.Files.faults c.args.files.now) (g.F.Files.faults c.introspect.new.files))

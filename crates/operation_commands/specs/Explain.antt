@@ -1,0 +1,63 @@
+-- What an explain command comes to.
+use Rattle.std.specs.Prelude.{◌≡◌, ◌⊎◌, ℕ, List, ◌++◌, codes, Option, None}
+use Rattle.cost_num.specs.declared.Cost.{Cost}
+use Rattle.cost_num.specs.CostText.{cost_text}
+use Rattle.plan_table.specs.declared.table.Plan.{Plan}
+use Rattle.cost_tables.specs.Tables.{IsPriceOf, IsTable}
+use Rattle.told_refusals.specs.Told.{Spot, Tells}
+use Rattle.command_words.specs.declared.command.Asked.{Asked}
+use Rattle.acceptance.specs.Requests.{RequestData}
+use Rattle.acceptance.specs.Bounds.{IsAccepted}
+use Rattle.operation_class.specs.Routes.{GoesUpstream}
+use Rattle.local_introspection.specs.declared.walk.Local.{Local}
+use Rattle.local_introspection.specs.AskedHere.{IsAnsweredHere}
+use Rattle.command_outcomes.specs.declared.outcome.Outcome.{Outcome}
+use Rattle.command_outcomes.specs.declared.outcome.Outcome.TheVariants.{Refused, Memory}
+use Rattle.command_outcomes.specs.Known.{AreKnownOf}
+use Rattle.command_outcomes.specs.Outcomes.{FilesTold, NoFileFailed, IsDone}
+use Rattle.operation_commands.specs.declared.asked.AskedTexts.{AskedTexts}
+use Rattle.operation_commands.specs.declared.asking.Inputs.{Inputs}
+use Rattle.operation_commands.specs.declared.own_answers.OwnRefusal.{OwnRefusal}
+use Rattle.operation_commands.specs.Asked.{HoldTexts, HaveNoTexts, HoldInputs, request_in}
+use Rattle.operation_commands.specs.OwnAnswers.{own_text}
+use Rattle.operation_commands.specs.Price.{IsPriceRefusal}
+use Rattle.operation_commands.specs.Places.{spot_in}
+
+-- what is said of an operation that asks for the schema
+abbrev pub own_price_text : Cost → List ℕ
+own_price_text cost = codes "answered from the schema: " ++ cost_text cost
+
+-- The request is accepted, and the text is the table of its plan, whose bound is the price.
+abbrev pub TablesPlan : RequestData → List ℕ → Type 0
+TablesPlan r text = (plan : Plan) × (price : Cost) × IsAccepted r plan price × IsPriceOf plan price × IsTable plan price text
+
+-- The operation goes to the upstream, and the text is the table of its plan; or it is answered from the schema, and the text tells at
+-- what cost.
+abbrev pub IsExplainedAs : AskedTexts → RequestData → List ℕ → Type 0
+IsExplainedAs texts r text = (GoesUpstream r.name r.document × TablesPlan r text)
+    ⊎ ((answer : Local) × IsAnsweredHere (AreKnownOf texts.schema) answer r × (text ≡ own_price_text answer.cost))
+
+-- The text explains the price of the operation of the texts.
+abbrev pub IsExplained : Asked → AskedTexts → List ℕ → Type 0
+IsExplained asked texts text = (inputs : Inputs) × HoldInputs asked texts inputs × IsExplainedAs texts (request_in asked inputs) text
+
+-- It was refused with this line, and where it is was told; or there was no memory.
+abbrev pub IsRefusedTelling : List ℕ → Option Spot → Outcome → Type 0
+IsRefusedTelling line spot (Refused told) = Tells line spot told
+IsRefusedTelling line spot Memory = Unit {0}
+IsRefusedTelling line spot other = ⊥
+
+-- It has no price, and the text tells why, and where.
+abbrev pub IsExplainRefused : Asked → AskedTexts → Outcome → Type 0
+IsExplainRefused asked texts outcome = (r : OwnRefusal) × IsPriceRefusal asked texts r × IsRefusedTelling (own_text asked r) (spot_in texts r) outcome
+
+-- By the texts: its price is explained, or it is told why it has none, or there was no memory.
+abbrev pub ExplainOf : Asked → AskedTexts → Outcome → Type 0
+ExplainOf asked texts outcome = (outcome ≡ Memory)
+    ⊎ ((text : List ℕ) × IsExplained asked texts text × IsDone text outcome)
+    ⊎ IsExplainRefused asked texts outcome
+
+-- The files hold no texts, as for a price; or they do, and came to that, and none failed.
+abbrev pub ExplainCameTo : Asked → FilesTold → Outcome → Type 0
+ExplainCameTo asked files outcome = HaveNoTexts asked files outcome
+    ⊎ ((texts : AskedTexts) × HoldTexts asked files.content texts × ExplainOf asked texts outcome × NoFileFailed files)

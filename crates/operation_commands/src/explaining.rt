@@ -1,0 +1,139 @@
+//! The command `explain SCHEMA DOCUMENT`.
+
+ghost use Rattle.std.specs.Prelude.{◌≡◌, ◌≤◌, IfOk, IfErr};
+ghost use Rattle.acceptance.specs.Requests.{request_data, IsOfSchema};
+ghost use Rattle.static_cost.specs.CostBound.{IsWithin};
+ghost use Rattle.told_refusals.specs.Told.{spot_seen};
+ghost use Rattle.command_outcomes.specs.Reading.{IsText};
+ghost use Rattle.command_outcomes.specs.Outcomes.{files_told};
+ghost use Rattle.operation_commands.specs.Asked.{request_in};
+ghost use Rattle.operation_commands.specs.OwnAnswers.{IfOwnRefused, own_text};
+ghost use Rattle.operation_commands.specs.Price.{IsNoPriceOf, IsUnpricedAs, IsPriceRefusal};
+ghost use Rattle.operation_commands.specs.Places.{spot_in};
+ghost use Rattle.operation_commands.specs.Explain.{own_price_text, TablesPlan, IsExplainedAs, IsExplained, IsRefusedTelling, ExplainOf, ExplainCameTo};
+
+use crate::asked::{AskedTexts, read_asked};
+use crate::asking::{inputs_in, request_of};
+use crate::own_answers::{OwnFault, OwnRefusal, asked_fault, own_answer, refused_own};
+use crate::places::place_of;
+use crate::pricing::{accepted_request, text_of_cost};
+use acceptance::Request;
+use command_outcomes::{Outcome, SCHEMA_LIMIT};
+use command_words::Asked;
+use cost_num::Cost;
+use cost_tables::price_table;
+use gql_base::Text;
+use outside::Files;
+use plan_model::laws::built_schemas_can_be_filled;
+use static_cost::laws::bounds_of_operations;
+use std::alloc::{AllocError, Global};
+use told_refusals::{Place, told_refusal};
+
+// What is said of an operation that asks for the schema.
+fn own_price(alloc: Global, cost: Cost) -> Result<Vec<u8>, AllocError>
+    requires { IsWithin cost }
+    ensures { IfOk result (λ text. text.items ≡ own_price_text cost) }
+{
+    let mut text = Vec::from_slice(alloc, b"answered from the schema: ")?;
+    text.extend_from_slice(&text_of_cost(alloc, cost)?)?;
+    Ok(text)
+}
+
+// The table of an operation that goes to the upstream.
+fn upstream_table(alloc: Global, request: &Request) -> Result<Vec<u8>, OwnFault>
+    requires of_schema { IsOfSchema (request_data request.now) }
+    ensures table { IfOk result (λ text. TablesPlan (request_data request.now) text.items) }
+    ensures refused { IfErr result (λ fault. IfOwnRefused fault (IsNoPriceOf (request_data request.now))) }
+{
+    bounds_of_operations();
+    match accepted_request(alloc, request) {
+        Ok(accepted) => match price_table(alloc, &accepted.plan, accepted.bound) {
+            Ok(text) => Ok(text),
+            Err(AllocError) => Err(OwnFault::Memory),
+        },
+        Err(fault) => Err(asked_fault(fault)),
+    }
+}
+
+// What explains the price of a request.
+fn explanation_of(alloc: Global, texts: &AskedTexts, request: &Request) -> Result<Vec<u8>, OwnFault>
+    requires text { IsText SCHEMA_LIMIT texts.now.schema }
+    requires of_schema { IsOfSchema (request_data request.now) }
+    ensures explained { IfOk result (λ text. IsExplainedAs texts.now (request_data request.now) text.items) }
+    ensures refused { IfErr result (λ fault. IfOwnRefused fault (IsUnpricedAs texts.now (request_data request.now))) }
+{
+    match own_answer(alloc, texts, request) {
+        Ok(Some(answer)) => match own_price(alloc, answer.cost) {
+            Ok(text) => Ok(text),
+            Err(AllocError) => Err(OwnFault::Memory),
+        },
+        Ok(None) => upstream_table(alloc, request),
+        Err(fault) => Err(fault),
+    }
+}
+
+// What explains the price of the operation of these texts.
+fn explanation_in(alloc: Global, asked: &Asked, texts: &AskedTexts) -> Result<Vec<u8>, OwnFault>
+    requires text { IsText SCHEMA_LIMIT texts.now.schema }
+    ensures explained { IfOk result (λ text. IsExplained asked.now texts.now text.items) }
+    ensures refused { IfErr result (λ fault. IfOwnRefused fault (IsPriceRefusal asked.now texts.now)) }
+{
+    built_schemas_can_be_filled();
+    let inputs = match inputs_in(alloc, asked, texts) {
+        Ok(inputs) => inputs,
+        Err(fault) => return Err(asked_fault(fault)),
+    };
+    let request = request_of(asked, &inputs);
+    match explanation_of(alloc, texts, &request) {
+        Ok(text) => Ok(text),
+        Err(fault) => Err(fault),
+    }
+}
+
+// The outcome of a refusal with this line, and what is told of it.
+fn refused_telling(alloc: Global, line: &Text, place: Option<Place<'_>>) -> Outcome
+    ensures { IsRefusedTelling line.now (spot_seen place.entry) result }
+{
+    match told_refusal(alloc, line.as_str(), place) {
+        Ok(told) => Outcome::Refused(Text::from(told)),
+        Err(AllocError) => Outcome::Memory,
+    }
+}
+
+// The outcome of an operation that has no price.
+fn refused_explaining(
+    alloc: Global,
+    asked: &Asked,
+    texts: &AskedTexts,
+    refusal: OwnRefusal,
+) -> Outcome
+    ensures { IsRefusedTelling (own_text asked.now refusal) (spot_in texts.now refusal) result }
+{
+    let place = place_of(texts, &refusal);
+    match refused_own(alloc, asked, refusal) {
+        Outcome::Refused(line) => refused_telling(alloc, &line, place),
+        _ => Outcome::Memory,
+    }
+}
+
+// What the texts of an operation's files come to.
+fn explain_texts(alloc: Global, asked: &Asked, texts: &AskedTexts) -> Outcome
+    requires text { IsText SCHEMA_LIMIT texts.now.schema }
+    ensures { ExplainOf asked.now texts.now result }
+{
+    match explanation_in(alloc, asked, texts) {
+        Ok(text) => Outcome::Done(text),
+        Err(OwnFault::Refused(refusal)) => refused_explaining(alloc, asked, texts, refusal),
+        Err(OwnFault::Memory) => Outcome::Memory,
+    }
+}
+
+/// Explains the price of the operation that files hold, node by node, or why it has none.
+pub fn explain<F: Files>(alloc: Global, asked: &Asked, files: &mut F) -> Outcome
+    ensures { ExplainCameTo asked.now (files_told (F.content files.old) (F.faults files.old) (F.faults files.new)) result }
+{
+    match read_asked(alloc, asked, files) {
+        Ok(texts) => explain_texts(alloc, asked, &texts),
+        Err(outcome) => outcome,
+    }
+}
