@@ -3,8 +3,8 @@
 
     checks/introspection.py [PROGRAM]
 
-PROGRAM is the built program of crates/introspection_load (its out/introspection_load unless named). graphql-js has to stand where Debian's
-package node-graphql puts it, or where GRAPHQL_JS says. The usual introspection query of graphql-js is answered over each schema of
+PROGRAM is the built program (release/tellcrock unless named). graphql-js has to stand where Debian's package node-graphql puts it, or where
+GRAPHQL_JS says. The usual introspection query of graphql-js is answered over each schema of
 checks/introspection/. The client builds its schema from the answer, and prints the types of the text. Then rows: operations over one schema, each
 with its cost and its answer, or why it is refused. Last, what many types and many aliases cost. Ends with status 1 where something differs.
 """
@@ -30,21 +30,23 @@ ROWS = [
     ("query($n: String!) { t: __type(name: $n) { ...F } __typename } fragment F on __Type { kind @skip(if: true) name }", '{"n":"ID"}', "2.000 1.000",
      '{"data":{"t":{"name":"ID"},"__typename":"Query"}}'),
     ("{ user { id } __schema { types { name } } }", "{}", "local 1 Mixed 2", None),
+    ("{ user { id } }", "{}", "local 7 NotLocal", None),
     ("{ __schema { __foo } }", "{}", "local 2 Rule 12 UnknownField 13", None),
     ("query($n: String!) { __type(name: $n) { name } }", "{}", "local 3 Variable 1 Missing n", None),
     ("{ __type { name } }", "{}", "local 4 Plan 1 Argument data.__type 1 Missing name", None),
 ]
 
 
-def run(program, schema, document, variables="{}", makes=1, times=1):
+def run(program, schema, document, variables="{}"):
+    """What `introspect` writes, in lines, and the seconds of a processor that it takes."""
     with tempfile.TemporaryDirectory() as folder:
         names = []
-        for name, text in (("schema", schema), ("variables", variables), ("document", document)):
+        for name, text in (("schema", schema), ("document", document), ("variables", variables)):
             names.append(os.path.join(folder, name))
             with open(names[-1], "w") as file:
                 file.write(text)
         before = resource.getrusage(resource.RUSAGE_CHILDREN).ru_utime
-        ran = subprocess.run([program, *names[:2], str(makes), str(times), names[2]], capture_output=True, text=True)
+        ran = subprocess.run([program, "introspect", *names[:2], "--variables", names[2]], capture_output=True, text=True)
         seconds = resource.getrusage(resource.RUSAGE_CHILDREN).ru_utime - before
         return (ran.stdout.splitlines() or [ran.stderr.strip()]), seconds
 
@@ -88,20 +90,18 @@ def sized(types, fields):
 
 
 def costs(program, query):
-    schema = sized(5000, 50000)
-    one, two = run(program, schema, "{ __type(name: \"X\") { name } }"), run(program, schema, "{ __type(name: \"X\") { name } }", makes=3)
-    made = (two[1] - one[1]) / 2
-    yield made < SECONDS, "what is known of 5,000 types and 50,000 fields, with reading them: %.2f s" % made
-    answered = run(program, schema, query, times=3)
-    seconds = (answered[1] - one[1]) / 3
-    yield seconds < SECONDS, "the usual query over them: %.2f s, %s" % (seconds, answered[0][0])
+    schema = sized(4950, 49500)
+    _, small = run(program, schema, "{ __type(name: \"X\") { name } }")
+    yield small < SECONDS, "reading 4,950 types and 49,500 fields, what is known of them, and a small question: %.2f s" % small
+    lines, seconds = run(program, schema, query)
+    yield seconds - small < SECONDS and lines[0].endswith("000"), "the usual query over them: %.2f s more, %s" % (seconds - small, lines[0])
     aliases = "query($v: String!) { %s }" % " ".join("a%d: __type(name: $v) { name }" % i for i in range(4000))
     lines, seconds = run(program, USER, aliases, '{"v":"%s"}' % ("x" * 130_000))
     yield seconds < 2 * SECONDS, "4,000 aliases with a name of 130,000 letters: %.2f s, %s" % (seconds, lines[0])
 
 
 def main():
-    program = os.path.abspath(sys.argv[1] if len(sys.argv) > 1 else HERE + "/../crates/introspection_load/out/introspection_load")
+    program = os.path.abspath(sys.argv[1] if len(sys.argv) > 1 else HERE + "/../release/tellcrock")
     asked = subprocess.run(["node", CLIENT, "query"], capture_output=True, text=True)
     if asked.returncode:
         sys.exit("graphql-js isn't there: " + asked.stderr.strip())
