@@ -1,25 +1,26 @@
 """Measures Tellcrock beside others on this machine, and draws the figures of docs/performance.md.
 
-    python3 checks/figures.py [--program PROGRAM] [--quick] [pricing] [serving] [hostile] [memory]
+    python3 checks/figures.py [--program FILE] [--quick] [--parts pricing,serving,hostile,memory]
+    python3 checks/figures.py --plot-only FILE.json
 
-- pricing: five operations of growing length over a schema of 500 types, from the bytes of the body to the reservation, beside graphql-js and
+- pricing: five operations of growing size over a schema of 500 types, from the bytes of the body to the reservation, beside graphql-js and
   gqlparser, which parse and validate the same (Debian's node-graphql, golang-go and golang-github-vektah-gqlparser-dev);
 - serving: requests a second and how long they wait, by `wrk` on 1, 16 and 256 connections with 1, 4 and 16 workers, beside nginx as a proxy
   before the same upstream (Debian's wrk and nginx-light);
 - hostile: processor seconds for documents that are made to be slow, by their length;
 - memory: what the gateway holds while 1,000,000 requests are served.
 
-Without names all are measured. What was measured goes into docs/figures/measured.json, the four plots beside it, and the page is written from that file.
-With --quick each measure is short, to try the script: its figures say little. Only processes that were started here are ended."""
+What was measured goes into docs/figures/measures.json, every run of it; the page and the four plots are written from that file, and with --plot-only
+from another such file. With --quick each measure is short, to try the script, and goes to a folder `figures` of the system's temporary files: its
+figures say little. Only processes that were started here are ended. On a machine that does nothing else it takes a quarter of an hour."""
 
 import argparse
 import json
 import os
-import platform
 import re
 import resource
 import shutil
-import statistics
+import socket
 import subprocess
 import sys
 import tempfile
@@ -27,15 +28,29 @@ import time
 
 sys.dont_write_bytecode = True
 import hostile_documents
-from plots import plot
+import performance_page
 
 HERE = os.path.dirname(os.path.abspath(__file__))
 ROOT = os.path.dirname(HERE)
-FIGURES = os.path.join(ROOT, "docs", "figures")
 SCHEMA = os.path.join(ROOT, "crates", "price_bench", "data", "five_hundred_types.graphql")
-GO_PATH = "/usr/share/gocode"
-CLIENTS = "clients 2\nwindow 86400\nalpha 100000000 100000000\n"
-HOSTILE = ["conditions", "sets in orders", "chain of two ways", "calls with defaults", "variables by turns", "possible types"]
+NODE_PATH, GO_PATH = "/usr/share/nodejs", "/usr/share/gocode"
+CLIENTS = "clients 2\nwindow 86400\nalpha 1000000000 1000000000\n"
+STARTED = []
+
+
+def say(line):
+    print(line, flush=True)
+
+
+def processor(words, **more):
+    """The processor seconds of a run that ends well, and the seconds that it took."""
+    begun = time.monotonic()
+    ran = subprocess.Popen(words, **more)
+    _, status, used = os.wait4(ran.pid, 0)
+    ran.returncode = status
+    if status:
+        sys.exit(f"{words[0]} ended with status {status}")
+    return used.ru_utime + used.ru_stime, time.monotonic() - begun
 
 
 # ---- pricing
@@ -48,101 +63,121 @@ def operation(parts):
 
 
 OPERATIONS = ["{ user { friends { id friends { name } } } }"] + [operation(parts) for parts in (1, 8, 80, 600)]
+DIRECTIVES = ("directive @cost(weight: String!) on ARGUMENT_DEFINITION | ENUM | FIELD_DEFINITION | INPUT_FIELD_DEFINITION | OBJECT | SCALAR directive @listSize(assumedSize: Int, "
+              "slicingArguments: [String!], sizedFields: [String!], requireOneSlicingArgument: Boolean = true) on FIELD_DEFINITION ")
 
+# Both print the microseconds of an operation, by the processor's clock and by the wall's: over so many seconds, after as many that aren't counted. With 0 seconds
+# the operation is done once.
 IN_NODE = r"""
 const { buildSchema, parse, validate } = require("graphql"); const fs = require("fs");
-const schema = buildSchema("directive @cost(weight: String!) on ARGUMENT_DEFINITION | ENUM | FIELD_DEFINITION | INPUT_FIELD_DEFINITION | OBJECT | SCALAR directive @listSize(assumedSize: Int, slicingArguments: [String!], sizedFields: [String!], requireOneSlicingArgument: Boolean = true) on FIELD_DEFINITION " + fs.readFileSync(process.argv[2], "utf8"));
-const text = fs.readFileSync(process.argv[3], "utf8"); const times = +process.argv[4];
-for (let i = 0; i < times; i++) { const faults = validate(schema, parse(text)); if (faults.length) { console.error(faults[0].message); process.exit(1); } }
-const begun = process.hrtime.bigint(); for (let i = 0; i < times; i++) validate(schema, parse(text));
-console.log(Number(process.hrtime.bigint() - begun) / 1000 / times);
+const schema = buildSchema(fs.readFileSync("own", "utf8") + fs.readFileSync(process.argv[2], "utf8"));
+const text = fs.readFileSync("query", "utf8"), seconds = +process.argv[3], now = () => Number(process.hrtime.bigint()) / 1e9;
+function run() {
+  let count = 0; const begun = now();
+  do { const faults = validate(schema, parse(text)); if (faults.length) throw faults[0]; count++; } while (now() - begun < seconds);
+  return count;
+}
+run();
+if (seconds > 0) {
+  const begun = now(), before = process.cpuUsage(), count = run(), used = process.cpuUsage(before);
+  console.log((used.user + used.system) / count, (now() - begun) * 1e6 / count);
+}
 """
 
 IN_GO = r"""
 package main
-import ("fmt"; "os"; "strconv"; "time"; "github.com/vektah/gqlparser/v2"; "github.com/vektah/gqlparser/v2/ast")
+import ("fmt"; "os"; "strconv"; "syscall"; "time"; "github.com/vektah/gqlparser/v2"; "github.com/vektah/gqlparser/v2/ast")
+func used() float64 { var it syscall.Rusage; syscall.Getrusage(0, &it); return float64(it.Utime.Nano() + it.Stime.Nano()) / 1000 }
 func main() {
-	text, _ := os.ReadFile(os.Args[1]); query, _ := os.ReadFile(os.Args[2]); times, _ := strconv.Atoi(os.Args[3])
-	own := "directive @cost(weight: String!) on ARGUMENT_DEFINITION | ENUM | FIELD_DEFINITION | INPUT_FIELD_DEFINITION | OBJECT | SCALAR directive @listSize(assumedSize: Int, slicingArguments: [String!], sizedFields: [String!], requireOneSlicingArgument: Boolean = true) on FIELD_DEFINITION "
-	schema := gqlparser.MustLoadSchema(&ast.Source{Input: own + string(text)})
-	for i := 0; i < times; i++ { gqlparser.MustLoadQuery(schema, string(query)) }
-	begun := time.Now(); for i := 0; i < times; i++ { gqlparser.MustLoadQuery(schema, string(query)) }
-	fmt.Println(float64(time.Since(begun).Nanoseconds()) / 1000 / float64(times))
+	own, _ := os.ReadFile("own"); text, _ := os.ReadFile(os.Args[1]); query, _ := os.ReadFile("query"); seconds, _ := strconv.ParseFloat(os.Args[2], 64)
+	schema := gqlparser.MustLoadSchema(&ast.Source{Input: string(own) + string(text)})
+	run := func() (count float64) {
+		for begun := time.Now(); count == 0 || time.Since(begun).Seconds() < seconds; count++ { gqlparser.MustLoadQuery(schema, string(query)) }
+		return
+	}
+	run()
+	if seconds > 0 {
+		begun, before := time.Now(), used()
+		count := run()
+		fmt.Println((used()-before)/count, float64(time.Since(begun).Microseconds())/count)
+	}
 }
 """
 
 
-def processor_seconds(words, **more):
-    """The processor seconds of a run that ends well."""
-    ran = subprocess.Popen(words, stdout=subprocess.DEVNULL, **more)
-    _, status, used = os.wait4(ran.pid, 0)
-    ran.returncode = status
-    if status:
-        sys.exit(f"{words[0]} ended with status {status}")
-    return used.ru_utime + used.ru_stime
-
-
 def replayed(program, folder, text, times):
-    """The processor seconds of a replay in which the operation is begun so many times."""
+    """A replay in which the operation is begun so many times, each of which has to be granted."""
     body = json.dumps({"query": text})
-    with open(os.path.join(folder, "script"), "w") as file:
+    with open(f"{folder}/script", "w") as file:
         file.writelines(f"begin r{n} alpha 0 {body}\n" for n in range(times))
-    return processor_seconds([program, "replay", SCHEMA, "clients", "script"], cwd=folder)
+    with open(f"{folder}/lines", "w") as out:
+        used = processor([program, "replay", SCHEMA, "clients", "script"], cwd=folder, stdout=out)
+    with open(f"{folder}/lines") as file:
+        granted = sum(" granted " in line for line in file)
+    return used if granted == times else sys.exit(f"{granted} of {times} were granted")
 
 
 def in_tellcrock(program, folder, text, times):
-    few = replayed(program, folder, text, 1)
-    return (replayed(program, folder, text, times + 1) - few) / times * 1e6
+    """Microseconds of an operation: what a replay of many takes less what one of one takes. A script holds at most 4 MB and 5,000 requests, so some are replayed one after the other."""
+    one, found = replayed(program, folder, text, 1), (0.0, 0.0)
+    each = max(2, min(times, 4900, 3_900_000 // (len(json.dumps(text)) + 50)))
+    rounds = max(1, round(times / each))
+    for _ in range(rounds):
+        many = replayed(program, folder, text, each)
+        found = tuple(a + b - c for a, b, c in zip(found, many, one))
+    return tuple(it / rounds / (each - 1) * 1e6 for it in found)
 
 
-def in_node(folder, times):
-    with open(os.path.join(folder, "run.js"), "w") as file:
-        file.write(IN_NODE)
-    found = subprocess.run(["node", "run.js", SCHEMA, "query", str(times)], cwd=folder, capture_output=True, text=True, env={**os.environ, "NODE_PATH": "/usr/share/nodejs"})
-    return float(found.stdout) if found.returncode == 0 else sys.exit(found.stderr)
+def printed(words, folder):
+    ran = subprocess.run(words, cwd=folder, capture_output=True, text=True, env={**os.environ, "NODE_PATH": NODE_PATH})
+    return tuple(float(it) for it in ran.stdout.split()) if ran.returncode == 0 else sys.exit(ran.stderr)
 
 
 def go_program(folder):
-    with open(os.path.join(folder, "run.go"), "w") as file:
-        file.write(IN_GO)
-    made = os.path.join(folder, "go", "src", "github.com", "vektah", "gqlparser")
+    """Builds the program in Go: the package has no module file, so it is put where its import path is looked up."""
+    made = f"{folder}/go/src/github.com/vektah/gqlparser"
     os.makedirs(made)
-    os.symlink(os.path.join(GO_PATH, "src", "github.com", "vektah", "gqlparser"), os.path.join(made, "v2"))
+    os.symlink(f"{GO_PATH}/src/github.com/vektah/gqlparser", f"{made}/v2")
+    with open(f"{folder}/run.go", "w") as file:
+        file.write(IN_GO)
     env = {**os.environ, "GO111MODULE": "off", "GOFLAGS": "", "GOPATH": f"{folder}/go:{GO_PATH}", "GOCACHE": f"{folder}/cache"}
     subprocess.run(["go", "build", "-o", "in_go", "run.go"], cwd=folder, env=env, check=True)
 
 
-def in_go(folder, times):
-    return float(subprocess.run(["./in_go", SCHEMA, "query", str(times)], cwd=folder, capture_output=True, text=True, check=True).stdout)
+def rivals(folder):
+    """Those of the others that are installed: by their name how they are started."""
+    found = {}
+    if shutil.which("go") and os.path.isdir(f"{GO_PATH}/src/github.com/vektah/gqlparser"):
+        go_program(folder)
+        found["gqlparser"] = ["./in_go", SCHEMA]
+    if shutil.which("node") and os.path.isdir(f"{NODE_PATH}/graphql"):
+        with open(f"{folder}/run.js", "w") as file:
+            file.write(IN_NODE)
+        found["graphql-js"] = ["node", "run.js", SCHEMA]
+    return found
 
 
 def pricing(program, folder, quick):
-    """Microseconds an operation, by its length: in a few rounds, so that whatever else the machine does falls on all; the least counts."""
-    has_node, has_go = (shutil.which("node") and os.path.isdir("/usr/share/nodejs/graphql")), (shutil.which("go") and os.path.isdir(GO_PATH + "/src/github.com/vektah"))
-    if has_go:
-        go_program(folder)
-    found = {"Tellcrock": [], "gqlparser": [], "graphql-js": []}
+    """By program and size: microseconds of an operation, warm, and seconds of a process that does one alone, both by processor and by clock, in rounds of all programs by turns."""
+    others, found = rivals(folder), {"warm": {}, "cold": {}}
     for text in OPERATIONS:
-        with open(os.path.join(folder, "query"), "w") as file:
+        with open(f"{folder}/query", "w") as file:
             file.write(text)
-        times = max(20, min(10_000, (2_000_000 if not quick else 50_000) // len(text)))
-        runs = {"Tellcrock": lambda: in_tellcrock(program, folder, text, times)}
-        if has_go:
-            runs["gqlparser"] = lambda: in_go(folder, max(5, times // 10))
-        if has_node:
-            runs["graphql-js"] = lambda: in_node(folder, max(5, times // 10))
-        rounds = [{name: run() for name, run in runs.items()} for _ in range(1 if quick else 5)]
-        for name in runs:
-            found[name].append((len(text), min(it[name] for it in rounds)))
-        print(f"pricing {len(text)} bytes: " + ", ".join(f"{name} {line[-1][1]:.1f} us" for name, line in found.items() if line), flush=True)
-    return {name: line for name, line in found.items() if line}
+        times = max(30, (100_000 if quick else 3_000_000) // len(text))
+        warm = {"Tellcrock": lambda: in_tellcrock(program, folder, text, times), **{name: lambda it=it: printed([*it, "0.1" if quick else "1"], folder) for name, it in others.items()}}
+        cold = {"Tellcrock": lambda: replayed(program, folder, text, 1), **{name: lambda it=it: processor([*it, "0"], cwd=folder, env={**os.environ, "NODE_PATH": NODE_PATH}) for name, it in others.items()}}
+        for kind, runs in (("warm", warm), ("cold", cold)):
+            for _ in range(1 if quick else 5):
+                for name, run in runs.items():
+                    found[kind].setdefault(name, {}).setdefault(str(len(text)), []).append(run())
+        say(f"pricing {len(text)} bytes: " + ", ".join(f"{name} {min(it[str(len(text))])[0]:.1f} us" for name, it in found["warm"].items()))
+    return found
 
 
 # ---- serving
 
 def wait_for(port):
-    import socket
-    for _ in range(100):
+    for _ in range(200):
         try:
             socket.create_connection(("127.0.0.1", port)).close()
             return
@@ -152,31 +187,47 @@ def wait_for(port):
 
 
 def free_port():
-    import socket
     with socket.create_server(("127.0.0.1", 0)) as server:
         return server.getsockname()[1]
 
 
-def nginx(folder, processes, data=None):
-    """An nginx that answers each request with the same data, or one that is a proxy before the one at `data`; and where it listens."""
-    port, own = free_port(), tempfile.mkdtemp(dir=folder)
-    paths = " ".join(f"{name}_temp_path {own}/{name};" for name in ("client_body", "proxy", "fastcgi", "uwsgi", "scgi"))
-    does = f"proxy_pass http://127.0.0.1:{data}; proxy_set_header connection close;" if data else "default_type application/json; return 200 '{\"data\":{\"user\":{\"id\":\"1\"}}}';"
-    with open(f"{own}/conf", "w") as file:
-        file.write(f"worker_processes {processes}; daemon off; pid {own}/pid; error_log /dev/null; worker_rlimit_nofile 20000; events {{ worker_connections 4096; }}\n"
-                   f"http {{ access_log off; {paths} keepalive_requests 1000000; server {{ listen 127.0.0.1:{port} backlog=1024; location / {{ {does} }} }} }}\n")
-    run = subprocess.Popen(["nginx", "-c", f"{own}/conf", "-p", own], stderr=subprocess.DEVNULL)
+def started(words, port, **more):
+    run = subprocess.Popen(words, stderr=subprocess.DEVNULL, stdout=subprocess.DEVNULL, **more)
+    STARTED.append(run)
     wait_for(port)
     return run, port
 
 
+def ended(run):
+    run.terminate()
+    run.wait(timeout=20)
+
+
+def nginx(folder, processes, does, more=""):
+    """An nginx of so many processes that does one thing at each path; and where it listens."""
+    port, own = free_port(), tempfile.mkdtemp(dir=folder)
+    paths = " ".join(f"{name}_temp_path {own}/{name};" for name in ("client_body", "proxy", "fastcgi", "uwsgi", "scgi"))
+    with open(f"{own}/conf", "w") as file:
+        file.write(f"worker_processes {processes}; daemon off; pid {own}/pid; error_log /dev/null; worker_rlimit_nofile 20000; events {{ worker_connections 4096; }}\n"
+                   f"http {{ access_log off; {paths} keepalive_requests 100000000; {more} server {{ listen 127.0.0.1:{port} backlog=1024; location / {{ {does} }} }} }}\n")
+    return started(["nginx", "-c", f"{own}/conf", "-p", own], port)
+
+
+def upstream(folder):
+    """The upstream of all: an nginx that answers each request with the same data."""
+    return nginx(folder, 4, "default_type application/json; return 200 '{\"data\":{\"user\":{\"id\":\"1\"}}}';")
+
+
+def proxy(folder, processes, up, keeps=False):
+    """An nginx as a proxy: it opens a connection for each request, as the gateway does, or keeps its connections to the upstream."""
+    if keeps:
+        return nginx(folder, processes, "proxy_pass http://up; proxy_http_version 1.1; proxy_set_header connection '';", f"upstream up {{ server 127.0.0.1:{up}; keepalive 256; keepalive_requests 100000000; }}")
+    return nginx(folder, processes, f"proxy_pass http://127.0.0.1:{up}; proxy_set_header connection close;")
+
+
 def gateway(program, folder, workers, up):
-    """A gateway that serves until the file of its name is there; and where it listens."""
-    port, stop = free_port(), os.path.join(tempfile.mkdtemp(dir=folder), "stop")
-    words = [program, "serve", "schema", "clients", "--listen", f"127.0.0.1:{port}", "--upstream", f"127.0.0.1:{up}", "--workers", str(workers), "--endless", "--idle", "1000", "--stop", stop]
-    run = subprocess.Popen(words, cwd=folder, stdout=subprocess.DEVNULL)
-    wait_for(port)
-    return run, port, stop
+    port = free_port()
+    return started([program, "serve", "schema", "clients", "--listen", f"127.0.0.1:{port}", "--upstream", f"127.0.0.1:{up}", "--workers", str(workers), "--endless", "--idle", "1000"], port, cwd=folder)
 
 
 def milliseconds(text):
@@ -185,185 +236,163 @@ def milliseconds(text):
 
 
 def by_wrk(folder, port, connections, seconds):
-    run = subprocess.run(["wrk", f"-t{min(2, connections)}", f"-c{connections}", f"-d{seconds}s", "--latency", "--timeout", "10s", "-s", "post.lua", f"http://127.0.0.1:{port}/graphql"], cwd=folder, capture_output=True, text=True)
-    waits = dict(re.findall(r"^ +(50|99)% +(\S+)", run.stdout, re.M))
-    faults = re.findall(r"(Socket errors.*|Non-2xx.*)", run.stdout)
-    if faults:
-        print("  wrk told: " + "; ".join(faults))
-    return float(re.search(r"Requests/sec:\s+(\S+)", run.stdout)[1]), milliseconds(waits["50"]), milliseconds(waits["99"])
+    """Requests a second, the milliseconds within which half and 99 of 100 were answered, how many were answered, and what wrk says went wrong."""
+    words = ["wrk", f"-t{min(2, connections)}", f"-c{connections}", f"-d{seconds}s", "--latency", "--timeout", "10s", "-s", "post.lua", f"http://127.0.0.1:{port}/graphql"]
+    text = subprocess.run(words, cwd=folder, capture_output=True, text=True, check=True).stdout
+    waits = dict(re.findall(r"^ +(50|99)% +(\S+)", text, re.M))
+    return {"rate": float(re.search(r"Requests/sec:\s+(\S+)", text)[1]), "half": milliseconds(waits["50"]), "most": milliseconds(waits["99"]),
+            "count": int(re.search(r"(\d+) requests in", text)[1]), "faults": re.findall(r"(Socket errors.*|Non-2xx.*)", text)}
 
 
 def serving(program, folder, quick):
-    """For each number of connections a row: who served, and the middle of a few runs in turns."""
-    data, up = nginx(folder, 4)
-    proxy, proxied = nginx(folder, 4, up)
-    started = {f"{n} worker" + "s" * (n > 1): gateway(program, folder, n, up) for n in (1, 4, 16)}
-    ports = {**{name: it[1] for name, it in started.items()}, "nginx, 4 processes": proxied}
-    found = {name: [] for name in ports}
+    """By who serves and by connections: all runs of wrk, made by turns."""
+    _, up = upstream(folder)
+    ports = {f"Tellcrock {n}": gateway(program, folder, n, up)[1] for n in (1, 4, 16)}
+    ports.update({f"nginx {n}": proxy(folder, n, up)[1] for n in (1, 4, 16)})
+    ports.update({"nginx 4, connections kept": proxy(folder, 4, up, keeps=True)[1], "the upstream alone": up})
+    found = {name: {} for name in ports}
     for connections in (1, 16, 256):
-        runs = {name: [] for name in ports}
         for _ in range(1 if quick else 5):
             for name, port in ports.items():
-                runs[name].append(by_wrk(folder, port, connections, 1 if quick else 3))
-        for name in ports:
-            middle = statistics.median_low(runs[name])
-            found[name].append((connections, *middle))
-            print(f"serving {connections} connections, {name}: {middle[0]:.0f} a second, half within {middle[1]} ms, 99 of 100 within {middle[2]} ms", flush=True)
-    for run, _, stop in started.values():
-        open(stop, "w").close()
-        run.wait(timeout=60)
-    for run in (proxy, data):
-        run.terminate()
-        run.wait(timeout=10)
+                run = by_wrk(folder, port, connections, 1 if quick else 2)
+                found[name].setdefault(str(connections), []).append(run)
+                if run["faults"]:
+                    say(f"  {name} at {connections} connections: " + "; ".join(run["faults"]))
+        say(f"serving {connections} connections: " + ", ".join(f"{name} {max(it['rate'] for it in runs[str(connections)]):.0f}" for name, runs in found.items()))
+    end_all()
     return found
 
 
-# ---- hostile documents
+# ---- documents made to be slow
 
 def hostile(program, folder, quick):
-    """Processor seconds by length, of some families; a run that is stopped ends its line."""
-    found, folder = {}, tempfile.mkdtemp(dir=folder)
-    for name in HOSTILE:
-        schema, build, *variables = hostile_documents.FAMILIES[name]
-        line = []
+    """By family and length: processor seconds, megabytes, and whether the run was stopped; behind a stopped one the next family."""
+    hostile_documents.BOUND, found, own = 10, {}, tempfile.mkdtemp(dir=folder)
+    for name, (schema, build, *variables) in list(hostile_documents.FAMILIES.items())[:: 8 if quick else 1]:
         for length in (16384, 32768, 65536, 131072, 262144)[: 2 if quick else 5]:
-            seconds, _, ended = hostile_documents.priced(program, folder, schema, build(length), *(variables or ["{}"]))
-            if not ended:
+            seconds, megabytes, by_itself = hostile_documents.priced(program, own, schema, build(length), *(variables or ["{}"]))
+            found.setdefault(name, []).append((length, seconds, megabytes, not by_itself))
+            if not by_itself:
                 break
-            line.append((length, max(seconds, 0.01)))
-        found[name] = line
-        print(f"hostile {name}: " + ", ".join(f"{seconds:.2f} s" for _, seconds in line), flush=True)
+        say(f"hostile {name}: " + ", ".join(f"{it[1]:.2f} s" for it in found[name]))
     return found
 
 
 # ---- memory
 
 def held(pid):
+    """The megabytes of a process that are in memory."""
     with open(f"/proc/{pid}/status") as file:
         return int(re.search(r"VmRSS:\s+(\d+)", file.read())[1]) / 1024
 
 
 def memory(program, folder, quick):
-    """What the gateway holds, in megabytes, by the requests that it has served: of 16 workers and 16 connections."""
-    data, up = nginx(folder, 4)
-    run, port, stop = gateway(program, folder, 16, up)
-    line, served, wanted = [(0, held(run.pid))], 0, 20_000 if quick else 1_000_000
-    while served < wanted:
-        served += int(by_wrk(folder, port, 16, 2)[0] * 2)
-        line.append((served, held(run.pid)))
-    print(f"memory: {line[0][1]:.1f} MB at first, {line[-1][1]:.1f} MB after {served} requests", flush=True)
-    open(stop, "w").close()
-    run.wait(timeout=60)
-    data.terminate()
-    data.wait(timeout=10)
-    return {"Tellcrock, 16 workers": line}
+    """By workers and connections: what the gateway holds after so many requests."""
+    _, up = upstream(folder)
+    found = {}
+    for workers, connections in ((4, 256), (16, 16)):
+        run, port = gateway(program, folder, workers, up)
+        line, wanted = [(0, held(run.pid))], 20_000 if quick else 1_000_000
+        while line[-1][0] < wanted:
+            line.append((line[-1][0] + by_wrk(folder, port, connections, 1 if quick else 2)["count"], held(run.pid)))
+        found[f"{workers} workers, {connections} connections"] = line
+        say(f"memory of {workers} workers: {line[0][1]:.1f} MB at first, {line[-1][1]:.1f} MB after {line[-1][0]:,} requests")
+    end_all()
+    return found
 
 
-# ---- the page
+# ---- the machine, and the whole
 
-def machine():
-    with open("/proc/cpuinfo") as file:
-        model = re.search(r"model name\s*: (.*)", file.read())
-    with open("/proc/meminfo") as file:
-        total = int(re.search(r"MemTotal:\s+(\d+)", file.read())[1]) // 1048576
-    return f"{os.cpu_count()} processors ({model[1] if model else platform.machine()}), {total} GB of memory, {platform.system()} {platform.release()}"
+def first_line(*words):
+    ran = subprocess.run(words, capture_output=True, text=True)
+    return (ran.stdout + ran.stderr).strip().splitlines()[0]
 
 
-PLOTS = {
-    "pricing": ("Pricing an operation", "bytes of the operation", "microseconds", lambda found: found, True, True),
-    "serving": ("Requests a second, small replies", "connections", "requests a second", lambda found: {name: [(it[0], it[1]) for it in rows] for name, rows in found.items()}, True, False),
-    "hostile": ("Documents made to be slow", "bytes of the document", "processor seconds", lambda found: found, False, False),
-    "memory": ("Memory held while serving", "requests served", "megabytes", lambda found: found, False, False),
-}
+def file_line(path, pattern):
+    with open(path) as file:
+        return re.search(pattern, file.read()).group(1)
 
 
-def table(head, rows):
-    return "\n".join(["| " + " | ".join(head) + " |", "|" + "---|" * len(head), *("| " + " | ".join(row) + " |" for row in rows)])
+def versions(program):
+    """What was compared, each as it names itself."""
+    found = {"Tellcrock": "program " + first_line("sha256sum", program)[:12]}
+    if shutil.which("node") and os.path.isdir(f"{NODE_PATH}/graphql"):
+        found["graphql-js"] = file_line(f"{NODE_PATH}/graphql/package.json", r'"version"\s*:\s*"([^"]+)"') + ", node " + first_line("node", "--version")
+    if shutil.which("go") and os.path.isdir(f"{GO_PATH}/src/github.com/vektah/gqlparser"):
+        found["gqlparser"] = first_line("dpkg-query", "-W", "-f", "${Version}", "golang-github-vektah-gqlparser-dev") + ", " + first_line("go", "version")
+    for name, words in (("nginx", ["nginx", "-v"]), ("wrk", ["wrk", "-v"])):
+        if shutil.which(name):
+            found[name] = re.sub(r"^nginx version: nginx/|^wrk | Copyright.*| \[epoll\]", "", first_line(*words))
+    return found
 
 
-def by_length(found, unit, form):
-    """A table of lines that have their points at the same lengths, as far as each goes."""
-    lengths = sorted({x for line in found.values() for x, _ in line})
-    return table(["", *(f"{x:,.0f} {unit}" for x in lengths)], [[name, *(form % dict(line)[x] if x in dict(line) else "stopped after 20 s" for x in lengths)] for name, line in found.items()])
+def busy():
+    """The part of the processors' time that others take, over a second."""
+    def read():
+        with open("/proc/stat") as file:
+            times = [int(it) for it in file.readline().split()[1:]]
+        return sum(times), times[3] + times[4]
+    before = read()
+    time.sleep(1)
+    after = read()
+    return 1 - (after[1] - before[1]) / max(1, after[0] - before[0])
 
 
-PAGE = """# Performance
-
-Written by `checks/figures.py`, which measures all of it anew on the machine where it is run. These figures: {machine}; {day}. Programs that
-were compared ran in turns, at the same priority, over loopback. Nothing here is proved.
-
-## Pricing an operation
-
-![Microseconds for an operation by its length](figures/pricing.svg)
-
-From the bytes of the body to the reservation in the client's account, by Tellcrock: a replay of many begins less that of one. graphql-js and gqlparser parse and
-validate the same operations against the same schema of 500 types, and price nothing. The least of five runs each, in microseconds.
-
-{pricing}
-
-## Serving
-
-![Requests a second by connections](figures/serving.svg)
-
-By `wrk` for three seconds, the middle of five runs in turns; the upstream is an nginx that answers each request with the same 30 bytes. Beside it an nginx as a proxy
-before the same upstream, which like the gateway opens a connection to it for each request. The load, the upstream and who serves share the processors.
-
-{serving}
-
-## Documents that are made to be slow
-
-![Processor seconds by length](figures/hostile.svg)
-
-Each is as long as a body may be at most, 262,144 bytes, or a part of that; `checks/hostile_documents.py` says what they hold, and tries more of them. Processor seconds of
-`price`; a run is stopped after 20.
-
-{hostile}
-
-## Memory
-
-![Megabytes by requests](figures/memory.svg)
-
-{memory}
-"""
+def machine(program):
+    return {"processor": file_line("/proc/cpuinfo", r"model name\s*: (.*)"), "count": os.cpu_count(), "memory": int(file_line("/proc/meminfo", r"MemTotal:\s+(\d+)")) / 1048576,
+            "kernel": " ".join(os.uname()[it] for it in (0, 2)), "day": time.strftime("%Y-%m-%d"), "load": os.getloadavg()[0], "busy": busy(), "versions": versions(program)}
 
 
-def write_page(measured):
-    tables = {"pricing": by_length(measured["pricing"], "bytes", "%.1f"), "hostile": by_length(measured["hostile"], "bytes", "%.2f")}
-    rows = [[name, f"{at}", f"{rate:,.0f}", f"{half:.2f} ms", f"{most:.2f} ms"] for name, runs in measured["serving"].items() for at, rate, half, most in runs]
-    tables["serving"] = table(["", "connections", "requests a second", "half within", "99 of 100 within"], rows)
-    line = measured["memory"]["Tellcrock, 16 workers"]
-    tables["memory"] = f"With 16 workers and 16 connections the gateway held {line[0][1]:.1f} MB at first, and {line[-1][1]:.1f} MB after {line[-1][0]:,} requests."
-    with open(os.path.join(ROOT, "docs", "performance.md"), "w") as file:
-        file.write(PAGE.format(machine=measured["machine"], day=measured["day"], **tables))
-    for name, (title, across, up, lines, x_powers, y_powers) in PLOTS.items():
-        with open(os.path.join(FIGURES, name + ".svg"), "w") as file:
-            file.write(plot(title, across, up, [it for it in lines(measured[name]).items() if it[1]], x_powers, y_powers))
+def end_all():
+    while STARTED:
+        run = STARTED.pop()
+        if run.poll() is None:
+            ended(run)
+
+
+def measure(given, kept):
+    """Measures what was asked for, and keeps it beside what was kept before."""
+    program = os.path.abspath(given.program)
+    resource.setrlimit(resource.RLIMIT_NOFILE, (min(20000, resource.getrlimit(resource.RLIMIT_NOFILE)[1]),) * 2)
+    with tempfile.TemporaryDirectory() as folder:
+        post = 'wrk.method = "POST"\nwrk.body = \'{"query":"{ user { id } }"}\'\nwrk.headers["x-client-key"] = "alpha"\nwrk.headers["content-type"] = "application/json"\n'
+        for name, text in (("schema", "type Query { user: User } type User { id: ID! }"), ("clients", CLIENTS), ("own", DIRECTIVES), ("post.lua", post)):
+            with open(f"{folder}/{name}", "w") as file:
+                file.write(text)
+        try:
+            for name in given.parts:
+                about = machine(program)
+                say(f"{name}: begun at {time.strftime('%H:%M:%S')}, others take {about['busy']:.0%} of the processors")
+                found = PARTS[name](program, folder, given.quick)
+                measures = json.load(open(kept)) if os.path.exists(kept) else {}
+                measures[name] = {"machine": about, "quick": given.quick, "found": found}
+                with open(kept, "w") as file:
+                    json.dump(measures, file, indent=1)
+        finally:
+            end_all()
+
+
+PARTS = {"pricing": pricing, "serving": serving, "hostile": hostile, "memory": memory}
 
 
 def main():
     words = argparse.ArgumentParser(description=__doc__, formatter_class=argparse.RawDescriptionHelpFormatter)
-    words.add_argument("--program", default=os.path.join(ROOT, "crates/gateway_cli/out/gateway_cli"))
+    words.add_argument("--program", default=os.path.join(ROOT, "release", "tellcrock"))
     words.add_argument("--quick", action="store_true")
-    words.add_argument("names", nargs="*", choices=[[], *PLOTS])
+    words.add_argument("--parts", type=lambda text: text.split(","), default=list(PARTS))
+    words.add_argument("--plot-only", metavar="FILE.json")
     given = words.parse_args()
-    program, kept = os.path.abspath(given.program), os.path.join(FIGURES, "measured.json")
-    os.makedirs(FIGURES, exist_ok=True)
-    measured = json.load(open(kept)) if os.path.exists(kept) else {}
-    measured.update(machine=machine(), day=time.strftime("%Y-%m-%d"))
-    resource.setrlimit(resource.RLIMIT_NOFILE, (min(20000, resource.getrlimit(resource.RLIMIT_NOFILE)[1]),) * 2)
-    with tempfile.TemporaryDirectory() as folder:
-        for name, text in (("schema", "type Query { user: User } type User { id: ID! }"), ("clients", CLIENTS)):
-            with open(os.path.join(folder, name), "w") as file:
-                file.write(text)
-        with open(os.path.join(folder, "post.lua"), "w") as file:
-            file.write('wrk.method = "POST"\nwrk.body = \'{"query":"{ user { id } }"}\'\nwrk.headers["x-client-key"] = "alpha"\nwrk.headers["content-type"] = "application/json"\n')
-        for name in given.names or PLOTS:
-            measured[name] = {"pricing": pricing, "serving": serving, "hostile": hostile, "memory": memory}[name](program, folder, given.quick)
-            with open(kept, "w") as file:
-                json.dump(measured, file, indent=1)
-    if all(name in measured for name in PLOTS):
-        write_page(measured)
-        print("docs/performance.md is written")
+    if not set(given.parts) <= set(PARTS):
+        words.error("the parts are " + ", ".join(PARTS))
+    lacking = [name for name in ("wrk", "nginx") if {"serving", "memory"} & set(given.parts) and not shutil.which(name)]
+    if lacking and not given.plot_only:
+        sys.exit("needed for serving and memory, and not here: " + ", ".join(lacking))
+    docs = os.path.join(tempfile.gettempdir(), "figures") if given.quick else os.path.join(ROOT, "docs")
+    os.makedirs(os.path.join(docs, "figures"), exist_ok=True)
+    kept = given.plot_only or os.path.join(docs, "figures", "measures.json")
+    if not given.plot_only:
+        measure(given, kept)
+    performance_page.write(json.load(open(kept)), docs)
 
 
 if __name__ == "__main__":
