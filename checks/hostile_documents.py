@@ -6,7 +6,7 @@
 Each family of documents is built at four lengths, the longest of them the longest body that the gateway takes, and priced by the built program
 (`crates/gateway_cli/out/gateway_cli`, or the one that is named) under a bound of time and memory. A line says the processor seconds and the megabytes
 at each length, and by what factor the seconds grow from the last length but one, which is half as long. The status is 1 where a document takes more
-than 2 seconds or 200 MB, as those with calls that differ or are great, with a long response key and with thousands of types do today
+than 2 seconds or 200 MB, as those with calls that differ or are great and with thousands of interfaces do today
 (docs/operating.md says from which length on).
 With names, only these families are tried.
 """
