@@ -36,6 +36,7 @@ VALUES = {
 USUAL = {
     "check": ["books.graphql"],
     "price": ["books.graphql", "titles.graphql"],
+    "explain": ["books.graphql", "titles.graphql"],
     "introspect": ["books.graphql", "titles.graphql"],
     "worst": ["books.graphql", "titles.graphql", "types"],
     "forward": ["books.graphql", "titles.graphql"],
@@ -47,7 +48,7 @@ USUAL = {
 }
 # The options of each command, each of which comes as often as all others together.
 OWN = {
-    **dict.fromkeys(["price", "worst", "forward", "meter"], ["variables", "operation", "unsized"]),
+    **dict.fromkeys(["price", "explain", "worst", "forward", "meter"], ["variables", "operation", "unsized"]),
     "introspect": ["variables", "operation"],
     "replay": ["unsized", "trusted", "trusted-only"],
     "serve": ["target", "workers", "connections", "endless", "idle", "stop", "trusted", "trusted-only", "pass", "pass", "hints", "unsized"],
