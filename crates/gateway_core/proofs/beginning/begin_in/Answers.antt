@@ -34,8 +34,10 @@ returns-in_err-reserve-in-Ok-Upstream-clause-lost g c =
       client = c.in-Some.client;
       known = sym c.in-Some.ensures.place;
       bound = promise.bound;
-      asked = inl (priced rules c.args.body.now promise found);
-      lost = record { before = book; lost = inl (g.met.L.Ledger.gains_none book, c.in_err-reserve-in-Ok-Upstream.ensures.lost) };
+      lost = inl (
+        priced rules c.args.body.now promise found,
+        record { before = book; unanswered = g.met.L.Ledger.gains_none book; lost = c.in_err-reserve-in-Ok-Upstream.ensures.lost },
+      );
     } in
     on_err c.from_residual.result _ lost
 
@@ -49,7 +51,6 @@ returns-in_err-pay-in-Ok-Local-clause-lost g c =
       client = c.in-Some.client;
       known = sym c.in-Some.ensures.place;
       bound = answer.cost;
-      asked = inr (answer, subst (IsFound rules c.args.body.now) c.in-Ok-Local.field-0-is c.in-Ok-Local.ensures.found, refl);
-      lost = c.in_err-pay-in-Ok-Local.ensures.lost;
+      lost = inr ((answer, subst (IsFound rules c.args.body.now) c.in-Ok-Local.field-0-is c.in-Ok-Local.ensures.found, refl), c.in_err-pay-in-Ok-Local.ensures.lost);
     } in
     on_err c.from_residual-in_err-pay-in-Ok-Local.result _ lost

@@ -28,9 +28,10 @@ returns-in_err-reserved-clause-lost g c =
     let new = c.reserve.new.self in
     let cost = c.args.answer.cost in
     let lost : LosesCalls c.args.client (window_of (rules_of c.args.gate.now) c.args.moment) cost (g.L.Ledger.made book) (g.L.Ledger.gains book) (λ before. g.L.Ledger.loses before new) =
-    record {
+    inl record {
       before = book;
-      lost = inl (g.met.L.Ledger.gains_none book, subst (λ w. g.L.Ledger.loses book new c.args.client (reservation w cost)) (ap (λ s. c.args.moment / s) c.from.ensures) c.in_err-reserved.ensures.lost);
+      unanswered = g.met.L.Ledger.gains_none book;
+      lost = subst (λ w. g.L.Ledger.loses book new c.args.client (reservation w cost)) (ap (λ s. c.args.moment / s) c.from.ensures) c.in_err-reserved.ensures.lost;
     } in
     on_err c.from_residual.result _ lost
 
@@ -45,13 +46,11 @@ returns-in_err-settle-in-Granted-clause-lost g c =
     let is = subst (IsReservedFor c.args.client (g.L.Ledger.made book) cost) c.in-Granted.is c.in_ok-reserved.ensures.reserved in
     let one = subst (λ reserved. g.L.Ledger.gains book middle (calls_reserved c.args.client asked cost reserved)) c.in-Granted.is c.in_ok-reserved.ensures.call in
     let lost : LosesCalls c.args.client (window_of (rules_of c.args.gate.now) c.args.moment) cost (g.L.Ledger.made book) (g.L.Ledger.gains book) (λ before. g.L.Ledger.loses before new) =
-    record {
+    inr record {
       before = middle;
-      lost = inr (
-        ticket.window,
-        subst (λ w. g.L.Ledger.gains book middle (client_call c.args.client (reservation w cost) (granted ticket.window) ∷ [])) (ap (λ s. c.args.moment / s) c.from.ensures) one,
-        lost_settling (g.L.Ledger.loses middle new) c.args.client (g.L.Ledger.made book) cost ticket is.0 is.1 is.2 c.in_err-settle-in-Granted.ensures.lost,
-      );
+      at = ticket.window;
+      answered = subst (λ w. g.L.Ledger.gains book middle (client_call c.args.client (reservation w cost) (granted ticket.window) ∷ [])) (ap (λ s. c.args.moment / s) c.from.ensures) one;
+      lost = lost_settling (g.L.Ledger.loses middle new) c.args.client (g.L.Ledger.made book) cost ticket is.0 is.1 is.2 c.in_err-settle-in-Granted.ensures.lost;
     } in
     on_err c.from_residual-in_err-settle-in-Granted.result _ lost
 
