@@ -7,6 +7,8 @@ use Rattle.account_shared.specs.Gains.{ClientCall, Gains}
 use Rattle.account_shared.proofs.Stretches.{none_gained, gained_then}
 use Rattle.doors.specs.Visits.{Told, Visit, given_by, after_visit, Gained}
 use Rattle.doors.specs.Starts.{DoorMembers}
+use Rattle.gateway_core.specs.Numbers.{numbers_taken}
+use Rattle.gateway_core.proofs.TakenNumbers.{taken_none, taken_then}
 use Rattle.gateway_connections.specs.declared.ending.Served.{Served}
 use Rattle.gateway_connections.specs.declared.ending.ConnectionEnd.TheVariants as ending
 use Rattle.outside.specs.Faults.{Rose}
@@ -32,37 +34,37 @@ pub one_visit : (old mid new : Option (List Visit)) (given : Option Told) (told 
 one_visit None mid new given told back n end same out now is = now ∙ (λ i. after_visit (same i) (out i) back n)
 one_visit (Some visits) mid new given told back n end same out now is = now ∙ (λ i. after_visit (same i) (out i) back (is i))
 
-no_visit : (old new : Option (List Visit)) → new ≡ old → Gained old [] new
+pub no_visit : (old new : Option (List Visit)) → new ≡ old → Gained old [] new
 no_visit None new same = same
 no_visit (Some visits) new same = same ∙ ap Some (sym (append-nil visits))
 
-visits_then : (a b c : Option (List Visit)) (xs ys : List Visit) → Gained a xs b → Gained b ys c → Gained a (xs ++ ys) c
+pub visits_then : (a b c : Option (List Visit)) (xs ys : List Visit) → Gained a xs b → Gained b ys c → Gained a (xs ++ ys) c
 visits_then None b c xs ys first second = subst (λ k. Gained k ys c) first second
 visits_then (Some old) b c xs ys first second =
     let more : Gained (Some (old ++ xs)) ys c = subst (λ k. Gained k ys c) first second in more ∙ ap Some (append_assoc old xs ys)
 
 -- ---- lists of connections
 
-visits_of_both : (rs ss : List Run) → visits_of (rs ++ ss) ≡ visits_of rs ++ visits_of ss
+pub visits_of_both : (rs ss : List Run) → visits_of (rs ++ ss) ≡ visits_of rs ++ visits_of ss
 visits_of_both [] ss = refl
 visits_of_both (r ∷ rs) ss = ap (λ l. visit_of r ∷ l) (visits_of_both rs ss)
 
-calls_of_both : (rs ss : List Run) → calls_in (rs ++ ss) ≡ calls_in rs ++ calls_in ss
+pub calls_of_both : (rs ss : List Run) → calls_in (rs ++ ss) ≡ calls_in rs ++ calls_in ss
 unfolding calls_in
 calls_of_both [] ss = refl
 calls_of_both (r ∷ rs) ss = ap (λ l. r.calls ++ l) (calls_of_both rs ss) ∙ sym (append_assoc r.calls (calls_in rs) (calls_in ss))
 
-replies_of_both : (rs ss : List Run) → replies_in (rs ++ ss) ≡ replies_in rs + replies_in ss
+pub replies_of_both : (rs ss : List Run) → replies_in (rs ++ ss) ≡ replies_in rs + replies_in ss
 unfolding replies_in
 replies_of_both [] ss = omega arith
 replies_of_both (r ∷ rs) ss = omega (arith, replies_of_both rs ss)
 
-runs_then : (s : Service) (made : ℕ) (rs ss : List Run) → AreRuns s made rs → AreRuns s (made + length (calls_in rs)) ss → AreRuns s made (rs ++ ss)
+pub runs_then : (s : Service) (made : ℕ) (rs ss : List Run) → AreRuns s made rs → AreRuns s (made + numbers_taken s.slots (calls_in rs)) ss → AreRuns s made (rs ++ ss)
 unfolding AreRuns calls_in
-runs_then s made [] ss first second = let e : made + 0 ≡ made = omega arith in subst (λ n. AreRuns s n ss) e second
+runs_then s made [] ss first second = let e : made + numbers_taken s.slots [] ≡ made = omega (arith, taken_none s.slots) in subst (λ n. AreRuns s n ss) e second
 runs_then s made (r ∷ rs) ss first second =
-    let e : made + length (r.calls ++ calls_in rs) ≡ (made + length r.calls) + length (calls_in rs) = omega (arith, length-append r.calls (calls_in rs)) in
-    (first.0, runs_then s (made + length r.calls) rs ss first.1 (subst (λ n. AreRuns s n ss) e second))
+    let e : made + numbers_taken s.slots (r.calls ++ calls_in rs) ≡ (made + numbers_taken s.slots r.calls) + numbers_taken s.slots (calls_in rs) = omega (arith, taken_then s.slots r.calls (calls_in rs)) in
+    (first.0, runs_then s (made + numbers_taken s.slots r.calls) rs ss first.1 (subst (λ n. AreRuns s n ss) e second))
 
 -- ---- what a worker did
 
@@ -104,11 +106,12 @@ did_one t s accounts v w told back served serves read written belong idle visits
   made = omega (arith, made);
 }
 
--- some connections, and then others
-pub did_then : {D : Type 0} (t : DoorMembers D) (s : Service) (accounts : AccountsView) (v u w : Worker D) (rs ss : List Run) → Did t s accounts v u rs → Did t s accounts u w ss → Did t s accounts v w (rs ++ ss)
-did_then t s accounts v u w rs ss first second =
+-- some connections, and then others, where each call takes a number
+pub did_then : {D : Type 0} (t : DoorMembers D) (s : Service) → s.slots ≡ None → (accounts : AccountsView) (v u w : Worker D) (rs ss : List Run) → Did t s accounts v u rs → Did t s accounts u w ss → Did t s accounts v w (rs ++ ss)
+did_then t s cells accounts v u w rs ss first second =
     let count : length (rs ++ ss) ≡ length rs + length ss = length-append rs ss in record {
-      each = runs_then s v.passes.made rs ss first.each (subst (λ n. AreRuns s n ss) first.gains.made second.each);
+      each = runs_then s v.passes.made rs ss first.each
+          (subst (λ k. AreRuns s (v.passes.made + numbers_taken k (calls_in rs)) ss) (sym cells) (subst (λ n. AreRuns s n ss) first.gains.made second.each));
       visits = subst (λ l. Gained (t.visits v.door) l (t.visits w.door)) (sym (visits_of_both rs ss))
           (visits_then (t.visits v.door) (t.visits u.door) (t.visits w.door) (visits_of rs) (visits_of ss) first.visits second.visits);
       gains = subst (λ l. Gains v.passes w.passes l) (sym (calls_of_both rs ss)) (gained_then v.passes u.passes w.passes (calls_in rs) (calls_in ss) first.gains second.gains);

@@ -4,6 +4,7 @@ use Rattle.account_shared.specs.Gains.{ClientCall}
 use Rattle.outside.specs.Faults.{Rose}
 use Rattle.doors.specs.Visits.{Told, Visit, Gained}
 use Rattle.doors.specs.Starts.{DoorMembers}
+use Rattle.gateway_core.specs.Numbers.{numbers_taken}
 use Rattle.gateway_connections.specs.declared.ending.Served.{Served}
 use Rattle.gateway_connections.specs.declared.ending.ConnectionEnd.TheVariants as ending
 use Rattle.gateway_connections.specs.Exchanges.{Service}
@@ -22,10 +23,10 @@ pub record HasCause (r : Run) : Type 0 where
   pub read : r.served.end ≡ ending.ReadFault → Rose r.given.read_faults r.back.read_faults
   pub written : r.served.end ≡ ending.WriteFault → Rose r.given.write_faults r.back.write_faults
 
--- these connections were served, one after the other, behind so many calls
+-- These connections were served, one after the other, behind so many numbers of calls.
 unfoldable pub AreRuns : Service → ℕ → List Run → Type 0
 AreRuns s made [] = ⊤
-AreRuns s made (r ∷ rs) = (Runs s made r.given r.back r.calls r.served × HasCause r) × AreRuns s (made + length r.calls) rs
+AreRuns s made (r ∷ rs) = (Runs s made r.given r.back r.calls r.served × HasCause r) × AreRuns s (made + numbers_taken s.slots r.calls) rs
 
 -- as its door tells it
 abbrev pub visit_of : Run → Visit

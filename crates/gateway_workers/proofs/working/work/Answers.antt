@@ -11,7 +11,7 @@ pub turns-preserved : goal.turns-preserved
 turns-preserved g c =
     let i = c.turns.invariant in
     let one = c.in-One.ensures in (
-      (i.0.0 ++ one.0.0 ∷ [], did_then _ (service_of c.args.gate.now) c.args.gate.now.accounts c.args.worker.now c.turns.worker c.serve_one.new.worker i.0.0 (one.0.0 ∷ []) i.0.1 one.0.1),
+      (i.0.0 ++ one.0.0 ∷ [], did_then _ (service_of c.args.gate.now) refl c.args.gate.now.accounts c.args.worker.now c.turns.worker c.serve_one.new.worker i.0.0 (one.0.0 ∷ []) i.0.1 one.0.1),
       omega (arith, one.0.1.connections, c.turns-test.true),
       one.2 ∙ i.2,
       one.1 ∙ i.3,

@@ -1,0 +1,16 @@
+-- The limits are those of the gate's clients.
+use Rattle.std.proofs.Common.{All}
+use Rattle.std.proofs.lemmas.List.Elements.{All-get_or}
+use Rattle.account_core.specs.Numbers.{FitsCap}
+use Rattle.account_journal.specs.Histories.{no_limit}
+use Rattle.gateway_core.specs.Rules.{greatest}
+use Rattle.gateway_journal.proofs.OpenedJournals.{opened_for}
+use Rattle.gateway_journal.proofs.opening.open_for.Goals as goal
+
+pub open-requires : goal.open-requires
+open-requires g c = record { limits_are = λ k low. All-get_or (FitsCap greatest) c.in-Ok.limits.items k no_limit low c.in-Ok.ensures.fit }
+
+pub returns-in-Ok-clause-kept : goal.returns-in-Ok-clause-kept
+returns-in-Ok-clause-kept g c =
+    opened_for g.D.Disk.reads g.D.Disk.image c.args.gate.now c.in-Ok.limits c.open.result c.in-Ok.ensures.limits
+    c.open.ensures.sound c.open.ensures.limits c.open.ensures.rest c.open.ensures.closed

@@ -1,0 +1,24 @@
+-- What serving a connection over a journal did.
+use Rattle.std.specs.Prelude.{ℕ, List, Option, Some}
+use Rattle.account_core.specs.Machine.{Call}
+use Rattle.account_journal.specs.declared.journal.Journal.{Journal}
+use Rattle.doors.specs.Visits.{Told}
+use Rattle.gateway_core.specs.declared.gate.Gate.{Gate}
+use Rattle.gateway_connections.specs.declared.ending.Served.{Served}
+use Rattle.gateway_connections.specs.Exchanges.{Service, WireTelling, service_in}
+use Rattle.gateway_connections.specs.Serving.{Serves, LosesServing}
+use Rattle.gateway_journal.specs.Kept.{HasKept}
+
+-- by what requests are decided and forwarded, where numbers of calls are slots of a journal
+abbrev pub service_kept : Gate → Service
+service_kept gate = service_in (Some 4194304) gate
+
+-- A connection was served to its end: just its calls were added between these two moments of a journal.
+abbrev pub ServesKept : {D : Type 0} → (D → Option (List ℕ)) → (D → List ℕ → Type 0) → (D → ℕ) → Gate → Journal D → Journal D → Told → Told → Served → Type 0
+ServesKept reads image faults gate before after given back served = Serves (service_kept gate) before.used (HasKept reads image faults before after) given back served
+
+-- A connection was served until a call on the disk failed: its exchanges so far added their calls, so many were replied to, and the
+-- next one has no reply. `loses` says in which call the accounts of a journal were lost.
+abbrev pub LosesKept : {D W : Type 0} → (D → Option (List ℕ)) → (D → List ℕ → Type 0) → (D → ℕ) → (Journal D → ℕ → Call → Type 0) → WireTelling W → Gate → Journal D → Told → Told → W → ℕ → Type 0
+LosesKept {D} reads image faults loses t gate before given back wire replies =
+    LosesServing {B = Journal D} (service_kept gate) t (λ j. j.used) (HasKept reads image faults) loses before given back wire replies
