@@ -5,6 +5,8 @@
 pub(crate) enum Form {
     /// Its connections one after the other, through the same passes.
     InTurn,
+    /// Its connections one after the other, over the same journal.
+    Kept,
     /// Its doors by workers.
     ByWorkers,
     /// Its one connection twice, at two doors, so that each waits for the other.
@@ -26,6 +28,8 @@ pub(crate) enum Change {
     Dial,
     Transfer,
     Write,
+    /// The call of this number on the journal's disk fails.
+    Disk,
 }
 
 /// A number, or each in turn.

@@ -10,6 +10,7 @@ mod case;
 mod fault;
 mod gates;
 mod in_turn;
+mod kept;
 mod marked;
 mod memory;
 mod reading;

@@ -16,9 +16,10 @@ fn number_in(word: &str) -> Result<u64, RowFault> {
 fn form_in(word: &str) -> Result<Form, RowFault> {
     match word {
         "in_turn" => Ok(Form::InTurn),
+        "kept" => Ok(Form::Kept),
         "by_workers" => Ok(Form::ByWorkers),
         "beside" => Ok(Form::Beside),
-        _ => Err(RowFault::Wrong("a row begins with in_turn, by_workers or beside")),
+        _ => Err(RowFault::Wrong("a row begins with in_turn, kept, by_workers or beside")),
     }
 }
 
@@ -32,6 +33,7 @@ fn change_in(word: &str) -> Result<Change, RowFault> {
         "dial_fails" => Ok(Change::Dial),
         "transfer_fails" => Ok(Change::Transfer),
         "write_fails" => Ok(Change::Write),
+        "disk_fails" => Ok(Change::Disk),
         _ => Err(RowFault::Wrong("there is no such word")),
     }
 }

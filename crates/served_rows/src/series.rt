@@ -1,9 +1,10 @@
 //! Rows that are served again and again, with each number in turn.
 
-use crate::case::{Numbers, Planned};
+use crate::case::{Form, Numbers, Planned};
 use crate::fault::RowFault;
 use crate::gates::Rules;
 use crate::in_turn::{Run, run_once};
+use crate::kept::run_kept;
 use std::alloc::Global;
 use std::sync::Wait;
 
@@ -41,16 +42,32 @@ fn push_groups(into: &mut String, groups: &[Group]) -> Result<(), RowFault> {
     Ok(())
 }
 
+// Serves the connections of a row once, where each stands for this number.
+fn once<R: Wait>(
+    alloc: Global,
+    rt: &R,
+    form: Form,
+    rules: Rules<'_>,
+    plans: &[Planned<'_>],
+    each: u64,
+) -> Result<Run, RowFault> {
+    match form {
+        Form::Kept => run_kept(alloc, rt, rules, plans, each),
+        _ => run_once(alloc, rt, rules, plans, each),
+    }
+}
+
 fn run_series<R: Wait>(
     alloc: Global,
     rt: &R,
+    form: Form,
     rules: Rules<'_>,
     plans: &[Planned<'_>],
     numbers: Numbers,
 ) -> Result<String, RowFault> {
     let mut groups = Vec::new(alloc);
     for number in numbers.first..=numbers.last {
-        let Run { text, has_failed } = run_once(alloc, rt, rules, plans, number)?;
+        let Run { text, has_failed } = once(alloc, rt, form, rules, plans, number)?;
         add(&mut groups, number, text)?;
         if numbers.ends_without_fault && !has_failed {
             break;
@@ -75,11 +92,12 @@ fn numbers_in(plans: &[Planned<'_>]) -> Option<Numbers> {
 pub(crate) fn run_in_turn<R: Wait>(
     alloc: Global,
     rt: &R,
+    form: Form,
     rules: Rules<'_>,
     plans: &[Planned<'_>],
 ) -> Result<String, RowFault> {
     match numbers_in(plans) {
-        Some(numbers) => run_series(alloc, rt, rules, plans, numbers),
-        None => Ok(run_once(alloc, rt, rules, plans, 0)?.text),
+        Some(numbers) => run_series(alloc, rt, form, rules, plans, numbers),
+        None => Ok(once(alloc, rt, form, rules, plans, 0)?.text),
     }
 }

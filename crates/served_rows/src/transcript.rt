@@ -32,7 +32,7 @@ fn run<R: Threads + Wait + Sync>(
         return Err(RowFault::Wrong("no door was begun"));
     };
     match case.form {
-        Form::InTurn => run_in_turn(alloc, rt, rules, &door.connections),
+        Form::InTurn | Form::Kept => run_in_turn(alloc, rt, case.form, rules, &door.connections),
         Form::ByWorkers => run_by_workers(alloc, rt, rules, &case.doors),
         Form::Beside => match door.connections.first() {
             Some(plan) => run_beside(alloc, rt, rules, plan, case.bytes),
