@@ -10,11 +10,11 @@ use Rattle.gateway_workers.specs.Decisions.{Service}
 use Rattle.gateway_workers.specs.Tours.{Tour, visits_of, IsTour, AreTours}
 use Rattle.gateway_serving.specs.StoppedTours.{HasToured, HaveToured, IsUnused}
 
--- a count that was 0 and rose is above 0
-has_risen : (before after : ℕ) → before ≡ 0 → Rose before after → nat_lt 0 after ≡ true
-has_risen before after none rose = lt-ltb 0 after (elim rose [ inl less ↦ omega (arith, less) | inr last ↦ omega (arith, last) ])
+-- a count that rose is above 0
+pub has_risen : (before after : ℕ) → Rose before after → nat_lt 0 after ≡ true
+has_risen before after rose = lt-ltb 0 after (elim rose [ inl less ↦ omega (arith, less) | inr last ↦ omega (arith, last) ])
 
-told_visits : (before after : Option (List Visit)) (visits : List Visit) → HasNoVisit before → Gained before visits after → IfSome after (λ told. told ≡ visits)
+pub told_visits : (before after : Option (List Visit)) (visits : List Visit) → HasNoVisit before → Gained before visits after → IfSome after (λ told. told ≡ visits)
 told_visits None after visits none gained = subst (λ o. IfSome o (λ told. told ≡ visits)) (sym gained) tt
 told_visits (Some old) after visits none gained = subst (λ o. IfSome o (λ told. told ≡ visits)) (sym gained) (ap (λ l. l ++ visits) none)
 
@@ -27,7 +27,7 @@ ends_by : (connections before after ran to_come : ℕ) (failed : Bool) → befor
     → EndsBy connections after ran failed
 ends_by connections before after ran to_come failed calm all ends = elim ends [
   | inl whole ↦ record { rose = ap (λ n. nat_lt 0 n) (whole.1 ∙ calm) ∙ sym whole.0; whole = λ none. omega (arith, whole.2, all) }
-  | inr failing ↦ let rose = has_risen before after calm failing.1 in record { rose = rose ∙ sym failing.0; whole = λ none. absurd (true≢false (sym rose ∙ none)) }
+  | inr failing ↦ let rose = has_risen before after failing.1 in record { rose = rose ∙ sym failing.0; whole = λ none. absurd (true≢false (sym rose ∙ none)) }
 ]
 
 has_toured : {D : Type 0} (t : DoorMembers D) (s : Service) (connections : ℕ) (door back : D) (tour : Tour) → IsNew t connections door → IsTour t s connections door back tour → HasToured s connections tour (stopped_by t connections back)

@@ -1,0 +1,53 @@
+-- The disk was shut, whatever came of it.
+use Rattle.std.proofs.Common.{inl, inr, refl, ap, ◌∙◌, Some}
+use Rattle.std.specs.Prelude.{is_some}
+use Rattle.doors.specs.Starts.{members}
+use Rattle.account_journal.specs.Slots.{bodies}
+use Rattle.account_journal.specs.Reading.{IsFaultOf}
+use Rattle.journal_disk.specs.Shutting.{shut_with}
+use Rattle.gateway_core.specs.Gates.{limits_of}
+use Rattle.gateway_connections.specs.Exchanges.{telling}
+use Rattle.gateway_journal.specs.DoorRuns.{disk_members}
+use Rattle.journal_serving.proofs.Histories.{each_told}
+use Rattle.journal_serving.proofs.Endings.{ends_shut, unopened_failed}
+use Rattle.journal_serving.proofs.keeping.serve_journal.Goals as goal
+
+pub returns-in-Ok-open_for-clause-came_to : goal.returns-in-Ok-open_for-clause-came_to
+returns-in-Ok-open_for-clause-came_to g c =
+    let opened = c.in-Ok-open_for.ensures in
+    let held = g.J.Disks.holds c.args.disks.now c.args.name.now in
+    let disk = c.serve_opened-disk.result.0 in
+    inr (
+      shut_with (g.J.D.Disk.reads disk) (g.J.D.Disk.faults disk),
+      c.shut.ensures.last,
+      ends_shut (members g.D.D.Door.out g.D.D.Door.to_come g.D.D.Door.faults g.D.D.Door.visits)
+          (disk_members g.J.D.Disk.reads g.J.D.Disk.image g.J.D.Disk.faults g.J.D.Disk.moment g.J.D.Disk.image_since)
+          (telling g.D.D.W.Wire.log g.D.D.W.Wire.dial_faults g.D.D.W.Wire.faults)
+          g.met.J.D.Disk.now_is_since g.met.J.D.Disk.reads_is_image c.args.gate.now c.args.mark held c.in-Ok-open_for.journal
+          (record {
+            kept = opened.kept;
+            idle = opened.idle;
+            tells = opened.tells ∙ ap is_some c.in-Ok.ensures.told;
+            intact = λ b is. opened.intact b (c.in-Ok.ensures.told ∙ is);
+            recovered = λ b is. opened.recovered b (c.in-Ok.ensures.told ∙ is);
+          }) disk c.args.serving.now _ _ c.serve_opened-disk.result.1 c.serve_opened-disk.ensures.kept,
+    )
+
+pub returns-in-Err-clause-came_to : goal.returns-in-Err-clause-came_to
+returns-in-Err-clause-came_to g c =
+    let refused = c.in-Err.ensures in
+    let held = g.J.Disks.holds c.args.disks.now c.args.name.now in
+    let disk = c.in-Err.disk in
+    inr (
+      shut_with (g.J.D.Disk.reads disk) (g.J.D.Disk.faults disk),
+      c.shut-in-Err.ensures.last,
+      inl (
+        record {
+          reason = c.in-Err.fault;
+          told = c.unopened.ensures;
+          is_fault = each_told held (λ b. IsFaultOf c.in-Err.fault (limits_of c.args.gate.now) c.args.mark (bodies b)) (λ b is. refused.refused b (c.in-Ok.ensures.told ∙ is));
+          failed = unopened_failed c.in-Err.fault (g.J.D.Disk.faults c.in-Ok.disk) (g.J.D.Disk.faults disk) refused.cause;
+        },
+        refl,
+      ),
+    )

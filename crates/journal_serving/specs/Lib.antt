@@ -1,0 +1,4 @@
+-- What serving over a journal comes to.
+pub mod Keeping
+-- What serves proofs.
+pub mod OverJournals
