@@ -1,0 +1,2 @@
+-- What surprises in a good schema, and what is told of it.
+pub mod Surprises
