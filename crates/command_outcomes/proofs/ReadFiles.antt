@@ -2,7 +2,7 @@
 use Rattle.std.proofs.Common.{◌≡◌, ◌∙◌, inl, inr, ℕ, List, Option, sym, subst}
 use Rattle.outside.specs.Faults.{Rose, StayAll, ChangesAlone}
 use Rattle.command_outcomes.specs.declared.outcome.Outcome.{Outcome}
-use Rattle.command_outcomes.specs.declared.outcome.Outcome.TheVariants.{Done, Refused, FileFailed, Faulty, Served, NotStarted, Usage, Memory}
+use Rattle.command_outcomes.specs.declared.outcome.Outcome.TheVariants.{Done, Refused, FileFailed, Faulty, Audited, Served, NotStarted, Usage, Memory}
 use Rattle.command_outcomes.specs.Outcomes.{files_told, IsStopped}
 use Rattle.command_outcomes.specs.Reading.{IsRead, HasNoText}
 
@@ -21,6 +21,7 @@ module _ (content later : List ℕ → Option (List ℕ)) (before at after : Lis
   stopped_sooner IsName (Refused text) stopped = absurd stopped
   stopped_sooner IsName (FileFailed name) stopped = (stopped.0, subst (λ count. Rose count (after name)) (still name) stopped.1, alone_sooner name stopped.2)
   stopped_sooner IsName (Faulty status text) stopped = absurd stopped
+  stopped_sooner IsName (Audited lines passed) stopped = absurd stopped
   stopped_sooner IsName (Served lines failed) stopped = absurd stopped
   stopped_sooner IsName NotStarted stopped = absurd stopped
   stopped_sooner IsName Usage stopped = absurd stopped

@@ -1,8 +1,8 @@
 -- What commands come to.
-use Rattle.std.specs.Prelude.{◌≡◌, ℕ, List, Option}
+use Rattle.std.specs.Prelude.{◌≡◌, ℕ, Bool, List, Option}
 use Rattle.outside.specs.Faults.{Rose, StayAll, ChangesAlone}
 use Rattle.command_outcomes.specs.declared.outcome.Outcome.{Outcome}
-use Rattle.command_outcomes.specs.declared.outcome.Outcome.TheVariants.{Done, Refused, FileFailed, Faulty, Memory}
+use Rattle.command_outcomes.specs.declared.outcome.Outcome.TheVariants.{Done, Refused, FileFailed, Faulty, Audited, Memory}
 
 -- What the files tell of a call: what the file of a name holds, and the count of its faults before and after.
 pub record FilesTold : Type 0 where
@@ -46,3 +46,9 @@ abbrev pub IsFaultyAs : ℕ → List ℕ → Outcome → Type 0
 IsFaultyAs status text (Faulty number told) = (number ≡ status) × (told ≡ text)
 IsFaultyAs status text Memory = Unit {0}
 IsFaultyAs status text other = ⊥
+
+-- It was an audit with these lines, in which all passed or not; or there was no memory.
+abbrev pub IsAudited : List ℕ → Bool → Outcome → Type 0
+IsAudited lines passed (Audited told all) = (told.items ≡ lines) × (all ≡ passed)
+IsAudited lines passed Memory = Unit {0}
+IsAudited lines passed other = ⊥

@@ -23,8 +23,8 @@ pub use limits::{
     VARIABLES_LIMIT,
 };
 pub use outcome::{
-    DONE, DOOR_FAILED, FILE_FAILED, NO_MEMORY, NOT_RESPONSE, Outcome, REFUSED, SIZE_BROKEN,
-    STREAM_FAILED, USAGE,
+    DISK_FAILED, DONE, DOOR_FAILED, FILE_FAILED, NO_MEMORY, NOT_RESPONSE, Outcome, REFUSED,
+    SIZE_BROKEN, STREAM_FAILED, USAGE,
 };
 pub use schema_texts::refused_schema;
 pub use text_laws::refusals_of_files_are_one_line;

@@ -20,6 +20,8 @@ pub const SIZE_BROKEN: u8 = 6;
 pub const NOT_RESPONSE: u8 = 7;
 /// The status of a command whose doors were not started, or one of them failed.
 pub const DOOR_FAILED: u8 = 8;
+/// The disk of a journal failed.
+pub const DISK_FAILED: u8 = 9;
 
 /// What a command came to, before anything of it is written. Its texts have no line end.
 #[derive(Drop)]
@@ -30,8 +32,10 @@ pub enum Outcome {
     Refused(Text),
     /// The file of this name was not read. The count of its faults rose.
     FileFailed(Text),
-    /// Something else is wrong with the input, which has a status of its own.
+    /// Something else is wrong, which has a status of its own.
     Faulty { status: u8, text: Text },
+    /// An audit was done, and these are its lines. What it looked at passed whole, or not.
+    Audited { lines: Vec<u8>, passed: bool },
     /// The doors were served, and these are the closing lines. A door may have failed meanwhile.
     Served { lines: Vec<u8>, failed: bool },
     /// The doors were not started. The count of their faults rose.

@@ -1,3 +1,4 @@
 mod Limits
+mod MostCosts
 mod Names
 mod Readings

@@ -1,5 +1,6 @@
 -- The words behind a command's name, as a simple command of clap each.
 use Rattle.std.specs.Prelude.{Some, true, codes}
+use Rattle.clap.specs.Lexer.{usize_max}
 use Rattle.clap.specs.Walk.{Rule, Text}
 use Rattle.clap.specs.Simple.{App, new_app, new_rule, with_rule, on_top}
 use Rattle.clap.specs.declared.builder.action.ArgAction.TheVariants.{Set, Append, SetTrue}
@@ -24,6 +25,18 @@ flag id = record (new_rule id) { long = Some id; action = Some SetTrue }
 abbrev pub repeated_option : Text → Rule
 repeated_option id = record (option id) { action = Some Append }
 
+-- a word that may stand
+abbrev pub maybe_place : Text → Rule
+maybe_place id = record (new_rule id) { action = Some Set }
+
+-- words that must stand, one or more, also on both sides of an option
+abbrev pub places : Text → Rule
+places id = record (place id) { range = Some (record { start_inclusive = 1; end_inclusive = usize_max }); action = Some Append }
+
+-- `--` and this, with two values
+abbrev pub pair_option : Text → Rule
+pair_option id = record (option id) { range = Some (record { start_inclusive = 2; end_inclusive = 2 }) }
+
 -- a command without words so far; no flag asks for help
 abbrev pub top : Text → App
 top name = on_top (λ s. record s { no_binary_name = true; disable_help_flag = true }) (new_app name)
@@ -46,7 +59,7 @@ with_serving app = with_rule (with_rule (with_rule (with_rule app (option (codes
 
 -- and how it is served for weeks
 abbrev pub with_lasting : App → App
-with_lasting app = with_rule (with_rule (with_rule app (flag (codes "endless"))) (option (codes "idle"))) (option (codes "stop"))
+with_lasting app = with_rule (with_rule (with_rule (with_rule app (flag (codes "endless"))) (option (codes "idle"))) (option (codes "stop"))) (option (codes "journal"))
 
 -- the list of trusted documents, and whether only its documents may be asked
 abbrev pub with_list : App → App
@@ -64,9 +77,17 @@ check_app = with_rule (top (codes "check")) (place (codes "schema"))
 abbrev pub price_app : App
 price_app = with_options (with_files (top (codes "price")))
 
--- `explain SCHEMA DOCUMENT`
+-- `explain SCHEMA`, and perhaps DOCUMENT
 abbrev pub explain_app : App
-explain_app = with_options (with_files (top (codes "explain")))
+explain_app = with_options (with_rule (with_rule (top (codes "explain")) (place (codes "schema"))) (maybe_place (codes "document")))
+
+-- the schema's file and the documents', and what an operation may cost
+abbrev pub with_audited : App → App
+with_audited app = with_rule (with_rule (with_rule app (place (codes "schema"))) (places (codes "documents"))) (pair_option (codes "most"))
+
+-- `audit SCHEMA DOCUMENT..`; `--variables-none` says what holds of every audit
+abbrev pub audit_app : App
+audit_app = with_rule (with_rule (with_audited (top (codes "audit"))) (option (codes "unsized"))) (flag (codes "variables-none"))
 
 -- `introspect SCHEMA DOCUMENT`
 abbrev pub introspect_app : App

@@ -6,16 +6,20 @@ use Rattle.clap.specs.Walk.{Row, first_of, all_of}
 use Rattle.clap.specs.Simple.{App, matches_of}
 use Rattle.clap.specs.Faults.{fault_of}
 use Rattle.command_words.specs.declared.command.Command.{Command}
-use Rattle.command_words.specs.declared.command.Command.TheVariants.{Help, Version, Check, Price, Explain, Introspect, Worst, Forward, Meter, Replay, Serve, Exercise, Migrate}
+use Rattle.command_words.specs.declared.command.Command.TheVariants.{Help, Version, Check, Price, Explain, ExplainSchema, Audit, Introspect, Worst, Forward, Meter, Replay, Serve, Exercise, Migrate}
 use Rattle.command_words.specs.declared.command.Asked.{Asked}
+use Rattle.cost_num.specs.Amount.{IsAmount}
+use Rattle.cost_num.specs.declared.TheConstants.{CAP}
+use Rattle.cost_num.specs.declared.Cost.{Cost}
 use Rattle.http_front.specs.Passed.{may_be_passed}
 use Rattle.command_words.specs.declared.command.AskedList.{AskedList}
+use Rattle.command_words.specs.declared.command.AskedAudit.{AskedAudit}
 use Rattle.command_words.specs.declared.command.AskedReplay.{AskedReplay}
 use Rattle.command_words.specs.declared.command.AskedServe.{AskedServe}
 use Rattle.response_model.specs.declared.part.Part.{Part}
 use Rattle.response_model.specs.declared.part.Part.TheVariants.{Types, Fields}
 use Rattle.command_words.specs.Defaults.{usual_size, greatest_size, greatest_exercise, usual_target, usual_workers, greatest_workers, greatest_connections, endless_connections, greatest_waiting, greatest_passed}
-use Rattle.command_words.specs.Apps.{check_app, price_app, explain_app, introspect_app, worst_app, forward_app, meter_app, replay_app, serve_app, exercise_app, migrate_app}
+use Rattle.command_words.specs.Apps.{check_app, price_app, explain_app, audit_app, introspect_app, worst_app, forward_app, meter_app, replay_app, serve_app, exercise_app, migrate_app}
 
 -- The text is this number, in one decimal digit or more, and it is no greater than that.
 abbrev pub IsNumber : ℕ → List ℕ → ℕ → Type 0
@@ -31,9 +35,10 @@ abbrev pub IsWithin : ℕ → ℕ → ℕ → Option (List ℕ) → ℕ → Type
 IsWithin least greatest usual None n = n ≡ usual
 IsWithin least greatest usual (Some text) n = IsNumber greatest text n × (least ≤ n)
 
--- how many workers serve
-abbrev pub IsWorkers : Option (List ℕ) → ℕ → Type 0
-IsWorkers given n = IsWithin 1 greatest_workers usual_workers given n
+-- How many workers serve. Over a journal one does, and no number is given.
+abbrev pub IsWorkers : Option (List ℕ) → Option (List ℕ) → ℕ → Type 0
+IsWorkers None given n = IsWithin 1 greatest_workers usual_workers given n
+IsWorkers (Some journal) given n = (given ≡ None) × (n ≡ 1)
 
 -- The flag stands.
 abbrev pub Stands : Option (List ℕ) → Type 0
@@ -91,6 +96,27 @@ pub record GivesAsked (rows : Rows) (asked : Asked) : Type 0 where
   pub operation : first_of (codes "operation") rows ≡ asked.operation
   pub undeclared : IsUndeclared (first_of (codes "unsized") rows) asked.undeclared
 
+-- what an operation may cost at most in each part, where that is said: two amounts, as the allowance of a client has them
+abbrev pub IsMost : Option (List (List ℕ)) → Option Cost → Type 0
+IsMost None None = ⊤
+IsMost (Some (types ∷ fields ∷ [])) (Some most) = IsAmount CAP types most.types × IsAmount CAP fields most.fields
+IsMost given most = ⊥
+
+-- They give this audit.
+pub record GivesAskedAudit (rows : Rows) (asked : AskedAudit) : Type 0 where
+  pub schema : first_of (codes "schema") rows ≡ Some asked.schema
+  pub documents : all_of (codes "documents") rows ≡ Some asked.documents.items
+  pub is_most : IsMost (all_of (codes "most") rows) asked.most
+  pub undeclared : IsUndeclared (first_of (codes "unsized") rows) asked.undeclared
+
+-- They give this schema alone, and no operation.
+pub record GivesSchemaAlone (rows : Rows) (schema : List ℕ) (undeclared : ℕ) : Type 0 where
+  pub is_schema : first_of (codes "schema") rows ≡ Some schema
+  pub no_document : first_of (codes "document") rows ≡ None
+  pub no_variables : first_of (codes "variables") rows ≡ None
+  pub no_operation : first_of (codes "operation") rows ≡ None
+  pub is_undeclared : IsUndeclared (first_of (codes "unsized") rows) undeclared
+
 -- They give this replay.
 pub record GivesAskedReplay (rows : Rows) (asked : AskedReplay) : Type 0 where
   pub schema : first_of (codes "schema") rows ≡ Some asked.schema
@@ -106,7 +132,8 @@ pub record GivesAskedServe (rows : Rows) (asked : AskedServe) : Type 0 where
   pub listen : first_of (codes "listen") rows ≡ Some asked.listen
   pub upstream : first_of (codes "upstream") rows ≡ Some asked.upstream
   pub target : IsTarget (first_of (codes "target") rows) asked.target
-  pub workers : IsWorkers (first_of (codes "workers") rows) asked.workers
+  pub journal : first_of (codes "journal") rows ≡ asked.journal
+  pub workers : IsWorkers (first_of (codes "journal") rows) (first_of (codes "workers") rows) asked.workers
   pub connections : IsConnections rows asked.connections
   pub waiting : IsWaiting (first_of (codes "idle") rows) asked.waiting
   pub stop : first_of (codes "stop") rows ≡ asked.stop
@@ -143,7 +170,12 @@ GivesPrice rows other = ⊥
 
 abbrev pub GivesExplain : Rows → Command → Type 0
 GivesExplain rows (Explain asked) = GivesAsked rows asked
+GivesExplain rows (ExplainSchema schema undeclared) = GivesSchemaAlone rows schema undeclared
 GivesExplain rows other = ⊥
+
+abbrev pub GivesAudit : Rows → Command → Type 0
+GivesAudit rows (Audit asked) = GivesAskedAudit rows asked
+GivesAudit rows other = ⊥
 
 -- They give this operation, and no size of lists that declare none.
 abbrev pub GivesIntrospect : Rows → Command → Type 0
@@ -187,6 +219,9 @@ AsksPrice words command = Reads price_app (λ rows. GivesPrice rows command) wor
 abbrev pub AsksExplain : List (List ℕ) → Command → Type 0
 AsksExplain words command = Reads explain_app (λ rows. GivesExplain rows command) words
 
+abbrev pub AsksAudit : List (List ℕ) → Command → Type 0
+AsksAudit words command = Reads audit_app (λ rows. GivesAudit rows command) words
+
 abbrev pub AsksIntrospect : List (List ℕ) → Command → Type 0
 AsksIntrospect words command = Reads introspect_app (λ rows. GivesIntrospect rows command) words
 
@@ -218,6 +253,8 @@ AsksAfter name words Version = (name ≡ codes "--version") × (words ≡ [])
 AsksAfter name words (Check schema) = (name ≡ codes "check") × AsksCheck words (Check schema)
 AsksAfter name words (Price asked) = (name ≡ codes "price") × AsksPrice words (Price asked)
 AsksAfter name words (Explain asked) = (name ≡ codes "explain") × AsksExplain words (Explain asked)
+AsksAfter name words (ExplainSchema schema undeclared) = (name ≡ codes "explain") × AsksExplain words (ExplainSchema schema undeclared)
+AsksAfter name words (Audit asked) = (name ≡ codes "audit") × AsksAudit words (Audit asked)
 AsksAfter name words (Introspect asked) = (name ≡ codes "introspect") × AsksIntrospect words (Introspect asked)
 AsksAfter name words (Worst asked part) = (name ≡ codes "worst") × AsksWorst words (Worst asked part)
 AsksAfter name words (Forward asked) = (name ≡ codes "forward") × AsksForward words (Forward asked)
@@ -232,9 +269,15 @@ abbrev pub Asks : List (List ℕ) → Command → Type 0
 Asks [] command = ⊥
 Asks (name ∷ words) command = AsksAfter name words command
 
--- A gateway that is to be served has 1 worker or more, with 1 connection or more each, within their limits.
+-- over a journal one worker serves
+abbrev pub ServesAlone : Option (List ℕ) → ℕ → Type 0
+ServesAlone None workers = ⊤
+ServesAlone (Some journal) workers = workers ≡ 1
+
+-- A gateway that is to be served has 1 worker or more, one over a journal, with 1 connection or more each, within their limits.
 abbrev pub ServesWithinLimits : Command → Type 0
 ServesWithinLimits (Serve asked) = (0 < asked.workers) × (asked.workers ≤ greatest_workers) × (0 < asked.connections) × (asked.connections ≤ endless_connections)
+    × ServesAlone asked.journal asked.workers
 ServesWithinLimits other = ⊤
 
 -- They ask for no command.

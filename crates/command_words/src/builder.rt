@@ -3,7 +3,7 @@
 ghost use Rattle.std.specs.Prelude.{◌≡◌, IfOk, false, codes};
 ghost use Rattle.clap.specs.Simple.{app_of, with_rule};
 ghost use Rattle.clap.specs.Walk.{rule_of};
-ghost use Rattle.command_words.specs.Apps.{with_files, with_options, with_gateway, with_serving, with_lasting, with_list, with_telling, check_app, price_app, explain_app, introspect_app, worst_app, forward_app, meter_app, replay_app, serve_app, exercise_app, migrate_app};
+ghost use Rattle.command_words.specs.Apps.{with_files, with_options, with_gateway, with_serving, with_lasting, with_list, with_telling, check_app, price_app, explain_app, audit_app, introspect_app, worst_app, forward_app, meter_app, replay_app, serve_app, exercise_app, migrate_app};
 
 use clap::{Arg, ArgAction, Command};
 use std::alloc::{AllocError, Global};
@@ -49,6 +49,30 @@ fn repeated_option<'a>(alloc: Global, id: &'a str) -> Arg<'a>
     ensures local { result.global ≡ false }
 {
     Arg::new(alloc, id).long(id).action(ArgAction::Append)
+}
+
+// A word that may stand.
+fn maybe_place<'a>(alloc: Global, id: &'a str) -> Arg<'a>
+    ensures rule { rule_of result ≡ Rattle.command_words.specs.Apps.maybe_place id.entry.now }
+    ensures local { result.global ≡ false }
+{
+    Arg::new(alloc, id).action(ArgAction::Set)
+}
+
+// Words that must stand, one or more, also on both sides of an option.
+fn places<'a>(alloc: Global, id: &'a str) -> Arg<'a>
+    ensures rule { rule_of result ≡ Rattle.command_words.specs.Apps.places id.entry.now }
+    ensures local { result.global ≡ false }
+{
+    place(alloc, id).num_args(1..).action(ArgAction::Append)
+}
+
+// `--` and this, with two values.
+fn pair_option<'a>(alloc: Global, id: &'a str) -> Arg<'a>
+    ensures rule { rule_of result ≡ Rattle.command_words.specs.Apps.pair_option id.entry.now }
+    ensures local { result.global ≡ false }
+{
+    option(alloc, id).num_args(2)
 }
 
 // A command without words so far.
@@ -165,7 +189,8 @@ fn with_lasting<'a>(alloc: Global, command: Command<'a>) -> Result<Command<'a>, 
 {
     let command = with_flag(alloc, command, "endless")?;
     let command = with_option(alloc, command, "idle")?;
-    with_option(alloc, command, "stop")
+    let command = with_option(alloc, command, "stop")?;
+    with_option(alloc, command, "journal")
 }
 
 // The list of trusted documents.
@@ -199,12 +224,24 @@ pub fn price_command<'a>(alloc: Global) -> Result<Command<'a>, AllocError>
     with_options(alloc, command)
 }
 
-/// `explain SCHEMA DOCUMENT`
+/// `explain SCHEMA`, and perhaps DOCUMENT
 pub fn explain_command<'a>(alloc: Global) -> Result<Command<'a>, AllocError>
     ensures { IfOk result (λ c. app_of c ≡ explain_app) }
 {
-    let command = with_files(alloc, top(alloc, "explain"))?;
+    let command = with_place(alloc, top(alloc, "explain"), "schema")?;
+    let command = with(command, maybe_place(alloc, "document"))?;
     with_options(alloc, command)
+}
+
+/// `audit SCHEMA DOCUMENT..`
+pub fn audit_command<'a>(alloc: Global) -> Result<Command<'a>, AllocError>
+    ensures { IfOk result (λ c. app_of c ≡ audit_app) }
+{
+    let command = with_place(alloc, top(alloc, "audit"), "schema")?;
+    let command = with(command, places(alloc, "documents"))?;
+    let command = with(command, pair_option(alloc, "most"))?;
+    let command = with_option(alloc, command, "unsized")?;
+    with(command, flag(alloc, "variables-none"))
 }
 
 /// `introspect SCHEMA DOCUMENT`

@@ -1,5 +1,6 @@
 //! The commands.
 
+use cost_num::Cost;
 use gql_base::Text;
 use response_model::Part;
 use std::alloc::AllocError;
@@ -39,6 +40,18 @@ pub struct Asked {
     pub undeclared: u32,
 }
 
+/// An audit of documents, by the names of their files.
+#[derive(Drop)]
+pub struct AskedAudit {
+    pub schema: Text,
+    /// The files of the documents, in the order in which they are told.
+    pub documents: Vec<Text>,
+    /// What an operation may cost at most in each part, where that is said.
+    pub most: Option<Cost>,
+    /// The size of lists that declare none.
+    pub undeclared: u32,
+}
+
 /// A list of trusted documents, by the name of its file.
 #[derive(Drop)]
 pub struct AskedList {
@@ -71,7 +84,9 @@ pub struct AskedServe {
     pub upstream: Text,
     /// The target of requests to the upstream.
     pub target: Text,
-    /// How many workers serve side by side.
+    /// The file of the journal of the clients' accounts, if they are to outlive the program.
+    pub journal: Option<Text>,
+    /// How many workers serve side by side: one over a journal.
     pub workers: u32,
     /// How many connections each worker serves.
     pub connections: u32,
@@ -102,6 +117,10 @@ pub enum Command {
     Price { asked: Asked },
     /// Says node by node why an operation costs what it costs at most, or why it is refused, and where.
     Explain { asked: Asked },
+    /// Says what surprises in a schema where lists that declare no size have this one, or why it is refused, and where.
+    ExplainSchema { schema: Text, undeclared: u32 },
+    /// Says of each operation of documents what it costs at most, or why it is refused.
+    Audit { asked: AskedAudit },
     /// Answers an operation from the schema itself, and says what that costs.
     Introspect { asked: Asked },
     /// Writes a response that costs as much as any in this part of the cost.

@@ -6,7 +6,8 @@ ghost use Rattle.command_words.specs.Words.{AsksAfter, Asks, ServesWithinLimits,
 
 use crate::command::{Command, WordsFault};
 use crate::words::commands::{
-    check, exercise, explain, forward, introspect, meter, migrate, price, replay, serve, worst,
+    audit, check, exercise, explain, forward, introspect, meter, migrate, price, replay, serve,
+    worst,
 };
 use gql_base::Text;
 use std::alloc::{AllocError, Global};
@@ -31,6 +32,7 @@ fn named_command<'a>(alloc: Global, name: &str, words: &'a [&'a str]) -> Result<
         "check" => check(alloc, words),
         "price" => price(alloc, words),
         "explain" => explain(alloc, words),
+        "audit" => audit(alloc, words),
         "introspect" => introspect(alloc, words),
         "worst" => worst(alloc, words),
         "forward" => forward(alloc, words),

@@ -1,19 +1,23 @@
 //! The commands, each by the words behind its name.
 
-ghost use Rattle.std.specs.Prelude.{◌≡◌, IfOk, Err, Some, codes, map, ℕ, List};
+ghost use Rattle.std.specs.Prelude.{◌≡◌, IfOk, Err, None, Some, codes, map, ℕ, List};
 ghost use Rattle.clap.specs.Walk.{rows_of, first_of};
 ghost use Rattle.clap.specs.Matches.{found_of};
 ghost use Rattle.response_model.specs.declared.part.Part.{Part as PartType};
 ghost use Rattle.command_words.specs.declared.command.Command.{Command as CommandType};
-ghost use Rattle.command_words.specs.Words.{GivesPart, GivesCheck, GivesPrice, GivesExplain, GivesIntrospect, GivesWorst, GivesForward, GivesMeter, GivesReplay, GivesServe, IsRequests, GivesExercise, GivesMigrate, AsksCheck, AsksPrice, AsksExplain, AsksIntrospect, AsksWorst, AsksForward, AsksMeter, AsksReplay, AsksServe, AsksExercise, AsksMigrate};
+ghost use Rattle.command_words.specs.Words.{GivesPart, GivesCheck, GivesPrice, GivesExplain, GivesAudit, GivesIntrospect, GivesWorst, GivesForward, GivesMeter, GivesReplay, GivesServe, IsRequests, GivesExercise, GivesMigrate, AsksCheck, AsksPrice, AsksExplain, AsksAudit, AsksIntrospect, AsksWorst, AsksForward, AsksMeter, AsksReplay, AsksServe, AsksExercise, AsksMigrate};
 
 use crate::builder::{
-    check_command, exercise_command, explain_command, forward_command, introspect_command,
-    meter_command, migrate_command, price_command, replay_command, serve_command, worst_command,
+    audit_command, check_command, exercise_command, explain_command, forward_command,
+    introspect_command, meter_command, migrate_command, price_command, replay_command,
+    serve_command, worst_command,
 };
 use crate::command::{Command, GREATEST_EXERCISE, WordsFault};
 use crate::number::number_of;
-use crate::words::asked::{asked_of, asked_replay_of, operation_of, place_text, place_word};
+use crate::words::asked::{
+    asked_of, asked_replay_of, operation_of, place_text, place_word, undeclared_of,
+};
+use crate::words::audits::asked_audit_of;
 use crate::words::matches::{matches_of, word_of};
 use crate::words::serving::asked_serve_of;
 use clap::ArgMatches;
@@ -70,18 +74,40 @@ pub fn price<'a>(alloc: Global, words: &'a [&'a str]) -> Result<Command, WordsFa
     }
 }
 
+// The explanation of a schema that words ask for, which give no document.
+fn explain_schema_of(alloc: Global, matches: &ArgMatches) -> Result<Command, WordsFault>
+    requires alone { first_of (codes "document") (rows_of (found_of matches.now)) ≡ None }
+    ensures found { IfOk result (GivesExplain (rows_of (found_of matches.now))) }
+    ensures usage { result ≡ Err WordsFault.Usage → (command : CommandType) → GivesExplain (rows_of (found_of matches.now)) command → ⊥ }
+{
+    if word_of(matches, "variables").is_some() || word_of(matches, "operation").is_some() {
+        return Err(WordsFault::Usage);
+    }
+    let undeclared = match undeclared_of(matches) {
+        Ok(undeclared) => undeclared,
+        Err(fault) => return Err(fault),
+    };
+    match place_text(alloc, matches, "schema") {
+        Ok(schema) => Ok(Command::ExplainSchema { schema, undeclared }),
+        Err(fault) => Err(fault),
+    }
+}
+
 // The explanation that words ask for.
 fn explain_of(alloc: Global, matches: &ArgMatches) -> Result<Command, WordsFault>
     ensures found { IfOk result (GivesExplain (rows_of (found_of matches.now))) }
     ensures usage { result ≡ Err WordsFault.Usage → (command : CommandType) → GivesExplain (rows_of (found_of matches.now)) command → ⊥ }
 {
+    if word_of(matches, "document").is_none() {
+        return explain_schema_of(alloc, matches);
+    }
     match asked_of(alloc, matches) {
         Ok(asked) => Ok(Command::Explain { asked }),
         Err(fault) => Err(fault),
     }
 }
 
-/// `explain SCHEMA DOCUMENT`
+/// `explain SCHEMA`, and perhaps DOCUMENT
 pub fn explain<'a>(alloc: Global, words: &'a [&'a str]) -> Result<Command, WordsFault>
     ensures found { IfOk result (AsksExplain (map (λ s. s.now) words.entry.now)) }
     ensures usage { result ≡ Err WordsFault.Usage → (command : CommandType) → AsksExplain (map (λ s. s.now) words.entry.now) command → ⊥ }
@@ -91,6 +117,31 @@ pub fn explain<'a>(alloc: Global, words: &'a [&'a str]) -> Result<Command, Words
     };
     match matches_of(command, words) {
         Ok(matches) => explain_of(alloc, &matches),
+        Err(fault) => Err(fault),
+    }
+}
+
+// The audit that words ask for.
+fn audit_of(alloc: Global, matches: &ArgMatches) -> Result<Command, WordsFault>
+    ensures found { IfOk result (GivesAudit (rows_of (found_of matches.now))) }
+    ensures usage { result ≡ Err WordsFault.Usage → (command : CommandType) → GivesAudit (rows_of (found_of matches.now)) command → ⊥ }
+{
+    match asked_audit_of(alloc, matches) {
+        Ok(asked) => Ok(Command::Audit { asked }),
+        Err(fault) => Err(fault),
+    }
+}
+
+/// `audit SCHEMA DOCUMENT..`
+pub fn audit<'a>(alloc: Global, words: &'a [&'a str]) -> Result<Command, WordsFault>
+    ensures found { IfOk result (AsksAudit (map (λ s. s.now) words.entry.now)) }
+    ensures usage { result ≡ Err WordsFault.Usage → (command : CommandType) → AsksAudit (map (λ s. s.now) words.entry.now) command → ⊥ }
+{
+    let Ok(command) = audit_command(alloc) else {
+        return Err(WordsFault::Memory);
+    };
+    match matches_of(command, words) {
+        Ok(matches) => audit_of(alloc, &matches),
         Err(fault) => Err(fault),
     }
 }

@@ -2,7 +2,7 @@
 
 ghost use Rattle.std.specs.Prelude.{◌≡◌, ◌↔◌, IfOk, Err, IsTrue, map, true, [], option_map};
 ghost use Rattle.clap.specs.Simple.{app_of, matches_of};
-ghost use Rattle.clap.specs.Walk.{rows_of, first_of};
+ghost use Rattle.clap.specs.Walk.{rows_of, first_of, all_of};
 ghost use Rattle.clap.specs.Matches.{found_of};
 ghost use Rattle.clap.specs.Faults.{fault_of, is_simple_and_free};
 ghost use Rattle.command_words.specs.Words.{Stands};
@@ -10,6 +10,8 @@ ghost use Rattle.command_words.specs.Words.{Stands};
 use crate::command::WordsFault;
 use clap::error::ErrorKind;
 use clap::{ArgMatches, Command};
+use gql_base::Text;
+use std::alloc::{AllocError, Global};
 
 /// What words give.
 pub fn matches_of<'a>(
@@ -38,6 +40,24 @@ pub fn word_of<'a>(matches: &ArgMatches<'a>, id: &str) -> Option<&'a str>
     ensures { option_map (λ s. s.now) result ≡ first_of id.now (rows_of (found_of matches.now)) }
 {
     matches.get_str(id)
+}
+
+/// The words of all uses of an option, or at a place of several; nothing, where there are none.
+pub fn words_of<'m, 'a>(matches: &'m ArgMatches<'a>, id: &str) -> Option<&'m [&'a str]>
+    ensures { option_map (λ s. map (λ v. v.now) s.now) result ≡ all_of id.now (rows_of (found_of matches.now)) }
+{
+    matches.get_strs(id)
+}
+
+/// Copies of words.
+pub fn copies_of(alloc: Global, words: &[&str]) -> Result<Vec<Text>, AllocError>
+    ensures { IfOk result (λ texts. texts.items ≡ map (λ s. s.now) words.now) }
+{
+    let mut texts = Vec::new(alloc);
+    'words: for word in words {
+        texts.push(Text::copy_of(alloc, word)?)?;
+    }
+    Ok(texts)
 }
 
 /// Whether a flag stands.

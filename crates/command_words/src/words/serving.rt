@@ -15,7 +15,7 @@ use crate::command::{
 };
 use crate::number::number_of;
 use crate::words::asked::{list_of, option_text, place_text, undeclared_of};
-use crate::words::matches::{stands, word_of};
+use crate::words::matches::{copies_of, stands, word_of};
 use clap::ArgMatches;
 use gql_base::Text;
 use http_front::may_be_passed;
@@ -46,12 +46,26 @@ fn count_of(matches: &ArgMatches, id: &str, greatest: u32, usual: u32) -> Result
     }
 }
 
+// Over a journal one worker serves, and no number is given.
+fn only_worker(matches: &ArgMatches) -> Result<u32, WordsFault>
+    ensures found { IfOk result (λ n. (first_of (codes "workers") (rows_of (found_of matches.now)) ≡ None) × (n ≡ 1)) }
+    ensures usage { result ≡ Err WordsFault.Usage → first_of (codes "workers") (rows_of (found_of matches.now)) ≡ None → ⊥ }
+{
+    match word_of(matches, "workers") {
+        Some(_) => Err(WordsFault::Usage),
+        None => Ok(1),
+    }
+}
+
 // How many workers serve.
 fn workers_of(matches: &ArgMatches) -> Result<u32, WordsFault>
-    ensures found { IfOk result (IsWorkers (first_of (codes "workers") (rows_of (found_of matches.now)))) }
-    ensures usage { result ≡ Err WordsFault.Usage → (n : ℕ) → IsWorkers (first_of (codes "workers") (rows_of (found_of matches.now))) n → ⊥ }
+    ensures found { IfOk result (IsWorkers (first_of (codes "journal") (rows_of (found_of matches.now))) (first_of (codes "workers") (rows_of (found_of matches.now)))) }
+    ensures usage { result ≡ Err WordsFault.Usage → (n : ℕ) → IsWorkers (first_of (codes "journal") (rows_of (found_of matches.now))) (first_of (codes "workers") (rows_of (found_of matches.now))) n → ⊥ }
 {
-    count_of(matches, "workers", GREATEST_WORKERS, WORKERS)
+    match word_of(matches, "journal") {
+        Some(_) => only_worker(matches),
+        None => count_of(matches, "workers", GREATEST_WORKERS, WORKERS),
+    }
 }
 
 // Without an end no number is given.
@@ -104,17 +118,6 @@ fn may_all_be_passed(names: &[&str]) -> bool
     true
 }
 
-// Copies of words.
-fn copies_of(alloc: Global, words: &[&str]) -> Result<Vec<Text>, AllocError>
-    ensures { IfOk result (λ texts. texts.items ≡ map (λ s. s.now) words.now) }
-{
-    let mut texts = Vec::new(alloc);
-    'words: for word in words {
-        texts.push(Text::copy_of(alloc, word)?)?;
-    }
-    Ok(texts)
-}
-
 // The names of the fields that are passed on, by the words that give them.
 fn names_of(alloc: Global, words: &[&str]) -> Result<Vec<Text>, WordsFault>
     ensures found { IfOk result (λ names. ArePassed (map (λ s. s.now) words.now) names.items) }
@@ -157,12 +160,14 @@ pub fn asked_serve_of(alloc: Global, matches: &ArgMatches) -> Result<AskedServe,
     let undeclared = undeclared_of(matches)?;
     let target = target_of(alloc, matches)?;
     let stop = option_text(alloc, matches, "stop")?;
+    let journal = option_text(alloc, matches, "journal")?;
     Ok(AskedServe {
         schema,
         clients,
         listen,
         upstream,
         target,
+        journal,
         workers,
         connections,
         waiting,

@@ -8,4 +8,5 @@ pub returns : goal.returns
 returns c =
     let one = c.in_ok-command.ensures in
     let two = c.in_ok-command-2.ensures ∙ ap (λ a. with_rule a (option (codes "idle"))) one in
-    IfOk-weaker c.with_option-2.result _ _ (λ r h. h ∙ ap (λ a. with_rule a (option (codes "stop"))) two) c.with_option-2.ensures
+    let three = c.in_ok-command-3.ensures ∙ ap (λ a. with_rule a (option (codes "stop"))) two in
+    IfOk-weaker c.with_option-3.result _ _ (λ r h. h ∙ ap (λ a. with_rule a (option (codes "journal"))) three) c.with_option-3.ensures

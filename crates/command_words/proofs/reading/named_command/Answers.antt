@@ -1,5 +1,5 @@
 -- The first word names one command.
-use Rattle.command_words.proofs.Names.{only_check, only_price, only_explain, only_introspect, only_worst, only_forward, only_meter, only_replay, only_serve, only_exercise, only_migrate}
+use Rattle.command_words.proofs.Names.{only_check, only_price, only_explain, only_audit, only_introspect, only_worst, only_forward, only_meter, only_replay, only_serve, only_exercise, only_migrate}
 use Rattle.command_words.proofs.reading.named_command.Goals as goal
 
 pub returns-in-check-clause-usage : goal.returns-in-check-clause-usage
@@ -10,6 +10,9 @@ returns-in-price-clause-usage c = λ failed command. only_price c.args.name.now 
 
 pub returns-in-explain-clause-usage : goal.returns-in-explain-clause-usage
 returns-in-explain-clause-usage c = λ failed command. only_explain c.args.name.now _ command c.in-explain.is (c.explain.ensures.usage failed command)
+
+pub returns-in-audit-clause-usage : goal.returns-in-audit-clause-usage
+returns-in-audit-clause-usage c = λ failed command. only_audit c.args.name.now _ command c.in-audit.is (c.audit.ensures.usage failed command)
 
 pub returns-in-introspect-clause-usage : goal.returns-in-introspect-clause-usage
 returns-in-introspect-clause-usage c = λ failed command. only_introspect c.args.name.now _ command c.in-introspect.is (c.introspect.ensures.usage failed command)
