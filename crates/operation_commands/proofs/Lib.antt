@@ -6,3 +6,9 @@ mod OnePrice
 mod OneMeasure
 mod OperationLines
 mod TabledPlans
+mod ToldSpots
+mod AuditWalks
+mod AuditedPrices
+mod AuditTotals
+mod ReadDocuments
+mod Verdicts

@@ -21,7 +21,7 @@ use Rattle.operation_commands.specs.declared.own_answers.OwnRefusal.{OwnRefusal}
 use Rattle.operation_commands.specs.Asked.{HoldTexts, HaveNoTexts, HoldInputs, request_in}
 use Rattle.operation_commands.specs.OwnAnswers.{own_text}
 use Rattle.operation_commands.specs.Price.{IsPriceRefusal}
-use Rattle.operation_commands.specs.Places.{spot_in}
+use Rattle.operation_commands.specs.Places.{IsSpotIn}
 
 -- what is said of an operation that asks for the schema
 abbrev pub own_price_text : Cost → List ℕ
@@ -41,15 +41,20 @@ IsExplainedAs texts r text = (GoesUpstream r.name r.document × TablesPlan r tex
 abbrev pub IsExplained : Asked → AskedTexts → List ℕ → Type 0
 IsExplained asked texts text = (inputs : Inputs) × HoldInputs asked texts inputs × IsExplainedAs texts (request_in asked inputs) text
 
--- It was refused with this line, and where it is was told; or there was no memory.
-abbrev pub IsRefusedTelling : List ℕ → Option Spot → Outcome → Type 0
-IsRefusedTelling line spot (Refused told) = Tells line spot told
-IsRefusedTelling line spot Memory = Unit {0}
-IsRefusedTelling line spot other = ⊥
+-- It was refused with this line, and told where it is; or there was no memory.
+abbrev pub IsRefusedTelling : List ℕ → (Option Spot → Type 0) → Outcome → Type 0
+IsRefusedTelling line IsSpot (Refused told) = (spot : Option Spot) × IsSpot spot × Tells line spot told
+IsRefusedTelling line IsSpot Memory = Unit {0}
+IsRefusedTelling line IsSpot other = ⊥
+
+-- What was refused before its texts were looked at is told with what helps; any other outcome is told as it is.
+abbrev pub TellsUnread : Outcome → Outcome → Type 0
+TellsUnread (Refused line) told = IsRefusedTelling line (λ spot. spot ≡ None) told
+TellsUnread unread told = told ≡ unread
 
 -- It has no price, and the text tells why, and where.
 abbrev pub IsExplainRefused : Asked → AskedTexts → Outcome → Type 0
-IsExplainRefused asked texts outcome = (r : OwnRefusal) × IsPriceRefusal asked texts r × IsRefusedTelling (own_text asked r) (spot_in texts r) outcome
+IsExplainRefused asked texts outcome = (r : OwnRefusal) × IsPriceRefusal asked texts r × IsRefusedTelling (own_text asked r) (IsSpotIn texts r) outcome
 
 -- By the texts: its price is explained, or it is told why it has none, or there was no memory.
 abbrev pub ExplainOf : Asked → AskedTexts → Outcome → Type 0
@@ -59,5 +64,5 @@ ExplainOf asked texts outcome = (outcome ≡ Memory)
 
 -- The files hold no texts, as for a price; or they do, and came to that, and none failed.
 abbrev pub ExplainCameTo : Asked → FilesTold → Outcome → Type 0
-ExplainCameTo asked files outcome = HaveNoTexts asked files outcome
+ExplainCameTo asked files outcome = ((unread : Outcome) × HaveNoTexts asked files unread × TellsUnread unread outcome)
     ⊎ ((texts : AskedTexts) × HoldTexts asked files.content texts × ExplainOf asked texts outcome × NoFileFailed files)

@@ -3,6 +3,8 @@ pub mod OwnAnswers
 pub mod Price
 pub mod Places
 pub mod Explain
+pub mod Audit
+pub mod ExplainSchema
 pub mod Introspect
 pub mod Worst
 pub mod Forward

@@ -1,5 +1,5 @@
 -- Where a refusal is: in which text, and at which byte.
-use Rattle.std.specs.Prelude.{ℕ, List, option_map, Option, None, Some}
+use Rattle.std.specs.Prelude.{◌≡◌, ℕ, List, option_map, Option, None, Some}
 use Rattle.gql_base.specs.declared.lexical.lexing.LexFault.{LexFault}
 use Rattle.gql_base.specs.declared.lexical.lexing.LexFault.TheVariants as lexical
 use Rattle.document_reader.specs.declared.document.DocFault.{DocFault}
@@ -13,7 +13,12 @@ use Rattle.acceptance.specs.declared.fault.Refusal.TheVariants.{Document, Rule}
 use Rattle.local_introspection.specs.declared.fault.LocalFault.{LocalFault}
 use Rattle.local_introspection.specs.declared.fault.LocalFault.TheVariants as own
 use Rattle.command_outcomes.specs.declared.checked.SchemaRefusal.{SchemaRefusal}
-use Rattle.command_outcomes.specs.declared.checked.SchemaRefusal.TheVariants.{NoSchemaText}
+use Rattle.command_outcomes.specs.declared.checked.SchemaRefusal.TheVariants.{NoSchemaText, Fails, Misuses}
+use Rattle.schema_model.specs.declared.fault.SchemaFault.{SchemaFault}
+use Rattle.schema_model.specs.declared.fault.SchemaFault.TheVariants as fault
+use Rattle.cost_directives.specs.declared.fault.DirectiveFault.{DirectiveFault}
+use Rattle.cost_directives.specs.declared.fault.DirectiveFault.TheVariants as misuse
+use Rattle.definition_places.specs.Sites.{IsDefinedAt}
 use Rattle.told_refusals.specs.Told.{Spot}
 use Rattle.operation_commands.specs.declared.asked.AskedTexts.{AskedTexts}
 use Rattle.operation_commands.specs.declared.asking.AskedRefusal.{AskedRefusal}
@@ -57,21 +62,53 @@ own_at (own.Mixed at) = Some at
 own_at (own.Rule fault) = rule_at fault
 own_at other = None
 
--- in the text of the schema
-abbrev pub schema_at : SchemaRefusal → Option ℕ
-schema_at (NoSchemaText fault) = schema_text_at fault
-schema_at other = None
+-- What is wrong with a schema is told of this thing. Of a name that stands twice the first isn't shown.
+abbrev pub fault_place : SchemaFault → Option (List ℕ)
+fault_place (fault.Reserved place) = Some place
+fault_place (fault.WrongKind place) = Some place
+fault_place (fault.FloatScalar place) = Some place
+fault_place (fault.NestedList place) = Some place
+fault_place (fault.EmptyType name) = Some name
+fault_place (fault.NotImplemented place) = Some place
+fault_place (fault.BadDirective place) = Some place
+fault_place (fault.BadDefault place) = Some place
+fault_place other = None
+
+-- what is wrong with its cost directives, of this
+abbrev pub misuse_place : DirectiveFault → Option (List ℕ)
+misuse_place (misuse.Weight place weight) = Some place
+misuse_place (misuse.NotAList place) = Some place
+misuse_place (misuse.Dotted place) = Some place
+misuse_place (misuse.SlicingUnknown place name) = Some place
+misuse_place (misuse.SlicingNotInt place name) = Some place
+misuse_place (misuse.SizedOnList place) = Some place
+misuse_place (misuse.SizedUnknown place name) = Some place
+misuse_place (misuse.NegativeSize place) = Some place
+misuse_place (misuse.Disagree place) = Some place
+misuse_place misuse.Memory = None
 
 abbrev pub spot_at : List ℕ → Option ℕ → Option Spot
 spot_at text at = option_map (λ offset. (text, offset)) at
 
-abbrev pub asked_spot : AskedTexts → AskedRefusal → Option Spot
-asked_spot texts (NoSchema refusal) = spot_at texts.schema (schema_at refusal)
-asked_spot texts (NoOperation refusal) = spot_at texts.document (refusal_at refusal)
-asked_spot texts other = None
+-- It is where the thing with this place is defined, if that is told and the text defines it.
+abbrev pub IsSite : List ℕ → Option (List ℕ) → Option Spot → Type 0
+IsSite text None spot = spot ≡ None
+IsSite text (Some place) spot = (at : Option ℕ) × IsDefinedAt text place at × (spot ≡ spot_at text at)
 
--- where a refusal is in the texts of an operation's files, if it names a byte
-abbrev pub spot_in : AskedTexts → OwnRefusal → Option Spot
-spot_in texts (refusal.Asked r) = asked_spot texts r
-spot_in texts (refusal.NotAnswered fault) = spot_at texts.document (own_at fault)
-spot_in texts refusal.NotLocal = None
+-- where a refusal of a schema is in its text: the byte that it names, or the thing
+abbrev pub IsSchemaSpot : List ℕ → SchemaRefusal → Option Spot → Type 0
+IsSchemaSpot text (NoSchemaText fault) spot = spot ≡ spot_at text (schema_text_at fault)
+IsSchemaSpot text (Fails fault) spot = IsSite text (fault_place fault) spot
+IsSchemaSpot text (Misuses fault) spot = IsSite text (misuse_place fault) spot
+IsSchemaSpot text other spot = spot ≡ None
+
+abbrev pub IsAskedSpot : AskedTexts → AskedRefusal → Option Spot → Type 0
+IsAskedSpot texts (NoSchema refusal) spot = IsSchemaSpot texts.schema refusal spot
+IsAskedSpot texts (NoOperation refusal) spot = spot ≡ spot_at texts.document (refusal_at refusal)
+IsAskedSpot texts other spot = spot ≡ None
+
+-- where a refusal is in the texts of an operation's files, if it names a byte or a thing
+abbrev pub IsSpotIn : AskedTexts → OwnRefusal → Option Spot → Type 0
+IsSpotIn texts (refusal.Asked r) spot = IsAskedSpot texts r spot
+IsSpotIn texts (refusal.NotAnswered fault) spot = spot ≡ spot_at texts.document (own_at fault)
+IsSpotIn texts refusal.NotLocal spot = spot ≡ None

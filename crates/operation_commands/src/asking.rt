@@ -110,8 +110,8 @@ fn given_in(alloc: Global, text: &Option<Text>) -> Result<Value, AskedFault>
     }
 }
 
-// The document of a text.
-fn document_in(alloc: Global, text: &str) -> Result<Document, AskedFault>
+/// The document of a text.
+pub(crate) fn document_in(alloc: Global, text: &str) -> Result<Document, AskedFault>
     ensures held { IfOk result (IsDocumentOf text.now) }
     ensures refused { IfErr result (λ fault. IfAskedRefused fault (IsUnreadIn text.now)) }
 {

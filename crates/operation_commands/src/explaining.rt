@@ -1,16 +1,16 @@
 //! The command `explain SCHEMA DOCUMENT`.
 
-ghost use Rattle.std.specs.Prelude.{◌≡◌, ◌≤◌, IfOk, IfErr};
+ghost use Rattle.std.specs.Prelude.{◌≡◌, ◌≤◌, IfOk, IfErr, Option};
 ghost use Rattle.acceptance.specs.Requests.{request_data, IsOfSchema};
 ghost use Rattle.static_cost.specs.CostBound.{IsWithin};
-ghost use Rattle.told_refusals.specs.Told.{spot_seen};
+ghost use Rattle.told_refusals.specs.Told.{Spot, spot_seen};
 ghost use Rattle.command_outcomes.specs.Reading.{IsText};
 ghost use Rattle.command_outcomes.specs.Outcomes.{files_told};
 ghost use Rattle.operation_commands.specs.Asked.{request_in};
 ghost use Rattle.operation_commands.specs.OwnAnswers.{IfOwnRefused, own_text};
 ghost use Rattle.operation_commands.specs.Price.{IsNoPriceOf, IsUnpricedAs, IsPriceRefusal};
-ghost use Rattle.operation_commands.specs.Places.{spot_in};
-ghost use Rattle.operation_commands.specs.Explain.{own_price_text, TablesPlan, IsExplainedAs, IsExplained, IsRefusedTelling, ExplainOf, ExplainCameTo};
+ghost use Rattle.operation_commands.specs.Places.{IsSpotIn};
+ghost use Rattle.operation_commands.specs.Explain.{own_price_text, TablesPlan, IsExplainedAs, IsExplained, IsRefusedTelling, TellsUnread, ExplainOf, ExplainCameTo};
 
 use crate::asked::{AskedTexts, read_asked};
 use crate::asking::{inputs_in, request_of};
@@ -90,13 +90,23 @@ fn explanation_in(alloc: Global, asked: &Asked, texts: &AskedTexts) -> Result<Ve
     }
 }
 
-// The outcome of a refusal with this line, and what is told of it.
-fn refused_telling(alloc: Global, line: &Text, place: Option<Place<'_>>) -> Outcome
-    ensures { IsRefusedTelling line.now (spot_seen place.entry) result }
+/// The outcome of a refusal with this line, and what is told of it.
+pub(crate) fn refused_telling(alloc: Global, line: &Text, place: Option<Place<'_>>) -> Outcome
+    ensures { IsRefusedTelling line.now (λ spot. spot ≡ spot_seen place.entry) result }
 {
     match told_refusal(alloc, line.as_str(), place) {
         Ok(told) => Outcome::Refused(Text::from(told)),
         Err(AllocError) => Outcome::Memory,
+    }
+}
+
+/// An outcome as it is told where files hold no texts.
+pub(crate) fn told_unread(alloc: Global, outcome: Outcome) -> Outcome
+    ensures { TellsUnread outcome result }
+{
+    match outcome {
+        Outcome::Refused(line) => refused_telling(alloc, &line, None),
+        other => other,
     }
 }
 
@@ -107,9 +117,11 @@ fn refused_explaining(
     texts: &AskedTexts,
     refusal: OwnRefusal,
 ) -> Outcome
-    ensures { IsRefusedTelling (own_text asked.now refusal) (spot_in texts.now refusal) result }
+    ensures { IsRefusedTelling (own_text asked.now refusal) (IsSpotIn texts.now refusal) result }
 {
-    let place = place_of(texts, &refusal);
+    let Ok(place) = place_of(alloc, texts, &refusal) else {
+        return Outcome::Memory;
+    };
     match refused_own(alloc, asked, refusal) {
         Outcome::Refused(line) => refused_telling(alloc, &line, place),
         _ => Outcome::Memory,
@@ -134,6 +146,6 @@ pub fn explain<F: Files>(alloc: Global, asked: &Asked, files: &mut F) -> Outcome
 {
     match read_asked(alloc, asked, files) {
         Ok(texts) => explain_texts(alloc, asked, &texts),
-        Err(outcome) => outcome,
+        Err(outcome) => told_unread(alloc, outcome),
     }
 }

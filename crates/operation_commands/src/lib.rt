@@ -4,8 +4,11 @@
 
 mod asked;
 mod asking;
+mod auditing;
 mod explaining;
+mod explaining_schemas;
 mod filling;
+mod findings;
 mod forwarding;
 mod introspecting;
 mod meter_laws;
@@ -16,7 +19,9 @@ mod price_laws;
 mod pricing;
 mod reply_texts;
 
+pub use auditing::audit;
 pub use explaining::explain;
+pub use explaining_schemas::explain_schema;
 pub use filling::worst;
 pub use forwarding::forward;
 pub use introspecting::introspect;

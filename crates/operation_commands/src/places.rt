@@ -1,19 +1,23 @@
 //! Where a refusal is: in which text, and at which byte.
 
-ghost use Rattle.std.specs.Prelude.{◌≡◌};
+ghost use Rattle.std.specs.Prelude.{◌≡◌, IfOk, option_map};
 ghost use Rattle.told_refusals.specs.Told.{spot_seen};
-ghost use Rattle.operation_commands.specs.Places.{lexical_at, document_at, schema_text_at, rule_at, refusal_at, own_at, schema_at, spot_at, asked_spot, spot_in};
+ghost use Rattle.operation_commands.specs.Places.{lexical_at, document_at, schema_text_at, rule_at, refusal_at, own_at, fault_place, misuse_place, spot_at, IsSite, IsSchemaSpot, IsAskedSpot, IsSpotIn};
 
 use crate::asked::AskedTexts;
 use crate::asking::AskedRefusal;
 use crate::own_answers::OwnRefusal;
 use acceptance::Refusal;
 use command_outcomes::SchemaRefusal;
+use cost_directives::DirectiveFault;
+use definition_places::defined_at;
 use document_reader::DocFault;
 use document_rules::RuleFault;
 use gql_base::{LexFault, Text};
 use local_introspection::LocalFault;
+use schema_model::SchemaFault;
 use schema_reader::SchemaTextFault;
+use std::alloc::{AllocError, Global};
 use told_refusals::Place;
 
 fn lexical_at(fault: LexFault) -> Option<usize>
@@ -82,13 +86,38 @@ fn own_at(fault: &LocalFault) -> Option<usize>
     }
 }
 
-/// The byte of a schema that a refusal names.
-fn schema_at(refusal: &SchemaRefusal) -> Option<usize>
-    ensures { result ≡ schema_at refusal.now }
+/// The thing of a schema of which it is told what is wrong.
+fn fault_place(fault: &SchemaFault) -> Option<&Text>
+    ensures { option_map (λ place. place.now) result ≡ fault_place fault.now }
 {
-    match refusal {
-        SchemaRefusal::NoSchemaText(fault) => schema_text_at(*fault),
+    match fault {
+        SchemaFault::Reserved { place }
+        | SchemaFault::WrongKind { place }
+        | SchemaFault::FloatScalar { place }
+        | SchemaFault::NestedList { place }
+        | SchemaFault::EmptyType { name: place }
+        | SchemaFault::NotImplemented { place }
+        | SchemaFault::BadDirective { place }
+        | SchemaFault::BadDefault { place } => Some(place),
         _ => None,
+    }
+}
+
+/// The thing of a schema whose cost directives are wrong.
+fn misuse_place(fault: &DirectiveFault) -> Option<&Text>
+    ensures { option_map (λ place. place.now) result ≡ misuse_place fault.now }
+{
+    match fault {
+        DirectiveFault::Weight { place, .. }
+        | DirectiveFault::NotAList { place }
+        | DirectiveFault::Dotted { place }
+        | DirectiveFault::SlicingUnknown { place, .. }
+        | DirectiveFault::SlicingNotInt { place, .. }
+        | DirectiveFault::SizedOnList { place }
+        | DirectiveFault::SizedUnknown { place, .. }
+        | DirectiveFault::NegativeSize { place }
+        | DirectiveFault::Disagree { place } => Some(place),
+        DirectiveFault::Memory => None,
     }
 }
 
@@ -105,23 +134,65 @@ fn place_at(text: &Text, at: Option<usize>) -> Option<Place<'_>>
     }
 }
 
-fn asked_place<'a>(texts: &'a AskedTexts, refusal: &AskedRefusal) -> Option<Place<'a>>
-    ensures { spot_seen result ≡ asked_spot texts.now refusal.now }
+/// Where the thing with a place is defined in a text, if that is told and the text defines it.
+fn site_in<'a>(
+    alloc: Global,
+    text: &'a Text,
+    place: Option<&Text>,
+) -> Result<Option<Place<'a>>, AllocError>
+    ensures { IfOk result (λ p. IsSite text.now (option_map (λ name. name.now) place.entry) (spot_seen p)) }
 {
-    match refusal {
-        AskedRefusal::NoSchema(refusal) => place_at(&texts.schema, schema_at(refusal)),
-        AskedRefusal::NoOperation(refusal) => place_at(&texts.document, refusal_at(refusal)),
-        _ => None,
+    match place {
+        Some(place) => Ok(place_at(text, defined_at(alloc, text.as_str(), place.as_str())?)),
+        None => Ok(None),
     }
 }
 
-/// Where a refusal is in the texts of an operation's files, if it names a byte.
-pub(crate) fn place_of<'a>(texts: &'a AskedTexts, refusal: &OwnRefusal) -> Option<Place<'a>>
-    ensures { spot_seen result ≡ spot_in texts.now refusal.now }
+/// Where a refusal of a schema is in its text, if it names a byte or a thing.
+pub(crate) fn schema_place<'a>(
+    alloc: Global,
+    text: &'a Text,
+    refusal: &SchemaRefusal,
+) -> Result<Option<Place<'a>>, AllocError>
+    ensures { IfOk result (λ p. IsSchemaSpot text.now refusal.now (spot_seen p)) }
 {
     match refusal {
-        OwnRefusal::Asked(refusal) => asked_place(texts, refusal),
-        OwnRefusal::NotAnswered(fault) => place_at(&texts.document, own_at(fault)),
-        OwnRefusal::NotLocal => None,
+        SchemaRefusal::NoSchemaText(fault) => Ok(place_at(text, schema_text_at(*fault))),
+        SchemaRefusal::Fails(fault) => site_in(alloc, text, fault_place(fault)),
+        SchemaRefusal::Misuses(fault) => site_in(alloc, text, misuse_place(fault)),
+        _ => Ok(None),
+    }
+}
+
+fn asked_place<'a>(
+    alloc: Global,
+    texts: &'a AskedTexts,
+    refusal: &AskedRefusal,
+) -> Result<Option<Place<'a>>, AllocError>
+    ensures { IfOk result (λ p. IsAskedSpot texts.now refusal.now (spot_seen p)) }
+{
+    match refusal {
+        AskedRefusal::NoSchema(refusal) => schema_place(alloc, &texts.schema, refusal),
+        AskedRefusal::NoOperation(refusal) => Ok(place_at(&texts.document, refusal_at(refusal))),
+        _ => Ok(None),
+    }
+}
+
+/// Where a refusal is in the texts of an operation's files, if it names a byte or a thing.
+///
+/// # Errors
+///
+/// `AllocError` where there was not enough memory.
+pub(crate) fn place_of<'a>(
+    alloc: Global,
+    texts: &'a AskedTexts,
+    refusal: &OwnRefusal,
+) -> Result<Option<Place<'a>>, AllocError>
+    ensures { IfOk result (λ p. IsSpotIn texts.now refusal.now (spot_seen p)) }
+{
+    match refusal {
+        OwnRefusal::Asked(refusal) => asked_place(alloc, texts, refusal),
+        OwnRefusal::NotAnswered(fault) => Ok(place_at(&texts.document, own_at(fault))),
+        OwnRefusal::NotLocal => Ok(None),
     }
 }

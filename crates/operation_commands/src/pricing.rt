@@ -104,8 +104,12 @@ fn upstream_price(alloc: Global, request: &Request) -> Result<Cost, OwnFault>
     }
 }
 
-// What a request costs: its bound, or what it is answered for from the schema itself.
-fn price_of(alloc: Global, texts: &AskedTexts, request: &Request) -> Result<Cost, OwnFault>
+/// What a request costs: its bound, or what it is answered for from the schema itself.
+pub(crate) fn price_of(
+    alloc: Global,
+    texts: &AskedTexts,
+    request: &Request,
+) -> Result<Cost, OwnFault>
     requires text { IsText SCHEMA_LIMIT texts.now.schema }
     requires of_schema { IsOfSchema (request_data request.now) }
     ensures price { IfOk result (IsPricedAs texts.now (request_data request.now)) }

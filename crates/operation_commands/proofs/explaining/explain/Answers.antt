@@ -5,4 +5,4 @@ pub returns-in-Ok : goal.returns-in-Ok
 returns-in-Ok g c = inr (c.in-Ok.texts, c.in-Ok.ensures.held, c.explain_texts.ensures, c.in-Ok.ensures.still)
 
 pub returns-in-Err : goal.returns-in-Err
-returns-in-Err g c = inl c.in-Err.ensures.none
+returns-in-Err g c = inl (c.in-Err.outcome, c.in-Err.ensures.none, c.told_unread.ensures)

@@ -1,0 +1,8 @@
+use Rattle.std.proofs.Common.{inl, inr}
+use Rattle.operation_commands.proofs.explaining_schemas.explain_schema.Goals as goal
+
+pub returns-in-Ok : goal.returns-in-Ok
+returns-in-Ok g c = inr (c.in-Ok.text, c.in-Ok.ensures.held, c.explain_schema_text.ensures, c.in-Ok.ensures.still)
+
+pub returns-in-Err : goal.returns-in-Err
+returns-in-Err g c = inl (c.in-Err.outcome, c.in-Err.ensures.none, c.told_unread.ensures)
