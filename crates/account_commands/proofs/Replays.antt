@@ -1,5 +1,5 @@
 -- Replays over fresh accounts: what their clients' accounts come to, and how that is written.
-use Rattle.std.proofs.Common.{◌≡◌, ◌≤◌, ◌<◌, ◌⊎◌, inl, inr, ◌∙◌, refl, sym, ap, ap₂, subst, ℕ, zero, suc, ◌+◌, List, [], ◌∷◌, ◌++◌, length, map, get_or, take, append_assoc, arith}
+use Rattle.std.proofs.Common.{◌≡◌, ◌≤◌, ◌<◌, ◌⊎◌, inl, inr, ◌∙◌, refl, sym, ap, ap₂, subst, ℕ, zero, suc, ◌+◌, List, [], ◌∷◌, ◌++◌, length, map, min, get_or, take, append_assoc, arith}
 use Rattle.std.proofs.lemmas.List.{append-nil, length-map}
 use Rattle.std.proofs.Math.Nat.{min-le_left}
 use Rattle.cost_num.specs.declared.Cost.{Cost}
@@ -102,25 +102,34 @@ ends_line front (client ∷ next ∷ clients) (account ∷ accounts) same some =
     (later.0, sym (append_assoc front (line (client_text client account)) (client_lines (next ∷ clients) accounts)) ∙ later.1)
 
 -- the lines of the first clients, and of one more
-pub one_more : (clients : List Client) (accounts : List Account) (k : ℕ) (client : Client) (account : Account) → k < length clients → length accounts ≡ length clients
+pub one_more : (clients : List Client) (accounts : List Account) (k : ℕ) (client : Client) (account : Account) → k < length clients → k < length accounts
     → client ≡ get_or clients k client → account ≡ get_or accounts k account → client_lines (take (k + 1) clients) (take (k + 1) accounts) ≡ client_lines (take k clients) (take k accounts) ++ line (client_text client account)
-one_more [] accounts k client account low same is_client is_account = absurd (omega (arith, low))
-one_more (c ∷ cs) [] k client account low same is_client is_account = absurd (omega (arith, same))
-one_more (c ∷ cs) (a ∷ rest) zero client account low same is_client is_account = ap₂ (λ x y. line (client_text x y) ++ []) (sym is_client) (sym is_account) ∙ append-nil (line (client_text client account))
-one_more (c ∷ cs) (a ∷ rest) (suc k) client account low same is_client is_account =
+one_more [] accounts k client account low also is_client is_account = absurd (omega (arith, low))
+one_more (c ∷ cs) [] k client account low also is_client is_account = absurd (omega (arith, also))
+one_more (c ∷ cs) (a ∷ rest) zero client account low also is_client is_account = ap₂ (λ x y. line (client_text x y) ++ []) (sym is_client) (sym is_account) ∙ append-nil (line (client_text client account))
+one_more (c ∷ cs) (a ∷ rest) (suc k) client account low also is_client is_account =
     let counted : suc (k + 1) ≡ suc k + 1 = omega (arith) in
     subst (λ n. client_lines (take n (c ∷ cs)) (take n (a ∷ rest)) ≡ client_lines (take (suc k) (c ∷ cs)) (take (suc k) (a ∷ rest)) ++ line (client_text client account)) counted
-    (ap (λ text. line (client_text c a) ++ text) (one_more cs rest k client account (omega (arith, low)) (omega (arith, same)) is_client is_account)
+    (ap (λ text. line (client_text c a) ++ text) (one_more cs rest k client account (omega (arith, low)) (omega (arith, also)) is_client is_account)
     ∙ sym (append_assoc (line (client_text c a)) (client_lines (take k cs) (take k rest)) (line (client_text client account))))
 
 -- the lines that were written so far, and one more
-pub one_line_more : (clients : List Client) (accounts : List Account) (k : ℕ) (client : Client) (account : Account) (front so_far new : List ℕ) → k < length clients → length accounts ≡ length clients
+pub one_line_more : (clients : List Client) (accounts : List Account) (k : ℕ) (client : Client) (account : Account) (front so_far new : List ℕ) → k < length clients → k < length accounts
     → client ≡ get_or clients k client → account ≡ get_or accounts k account → so_far ≡ front ++ client_lines (take k clients) (take k accounts) → new ≡ so_far ++ line (client_text client account)
     → new ≡ front ++ client_lines (take (k + 1) clients) (take (k + 1) accounts)
-one_line_more clients accounts k client account front so_far new low same is_client is_account before added =
+one_line_more clients accounts k client account front so_far new low also is_client is_account before added =
     added ∙ (ap (λ text. text ++ line (client_text client account)) before
     ∙ (append_assoc front (client_lines (take k clients) (take k accounts)) (line (client_text client account))
-    ∙ ap (λ text. front ++ text) (sym (one_more clients accounts k client account low same is_client is_account))))
+    ∙ ap (λ text. front ++ text) (sym (one_more clients accounts k client account low also is_client is_account))))
+
+-- the lines of all that are in both lists
+pub all_written : (clients : List Client) (accounts : List Account) (n : ℕ) → min (length clients) (length accounts) ≤ n → client_lines (take n clients) (take n accounts) ≡ client_lines clients accounts
+all_written [] accounts zero enough = refl
+all_written [] accounts (suc n) enough = refl
+all_written (c ∷ cs) [] zero enough = refl
+all_written (c ∷ cs) [] (suc n) enough = refl
+all_written (c ∷ cs) (a ∷ rest) zero enough = absurd (omega (arith, enough))
+all_written (c ∷ cs) (a ∷ rest) (suc n) enough = ap (λ text. line (client_text c a) ++ text) (all_written cs rest n (omega (arith, enough)))
 
 -- ---- what texts come to
 

@@ -1,9 +1,9 @@
 //! The lines of clients: what their accounts came to.
 
-ghost use Rattle.std.specs.Prelude.{◌≡◌, ◌≤◌, ◌++◌, OnOk, IfOk, length, string_bytes};
+ghost use Rattle.std.specs.Prelude.{◌≡◌, ◌≤◌, ◌++◌, All, OnOk, IfOk, length, string_bytes};
 ghost use Rattle.cost_num.specs.Within.{Within};
 ghost use Rattle.client_files.specs.declared.client.TheConstants.{CLIENT_LIMIT};
-ghost use Rattle.gateway_core.specs.Rules.{greatest};
+ghost use Rattle.gateway_core.specs.Rules.{greatest, IsSettledWithin, IsCarriedWithin};
 ghost use Rattle.command_outcomes.specs.Texts.{line};
 ghost use Rattle.account_commands.specs.Replay.{carried_text, client_text, client_lines, end_text, IsPrintable};
 
@@ -50,6 +50,23 @@ fn write_client(
     write_cost(alloc, " settled ", account.settled, into)?;
     write_carried(alloc, client.carry, account.carried, into)?;
     into.push('\n')
+}
+
+/// Writes the lines of clients whose accounts these are, in their order.
+pub fn write_accounts(
+    alloc: Global,
+    clients: &[Client],
+    accounts: &[Account],
+    into: &mut String,
+) -> Result<(), AllocError>
+    requires settled { All IsSettledWithin accounts.now }
+    requires carried { All IsCarriedWithin accounts.now }
+    ensures { OnOk result (string_bytes into.new ≡ string_bytes into.old ++ client_lines clients.now accounts.now) }
+{
+    'clients: for at in 0..clients.len().min(accounts.len()) {
+        write_client(alloc, &clients[at], accounts[at], into)?;
+    }
+    Ok(())
 }
 
 /// Writes the lines of all clients.

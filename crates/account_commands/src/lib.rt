@@ -18,7 +18,7 @@ mod rule_inputs;
 mod rule_laws;
 mod rule_texts;
 
-pub use client_lines::write_clients;
+pub use client_lines::{write_accounts, write_clients};
 pub use exercise_laws::an_exercise_is_refused_for_its_schema_alone;
 pub use exercising::exercise;
 pub use gates::gate_by;
