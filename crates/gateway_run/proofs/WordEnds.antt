@@ -5,9 +5,9 @@ use Rattle.command_words.specs.declared.command.WordsFault.TheVariants.{Usage, M
 use Rattle.command_words.specs.Words.{IsNoCommand}
 use Rattle.command_outcomes.specs.declared.outcome.Outcome.{Outcome}
 use Rattle.command_outcomes.specs.Outcomes.{FilesTold, NoFileFailed}
-use Rattle.gateway_run.specs.Serve.{DoorsCall, AreUntouched}
+use Rattle.gateway_run.specs.Serve.{OutsideCall, AreUntouched}
 use Rattle.gateway_run.specs.Program.{no_command, ComeTo}
 
-pub unread : (words : List (List ℕ)) (files : FilesTold) (doors : DoorsCall) (fault : WordsFault) (outcome : Outcome) → (fault ≡ Usage → IsNoCommand words) → outcome ≡ no_command fault → NoFileFailed files → AreUntouched doors → ComeTo words files doors outcome
-unread words files doors Usage outcome none same read still = inr (inl (none refl, same, read, still))
-unread words files doors Memory outcome none same read still = inr (inr (same, read, still))
+pub unread : (words : List (List ℕ)) (files : FilesTold) (outside : OutsideCall) (fault : WordsFault) (outcome : Outcome) → (fault ≡ Usage → IsNoCommand words) → outcome ≡ no_command fault → NoFileFailed files → AreUntouched outside → ComeTo words files outside outcome
+unread words files outside Usage outcome none same read still = inr (inl (none refl, same, read, still))
+unread words files outside Memory outcome none same read still = inr (inr (same, read, still))

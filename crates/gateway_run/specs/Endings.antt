@@ -4,7 +4,7 @@ use Rattle.std.specs.Io.KnownBytes.{Appends, Keeps}
 use Rattle.outside.specs.Faults.{Rose}
 use Rattle.outside.specs.Contents.{AppendsFront}
 use Rattle.command_outcomes.specs.declared.outcome.Outcome.{Outcome}
-use Rattle.command_outcomes.specs.declared.outcome.Outcome.TheVariants.{Done, Refused, FileFailed, Faulty, Served, NotStarted, Usage, Memory}
+use Rattle.command_outcomes.specs.declared.outcome.Outcome.TheVariants.{Done, Refused, FileFailed, Faulty, Audited, Served, NotStarted, Usage, Memory}
 use Rattle.command_outcomes.specs.declared.outcome.TheConstants.{DONE, REFUSED, USAGE, FILE_FAILED, STREAM_FAILED, NO_MEMORY, DOOR_FAILED}
 use Rattle.command_outcomes.specs.Texts.{line, file_text}
 use Rattle.gateway_run.specs.declared.finish.TheConstants.{USAGE_TEXT, DOOR_TEXT}
@@ -54,12 +54,18 @@ EndsServed lines false result out err = Writes (line lines) DONE result out × I
 EndsServed lines true result out err = (Gains out (line lines) × Writes (line DOOR_TEXT.now) DOOR_FAILED result err)
     ⊎ ((result ≡ STREAM_FAILED) × FailsAmid out (line lines) × IsKept err)
 
+-- the status of an audit: whether all passed
+abbrev pub audit_status : Bool → ℕ
+audit_status true = DONE
+audit_status false = REFUSED
+
 -- What an outcome ends with: the status, and what is written on the output stream and on the error stream.
 abbrev pub Ends : Outcome → ℕ → StreamTold → StreamTold → Type 0
 Ends (Done output) result out err = Writes (line output.items) DONE result out × IsKept err
 Ends (Refused text) result out err = IsKept out × Writes (line text) REFUSED result err
 Ends (FileFailed name) result out err = IsKept out × Mentions (line (file_text name)) FILE_FAILED result err
 Ends (Faulty status text) result out err = IsKept out × Writes (line text) status result err
+Ends (Audited lines passed) result out err = Writes (line lines.items) (audit_status passed) result out × IsKept err
 Ends (Served lines failed) result out err = EndsServed lines.items failed result out err
 Ends NotStarted result out err = IsKept out × Writes (line DOOR_TEXT.now) DOOR_FAILED result err
 Ends Usage result out err = IsKept out × Mentions (line USAGE_TEXT.now) USAGE result err

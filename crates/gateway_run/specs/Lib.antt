@@ -1,4 +1,5 @@
 pub mod Endings
 pub mod ServeFiles
 pub mod Serve
+pub mod DueResponses
 pub mod Program

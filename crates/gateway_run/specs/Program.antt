@@ -1,16 +1,17 @@
 -- What the program does.
-use Rattle.std.specs.Prelude.{◌≡◌, ◌⊎◌, ℕ, List, Option, None, Some, Vec, true, false}
+use Rattle.std.specs.Prelude.{◌≡◌, ◌⊎◌, ℕ, List, Contains, Option, None, Some, Vec, true, false}
 use Rattle.std.specs.declared.alloc.Global.{Global}
 use Rattle.command_words.specs.declared.command.Command.{Command}
-use Rattle.command_words.specs.declared.command.Command.TheVariants.{Help, Version, Check, Price, Explain, Introspect, Worst, Forward, Meter, Replay, Serve, Exercise, Migrate}
+use Rattle.command_words.specs.declared.command.Command.TheVariants.{Help, Version, Check, Price, Explain, ExplainSchema, Audit, Introspect, Worst, Forward, Meter, Replay, Serve, Exercise, Migrate}
 use Rattle.command_words.specs.declared.command.Asked.{Asked}
 use Rattle.command_words.specs.declared.command.AskedList.{AskedList}
+use Rattle.command_words.specs.declared.command.AskedAudit.{AskedAudit}
 use Rattle.command_words.specs.declared.command.AskedReplay.{AskedReplay}
 use Rattle.command_words.specs.declared.command.AskedServe.{AskedServe}
 use Rattle.command_words.specs.declared.command.WordsFault.{WordsFault}
 use Rattle.command_words.specs.declared.command.WordsFault.TheVariants.{Usage as NoCommand, Memory as NoMemory}
 use Rattle.command_outcomes.specs.declared.outcome.Outcome.{Outcome}
-use Rattle.command_outcomes.specs.declared.outcome.Outcome.TheVariants.{Done, Refused, Faulty, Served, NotStarted, Usage, Memory}
+use Rattle.command_outcomes.specs.declared.outcome.Outcome.TheVariants.{Done, Refused, Faulty, Audited, Served, NotStarted, Usage, Memory}
 use Rattle.command_words.specs.Words.{Asks, IsNoCommand}
 use Rattle.gateway_run.specs.declared.finish.TheConstants.{USAGE_TEXT, VERSION_TEXT, DOOR_TEXT}
 use Rattle.outside.specs.Faults.{Rose}
@@ -20,12 +21,14 @@ use Rattle.gateway_run.specs.Endings.{StreamTold, Gains, IsKept, HasFailed, Fail
 use Rattle.command_outcomes.specs.Check.{CheckCameTo}
 use Rattle.operation_commands.specs.Price.{PriceCameTo}
 use Rattle.operation_commands.specs.Explain.{ExplainCameTo}
+use Rattle.operation_commands.specs.ExplainSchema.{ExplainSchemaCameTo}
+use Rattle.operation_commands.specs.Audit.{AuditCameTo}
 use Rattle.operation_commands.specs.Introspect.{IntrospectCameTo}
 use Rattle.operation_commands.specs.Worst.{WorstCameTo}
 use Rattle.operation_commands.specs.Forward.{ForwardCameTo}
 use Rattle.operation_commands.specs.Meter.{MeterCameTo}
 use Rattle.account_commands.specs.Replay.{ReplayCameTo}
-use Rattle.gateway_run.specs.Serve.{DoorsCall, AreUntouched, ServeCameTo}
+use Rattle.gateway_run.specs.Serve.{OutsideCall, AreUntouched, ServeCameTo}
 use Rattle.account_commands.specs.Exercise.{ExerciseCameTo}
 use Rattle.account_commands.specs.Migrate.{MigrateCameTo}
 
@@ -36,6 +39,8 @@ AnswerCameTo Version files outcome = IsDone VERSION_TEXT.now outcome × NoFileFa
 AnswerCameTo (Check schema) files outcome = CheckCameTo schema files outcome
 AnswerCameTo (Price asked) files outcome = PriceCameTo asked files outcome
 AnswerCameTo (Explain asked) files outcome = ExplainCameTo asked files outcome
+AnswerCameTo (ExplainSchema schema undeclared) files outcome = ExplainSchemaCameTo schema undeclared files outcome
+AnswerCameTo (Audit asked) files outcome = AuditCameTo asked files outcome
 AnswerCameTo (Introspect asked) files outcome = IntrospectCameTo asked files outcome
 AnswerCameTo (Worst asked part) files outcome = WorstCameTo asked part files outcome
 AnswerCameTo (Forward asked) files outcome = ForwardCameTo asked files outcome
@@ -45,10 +50,10 @@ AnswerCameTo (Exercise requests) files outcome = ExerciseCameTo requests outcome
 AnswerCameTo (Migrate clients) files outcome = MigrateCameTo clients files outcome
 AnswerCameTo (Serve asked) files outcome = ⊥
 
--- What a command came to. Only one that serves touches the doors.
-abbrev pub CommandCameTo : Command → FilesTold → DoorsCall → Outcome → Type 0
-CommandCameTo (Serve asked) files doors outcome = ServeCameTo asked files doors outcome
-CommandCameTo command files doors outcome = AnswerCameTo command files outcome × AreUntouched doors
+-- What a command came to. Only one that serves touches doors and disks.
+abbrev pub CommandCameTo : Command → FilesTold → OutsideCall → Outcome → Type 0
+CommandCameTo (Serve asked) files outside outcome = ServeCameTo asked files outside outcome
+CommandCameTo command files outside outcome = AnswerCameTo command files outcome × AreUntouched outside
 
 -- The outcome of words that were not read into a command.
 abbrev pub no_command : WordsFault → Outcome
@@ -56,26 +61,26 @@ no_command NoCommand = Usage
 no_command NoMemory = Memory
 
 -- The command that the words ask for came to this.
-abbrev pub IsCommandOf : List (List ℕ) → FilesTold → DoorsCall → Outcome → Type 0
-IsCommandOf words files doors outcome = (command : Command) × Asks words command × CommandCameTo command files doors outcome
+abbrev pub IsCommandOf : List (List ℕ) → FilesTold → OutsideCall → Outcome → Type 0
+IsCommandOf words files outside outcome = (command : Command) × Asks words command × CommandCameTo command files outside outcome
 
 -- What words came to: those of a command, what it came to; those of none, a wrong use; or there was no memory for them.
-abbrev pub ComeTo : List (List ℕ) → FilesTold → DoorsCall → Outcome → Type 0
-ComeTo words files doors outcome = IsCommandOf words files doors outcome
-    ⊎ (IsNoCommand words × (outcome ≡ Usage) × NoFileFailed files × AreUntouched doors)
-    ⊎ ((outcome ≡ Memory) × NoFileFailed files × AreUntouched doors)
+abbrev pub ComeTo : List (List ℕ) → FilesTold → OutsideCall → Outcome → Type 0
+ComeTo words files outside outcome = IsCommandOf words files outside outcome
+    ⊎ (IsNoCommand words × (outcome ≡ Usage) × NoFileFailed files × AreUntouched outside)
+    ⊎ ((outcome ≡ Memory) × NoFileFailed files × AreUntouched outside)
 
 -- What the files tell of a call.
 abbrev pub files_call : {F : Type 0} → (F → List ℕ → Option (List ℕ)) → (F → List ℕ → ℕ) → F → F → FilesTold
 files_call content faults before now = files_told (content before) (faults before) (faults now)
 
 -- What words came to was written, and the status is its own.
-abbrev pub Runs : List (List ℕ) → ℕ → FilesTold → DoorsCall → StreamTold → StreamTold → Type 0
-Runs words status files doors out err = (outcome : Outcome) × ComeTo words files doors outcome × Ends outcome status out err
+abbrev pub Runs : List (List ℕ) → ℕ → FilesTold → OutsideCall → StreamTold → StreamTold → Type 0
+Runs words status files outside out err = (outcome : Outcome) × ComeTo words files outside outcome × Ends outcome status out err
 
 -- Of every run that ends with this status that holds.
-abbrev pub EveryRunWith : ℕ → (List (List ℕ) → FilesTold → DoorsCall → StreamTold → StreamTold → Type 0) → Type 0
-EveryRunWith status Holds = (words : List (List ℕ)) (files : FilesTold) (doors : DoorsCall) (out err : StreamTold) → Runs words status files doors out err → Holds words files doors out err
+abbrev pub EveryRunWith : ℕ → (List (List ℕ) → FilesTold → OutsideCall → StreamTold → StreamTold → Type 0) → Type 0
+EveryRunWith status Holds = (words : List (List ℕ)) (files : FilesTold) (outside : OutsideCall) (out err : StreamTold) → Runs words status files outside out err → Holds words files outside out err
 
 -- The names of an operation's files.
 abbrev pub IsAskedFile : Asked → List ℕ → Type 0
@@ -85,6 +90,10 @@ IsAskedFile asked name = (name ≡ asked.schema) ⊎ (name ≡ asked.document) �
 abbrev pub IsListFile : Option AskedList → List ℕ → Type 0
 IsListFile None name = ⊥
 IsListFile (Some list) name = name ≡ list.file
+
+-- The names of an audit's files.
+abbrev pub IsAuditFile : AskedAudit → List ℕ → Type 0
+IsAuditFile asked name = (name ≡ asked.schema) ⊎ Contains asked.documents.items name
 
 -- The names of a replay's files.
 abbrev pub IsReplayFile : AskedReplay → List ℕ → Type 0
@@ -101,6 +110,8 @@ IsFileOf Version name = ⊥
 IsFileOf (Check schema) name = name ≡ schema
 IsFileOf (Price asked) name = IsAskedFile asked name
 IsFileOf (Explain asked) name = IsAskedFile asked name
+IsFileOf (ExplainSchema schema undeclared) name = name ≡ schema
+IsFileOf (Audit asked) name = IsAuditFile asked name
 IsFileOf (Introspect asked) name = IsAskedFile asked name
 IsFileOf (Worst asked part) name = IsAskedFile asked name
 IsFileOf (Forward asked) name = IsAskedFile asked name
@@ -120,34 +131,41 @@ pub record NamesFile (words : List (List ℕ)) (files : FilesTold) (out err : St
   pub silent : IsKept out
   pub told : Gains err (line (file_text name)) ⊎ FailsAmid err (line (file_text name))
 
--- The command came to this output: it was done with it, or the doors were served and none failed.
-abbrev pub HasOutput : List (List ℕ) → FilesTold → DoorsCall → Vec ℕ Global → Type 0
-HasOutput words files doors output = IsCommandOf words files doors (Done output) ⊎ IsCommandOf words files doors (Served output false)
+-- The command came to this output: it was done with it, or the doors were served and none failed, or all passed in an audit.
+abbrev pub HasOutput : List (List ℕ) → FilesTold → OutsideCall → Vec ℕ Global → Type 0
+HasOutput words files outside output = IsCommandOf words files outside (Done output) ⊎ IsCommandOf words files outside (Served output false) ⊎ IsCommandOf words files outside (Audited output true)
 
 -- It came to this output, and just that was written.
-abbrev pub PrintsOutput : List (List ℕ) → FilesTold → DoorsCall → StreamTold → StreamTold → Type 0
-PrintsOutput words files doors out err = (output : Vec ℕ Global) × HasOutput words files doors output × Gains out (line output.items) × IsKept err
+abbrev pub PrintsOutput : List (List ℕ) → FilesTold → OutsideCall → StreamTold → StreamTold → Type 0
+PrintsOutput words files outside out err = (output : Vec ℕ Global) × HasOutput words files outside output × Gains out (line output.items) × IsKept err
 
 -- It was refused with this text, and just that was written.
-abbrev pub PrintsRefusal : List (List ℕ) → FilesTold → DoorsCall → StreamTold → StreamTold → Type 0
-PrintsRefusal words files doors out err = (text : List ℕ) × IsCommandOf words files doors (Refused text) × IsKept out × Gains err (line text)
+abbrev pub PrintsOneRefusal : List (List ℕ) → FilesTold → OutsideCall → StreamTold → StreamTold → Type 0
+PrintsOneRefusal words files outside out err = (text : List ℕ) × IsCommandOf words files outside (Refused text) × IsKept out × Gains err (line text)
+
+-- It was an audit in which not all passed, and just its lines were written.
+abbrev pub PrintsAudit : List (List ℕ) → FilesTold → OutsideCall → StreamTold → StreamTold → Type 0
+PrintsAudit words files outside out err = (lines : Vec ℕ Global) × IsCommandOf words files outside (Audited lines false) × Gains out (line lines.items) × IsKept err
+
+abbrev pub PrintsRefusal : List (List ℕ) → FilesTold → OutsideCall → StreamTold → StreamTold → Type 0
+PrintsRefusal words files outside out err = PrintsOneRefusal words files outside out err ⊎ PrintsAudit words files outside out err
 
 -- It came to this status and text of its own, and just that was written.
-abbrev pub PrintsFault : List (List ℕ) → ℕ → FilesTold → DoorsCall → StreamTold → StreamTold → Type 0
-PrintsFault words status files doors out err = (text : List ℕ) × IsCommandOf words files doors (Faulty status text) × IsKept out × Gains err (line text)
+abbrev pub PrintsFault : List (List ℕ) → ℕ → FilesTold → OutsideCall → StreamTold → StreamTold → Type 0
+PrintsFault words status files outside out err = (text : List ℕ) × IsCommandOf words files outside (Faulty status text) × IsKept out × Gains err (line text)
 
 -- No doors were started, and just the line that says so was written; or doors were served, one failed, and just the closing lines
 -- and that line were written.
-abbrev pub TellsDoor : List (List ℕ) → FilesTold → DoorsCall → StreamTold → StreamTold → Type 0
-TellsDoor words files doors out err = Gains err (line DOOR_TEXT.now)
-    × ((IsCommandOf words files doors NotStarted × IsKept out)
-    ⊎ ((lines : Vec ℕ Global) × IsCommandOf words files doors (Served lines true) × Gains out (line lines.items)))
+abbrev pub TellsDoor : List (List ℕ) → FilesTold → OutsideCall → StreamTold → StreamTold → Type 0
+TellsDoor words files outside out err = Gains err (line DOOR_TEXT.now)
+    × ((IsCommandOf words files outside NotStarted × IsKept out)
+    ⊎ ((lines : Vec ℕ Global) × IsCommandOf words files outside (Served lines true) × Gains out (line lines.items)))
 
 -- Nothing was written.
 abbrev pub IsSilent : StreamTold → StreamTold → Type 0
 IsSilent out err = IsKept out × IsKept err
 
 -- One of the streams failed, and nothing was written on the other; or the error stream failed behind closing lines.
-abbrev pub OneFailed : List (List ℕ) → FilesTold → DoorsCall → StreamTold → StreamTold → Type 0
-OneFailed words files doors out err = (HasFailed out × IsKept err) ⊎ (IsKept out × HasFailed err)
-    ⊎ ((lines : Vec ℕ Global) × IsCommandOf words files doors (Served lines true) × Gains out (line lines.items) × HasFailed err)
+abbrev pub OneFailed : List (List ℕ) → FilesTold → OutsideCall → StreamTold → StreamTold → Type 0
+OneFailed words files outside out err = (HasFailed out × IsKept err) ⊎ (IsKept out × HasFailed err)
+    ⊎ ((lines : Vec ℕ Global) × IsCommandOf words files outside (Served lines true) × Gains out (line lines.items) × HasFailed err)

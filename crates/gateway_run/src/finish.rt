@@ -5,7 +5,7 @@ ghost use Rattle.std.specs.Io.KnownBytes.{Appends};
 ghost use Rattle.outside.specs.Faults.{Rose};
 ghost use Rattle.outside.specs.Contents.{AppendsFront};
 ghost use Rattle.command_outcomes.specs.Texts.{line, file_text};
-ghost use Rattle.gateway_run.specs.Endings.{stream_told, Writes, Mentions, EndsServed, Ends};
+ghost use Rattle.gateway_run.specs.Endings.{stream_told, Writes, Mentions, EndsServed, audit_status, Ends};
 
 use command_outcomes::{
     DONE, DOOR_FAILED, FILE_FAILED, NO_MEMORY, Outcome, REFUSED, STREAM_FAILED, USAGE,
@@ -20,6 +20,10 @@ usage: tellcrock price SCHEMA DOCUMENT [--variables FILE] [--operation NAME] [--
   prints the greatest type cost and the greatest field cost that a response can have
 usage: tellcrock explain SCHEMA DOCUMENT [--variables FILE] [--operation NAME] [--unsized N]
   prints what each node of an operation adds to its price, or why it is refused, where, and what helps
+usage: tellcrock explain SCHEMA [--unsized N]
+  prints what surprises in a schema where it is served, or why it is refused, where, and what helps
+usage: tellcrock audit SCHEMA DOCUMENT.. [--variables-none] [--most TYPES FIELDS] [--unsized N]
+  prints what each operation of documents costs at most, or why it is refused, and whether all pass
 usage: tellcrock introspect SCHEMA DOCUMENT [--variables FILE] [--operation NAME]
   prints what the answer to an operation that asks for the schema costs, and the answer
 usage: tellcrock worst SCHEMA DOCUMENT types|fields [--variables FILE] [--operation NAME] [--unsized N]
@@ -30,7 +34,7 @@ usage: tellcrock meter SCHEMA DOCUMENT REPLY [--variables FILE] [--operation NAM
   prints what a reply cost, and the answer for its client
 usage: tellcrock replay SCHEMA CLIENTS SCRIPT [--trusted FILE [--trusted-only]] [--unsized N]
   prints what becomes of each request of a script, and of the clients' accounts
-usage: tellcrock serve SCHEMA CLIENTS --listen ADDR --upstream ADDR [--target PATH] [--workers N] [--connections N | --endless] [--idle N] [--stop FILE] [--trusted FILE [--trusted-only]] [--pass NAME].. [--hints] [--unsized N]
+usage: tellcrock serve SCHEMA CLIENTS --listen ADDR --upstream ADDR [--target PATH] [--workers N] [--connections N | --endless] [--idle N] [--stop FILE] [--journal FILE] [--trusted FILE [--trusted-only]] [--pass NAME].. [--hints] [--unsized N]
   serves clients over HTTP within their budgets, and forwards what they cover; prints the accounts at the end
 usage: tellcrock exercise N
   prints a summary of a replay of N requests of one client
@@ -94,6 +98,13 @@ fn mention_usage<E: Sink>(err: &mut E) -> u8
     }
 }
 
+// The status of an audit.
+fn audit_status(passed: bool) -> u8
+    ensures { result ≡ audit_status passed }
+{
+    if passed { DONE } else { REFUSED }
+}
+
 // Writes the closing lines, and then says so where a door failed.
 fn write_served<K: Sink, E: Sink>(lines: &[u8], failed: bool, out: &mut K, err: &mut E) -> u8
     ensures { EndsServed lines.now failed result (stream_told K.written K.faults out.old out.new)
@@ -118,6 +129,9 @@ pub fn finish<K: Sink, E: Sink>(outcome: Outcome, out: &mut K, err: &mut E) -> u
         Outcome::Refused(text) => write_or_fail(err, text.as_bytes(), REFUSED),
         Outcome::FileFailed(name) => mention_file(err, name.as_bytes()),
         Outcome::Faulty { status, text } => write_or_fail(err, text.as_bytes(), status),
+        Outcome::Audited { lines, passed } => {
+            write_or_fail(out, lines.as_slice(), audit_status(passed))
+        }
         Outcome::Served { lines, failed } => write_served(lines.as_slice(), failed, out, err),
         Outcome::NotStarted => write_or_fail(err, DOOR_TEXT, DOOR_FAILED),
         Outcome::Usage => mention_usage(err),

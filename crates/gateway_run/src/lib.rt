@@ -3,7 +3,9 @@
 //! Words are read into a command, a command comes to an outcome, and an outcome is written.
 #![tactic(auto)]
 
+mod closing;
 mod finish;
+mod keeping;
 mod program;
 mod serve_inputs;
 mod serve_laws;
@@ -11,8 +13,8 @@ mod serving;
 mod status_laws;
 
 pub use command_outcomes::{
-    DONE, DOOR_FAILED, FILE_FAILED, NO_MEMORY, NOT_RESPONSE, REFUSED, SIZE_BROKEN, STREAM_FAILED,
-    USAGE,
+    DISK_FAILED, DONE, DOOR_FAILED, FILE_FAILED, NO_MEMORY, NOT_RESPONSE, REFUSED, SIZE_BROKEN,
+    STREAM_FAILED, USAGE,
 };
 pub use command_words::{AskedServe, Command, WordsFault, command_of};
 pub use program::{end_without_command, run};

@@ -4,7 +4,7 @@ ghost use Rattle.std.specs.Prelude.{◌≡◌};
 ghost use Rattle.command_words.specs.Words.{ServesWithinLimits};
 ghost use Rattle.command_outcomes.specs.Outcomes.{files_told, IsDone};
 ghost use Rattle.gateway_run.specs.Endings.{stream_told, Ends};
-ghost use Rattle.gateway_run.specs.Serve.{doors_call};
+ghost use Rattle.gateway_run.specs.Serve.{doors_call, disks_call, outside_call};
 ghost use Rattle.gateway_run.specs.Program.{files_call, no_command, CommandCameTo, ComeTo, Runs};
 
 use crate::finish::{USAGE_TEXT, VERSION_TEXT, finish};
@@ -14,7 +14,10 @@ use command_outcomes::{Outcome, check};
 use command_words::{Command, WordsFault, command_of};
 use doors::Doors;
 use gql_base::Text;
-use operation_commands::{explain, forward, introspect, meter, price, worst};
+use journal_disk::Disks;
+use operation_commands::{
+    audit, explain, explain_schema, forward, introspect, meter, price, worst,
+};
 use outside::{Files, Sink};
 use std::alloc::Global;
 use std::sync::Wait;
@@ -31,17 +34,20 @@ fn done(alloc: Global, output: &[u8]) -> Outcome
 }
 
 // Does a command, and gives what it came to.
-fn outcome_of<Rt: Threads + Wait + Sync, F: Files, D: Doors>(
+fn outcome_of<Rt: Threads + Wait + Sync, F: Files, D: Doors, J: Disks>(
     alloc: Global,
     rt: &Rt,
     command: Command,
     files: &mut F,
     doors: &mut D,
+    disks: &mut J,
 ) -> Outcome
+where
+    J::D: Drop,
     requires limits { ServesWithinLimits command }
     requires idle { D.running doors.old ≡ 0 }
     ensures { CommandCameTo command (files_told (F.content files.old) (F.faults files.old) (F.faults files.new))
-        (doors_call D.faults D.asked D.running D.stopped doors.old doors.new) result }
+        (outside_call (doors_call D.faults D.asked D.running D.stopped doors.old doors.new) (disks_call J.holds J.last J.faults disks.old disks.new)) result }
 {
     match command {
         Command::Help => done(alloc, USAGE_TEXT),
@@ -49,12 +55,16 @@ fn outcome_of<Rt: Threads + Wait + Sync, F: Files, D: Doors>(
         Command::Check { schema } => check(alloc, schema, files),
         Command::Price { asked } => price(alloc, &asked, files),
         Command::Explain { asked } => explain(alloc, &asked, files),
+        Command::ExplainSchema { schema, undeclared } => {
+            explain_schema(alloc, &schema, undeclared, files)
+        }
+        Command::Audit { asked } => audit(alloc, &asked, files),
         Command::Introspect { asked } => introspect(alloc, &asked, files),
         Command::Worst { asked, part } => worst(alloc, &asked, part, files),
         Command::Forward { asked } => forward(alloc, &asked, files),
         Command::Meter { asked, reply } => meter(alloc, &asked, &reply, files),
         Command::Replay { asked } => replay(alloc, rt, &asked, files),
-        Command::Serve { asked } => serve(alloc, rt, &asked, files, doors),
+        Command::Serve { asked } => serve(alloc, rt, &asked, files, doors, disks),
         Command::Exercise { requests } => exercise(alloc, rt, requests),
         Command::Migrate { clients } => migrate(alloc, &clients, files),
     }
@@ -71,41 +81,47 @@ fn no_outcome(fault: WordsFault) -> Outcome
 }
 
 // Does what words ask for, and gives what that came to.
-fn answer_words<Rt: Threads + Wait + Sync, F: Files, D: Doors>(
+fn answer_words<Rt: Threads + Wait + Sync, F: Files, D: Doors, J: Disks>(
     alloc: Global,
     rt: &Rt,
     words: &[Text],
     files: &mut F,
     doors: &mut D,
+    disks: &mut J,
 ) -> Outcome
+where
+    J::D: Drop,
     requires idle { D.running doors.old ≡ 0 }
     ensures { ComeTo words.now (files_told (F.content files.old) (F.faults files.old) (F.faults files.new))
-        (doors_call D.faults D.asked D.running D.stopped doors.old doors.new) result }
+        (outside_call (doors_call D.faults D.asked D.running D.stopped doors.old doors.new) (disks_call J.holds J.last J.faults disks.old disks.new)) result }
 {
     match command_of(alloc, words) {
-        Ok(command) => outcome_of(alloc, rt, command, files, doors),
+        Ok(command) => outcome_of(alloc, rt, command, files, doors, disks),
         Err(fault) => no_outcome(fault),
     }
 }
 
 /// Does what the words after the program's name say, and gives the status to end with. No doors run before, and none after: a
 /// command that serves stops those that it started. It may wait for the steps of other workers.
-pub fn run<Rt: Threads + Wait + Sync, F: Files, D: Doors, K: Sink, E: Sink>(
+pub fn run<Rt: Threads + Wait + Sync, F: Files, D: Doors, J: Disks, K: Sink, E: Sink>(
     rt: &Rt,
     alloc: Global,
     words: &[Text],
     files: &mut F,
     doors: &mut D,
+    disks: &mut J,
     out: &mut K,
     err: &mut E,
 ) -> u8
+where
+    J::D: Drop,
     requires idle { D.running doors.old ≡ 0 }
     ensures { Runs words.now result (files_call F.content F.faults files.old files.new)
-        (doors_call D.faults D.asked D.running D.stopped doors.old doors.new)
+        (outside_call (doors_call D.faults D.asked D.running D.stopped doors.old doors.new) (disks_call J.holds J.last J.faults disks.old disks.new))
         (stream_told K.written K.faults out.old out.new)
         (stream_told E.written E.faults err.old err.new) }
 {
-    let outcome = answer_words(alloc, rt, words, files, doors);
+    let outcome = answer_words(alloc, rt, words, files, doors, disks);
     finish(outcome, out, err)
 }
 

@@ -10,17 +10,21 @@ ghost use Rattle.command_words.specs.declared.command.Command.TheVariants.{Serve
 ghost use Rattle.command_words.specs.Words.{ServesWithinLimits};
 ghost use Rattle.command_outcomes.specs.Reading.{IsText};
 ghost use Rattle.command_outcomes.specs.Outcomes.{files_told};
-ghost use Rattle.gateway_run.specs.Serve.{doors_call, ServesTo, IsTold, closing_text, ServeOf, ServeCameTo};
+ghost use Rattle.gateway_run.specs.Serve.{doors_call, disks_call, outside_call, IsServingOf, ServesTo, KeepsAs, ServesAs, IsTold, ServeOf, ServeCameTo};
 
+use crate::closing::closing_lines;
+use crate::keeping::kept_told;
 use crate::serve_inputs::{
     InputsFault, ServeInputs, ServeTexts, read_serve, refused_serve, serve_inputs_in,
 };
-use account_commands::{gate_by, write_clients};
+use account_commands::gate_by;
 use command_outcomes::{Outcome, SCHEMA_LIMIT};
 use command_words::AskedServe;
 use doors::Doors;
 use gateway_serving::{ServeEnd, ServeFault, Serving, Settings};
 use gql_base::Text;
+use journal_disk::Disks;
+use journal_serving::{mark_of, serve_journal};
 use outside::Files;
 use plan_model::laws::built_schemas_can_be_filled;
 use std::alloc::{AllocError, Global};
@@ -59,6 +63,54 @@ fn settings_of(
     })
 }
 
+// What the doors are started with.
+fn serving_of<'a>(asked: &'a AskedServe) -> Serving<'a>
+    ensures { IsServingOf asked.entry.now result }
+{
+    Serving {
+        listen: asked.listen.as_str(),
+        upstream: asked.upstream.as_str(),
+        workers: asked.workers,
+        connections: asked.connections,
+    }
+}
+
+// Serves by these rules over the journal of this name.
+fn keep_by<Rt: Threads + Wait + Sync, D: Doors, J: Disks>(
+    alloc: Global,
+    rt: &Rt,
+    asked: &AskedServe,
+    name: &Text,
+    inputs: ServeInputs,
+    doors: &mut D,
+    disks: &mut J,
+) -> Outcome
+where
+    J::D: Drop,
+    requires limits { ServesWithinLimits (Serve asked.now) }
+    requires one { asked.now.workers ≡ 1 }
+    requires weighed { HasWeights (schema_data inputs.rules.weighed.schema) (weights_data inputs.rules.weighed.weights) }
+    requires served { MayBeServed inputs.rules.clients.window_seconds inputs.rules.clients.clients.items }
+    requires idle { D.running doors.old ≡ 0 }
+    ensures { KeepsAs asked.now name.now inputs (outside_call (doors_call D.faults D.asked D.running D.stopped doors.old doors.new) (disks_call J.holds J.last J.faults disks.old disks.new)) result }
+{
+    let serving = serving_of(asked);
+    let ServeInputs { rules, list } = inputs;
+    let Ok(mark) = mark_of(alloc, &rules.clients) else {
+        return Outcome::Memory;
+    };
+    let Ok(settings) = settings_of(alloc, asked, rules.clients.window_seconds) else {
+        return Outcome::Memory;
+    };
+    let made = gate_by(alloc, rules, list, settings);
+    let Ok((gate, _passes)) = made else {
+        return Outcome::Memory;
+    };
+    let journal = name.as_str();
+    let came_to = serve_journal(alloc, rt, &gate, mark, journal, disks, doors, &serving);
+    kept_told(alloc, gate.clients(), came_to)
+}
+
 // Serves by these rules.
 fn serve_by<Rt: Threads + Wait + Sync, D: Doors>(
     alloc: Global,
@@ -73,12 +125,7 @@ fn serve_by<Rt: Threads + Wait + Sync, D: Doors>(
     requires idle { D.running doors.old ≡ 0 }
     ensures { ServesTo asked.now inputs (doors_call D.faults D.asked D.running D.stopped doors.old doors.new) result }
 {
-    let serving = Serving {
-        listen: asked.listen.as_str(),
-        upstream: asked.upstream.as_str(),
-        workers: asked.workers,
-        connections: asked.connections,
-    };
+    let serving = serving_of(asked);
     let ServeInputs { rules, list } = inputs;
     let Ok(settings) = settings_of(alloc, asked, rules.clients.window_seconds) else {
         return Err(ServeFault::Memory);
@@ -88,19 +135,6 @@ fn serve_by<Rt: Threads + Wait + Sync, D: Doors>(
         return Err(ServeFault::Memory);
     };
     gateway_serving::serve(alloc, rt, gate, passes, doors, &serving)
-}
-
-// The closing lines, without the last line end.
-fn closing_lines(alloc: Global, end: &ServeEnd) -> Result<Vec<u8>, AllocError>
-    requires few { length end.now.totals.clients.items.items ≤ CLIENT_LIMIT }
-    ensures { IfOk result (λ lines. lines.items ≡ closing_text end.now) }
-{
-    let connections = end.done.connections;
-    let exchanges = end.done.exchanges;
-    let mut lines = String::new(alloc);
-    write_clients(alloc, &end.totals, &mut lines)?;
-    write!(lines, "connections {connections} exchanges {exchanges}")?;
-    Ok(lines.into_bytes())
 }
 
 // The outcome of what serving came to.
@@ -121,22 +155,48 @@ fn told(alloc: Global, came_to: Result<ServeEnd, ServeFault>) -> Outcome
     }
 }
 
+// Serves by these rules, over a journal where one is named.
+fn serve_asked<Rt: Threads + Wait + Sync, D: Doors, J: Disks>(
+    alloc: Global,
+    rt: &Rt,
+    asked: &AskedServe,
+    inputs: ServeInputs,
+    doors: &mut D,
+    disks: &mut J,
+) -> Outcome
+where
+    J::D: Drop,
+    requires limits { ServesWithinLimits (Serve asked.now) }
+    requires weighed { HasWeights (schema_data inputs.rules.weighed.schema) (weights_data inputs.rules.weighed.weights) }
+    requires served { MayBeServed inputs.rules.clients.window_seconds inputs.rules.clients.clients.items }
+    requires idle { D.running doors.old ≡ 0 }
+    ensures { ServesAs asked.now inputs (outside_call (doors_call D.faults D.asked D.running D.stopped doors.old doors.new) (disks_call J.holds J.last J.faults disks.old disks.new)) result }
+{
+    match &asked.journal {
+        None => told(alloc, serve_by(alloc, rt, asked, inputs, doors)),
+        Some(name) => keep_by(alloc, rt, asked, name, inputs, doors, disks),
+    }
+}
+
 // What the texts come to.
-fn serve_of<Rt: Threads + Wait + Sync, D: Doors>(
+fn serve_of<Rt: Threads + Wait + Sync, D: Doors, J: Disks>(
     alloc: Global,
     rt: &Rt,
     asked: &AskedServe,
     texts: &ServeTexts,
     doors: &mut D,
+    disks: &mut J,
 ) -> Outcome
+where
+    J::D: Drop,
     requires limits { ServesWithinLimits (Serve asked.now) }
     requires text { IsText SCHEMA_LIMIT texts.now.rules.schema }
     requires idle { D.running doors.old ≡ 0 }
-    ensures { ServeOf asked.now texts.now (doors_call D.faults D.asked D.running D.stopped doors.old doors.new) result }
+    ensures { ServeOf asked.now texts.now (outside_call (doors_call D.faults D.asked D.running D.stopped doors.old doors.new) (disks_call J.holds J.last J.faults disks.old disks.new)) result }
 {
     built_schemas_can_be_filled();
     match serve_inputs_in(alloc, texts, asked.undeclared) {
-        Ok(inputs) => told(alloc, serve_by(alloc, rt, asked, inputs, doors)),
+        Ok(inputs) => serve_asked(alloc, rt, asked, inputs, doors, disks),
         Err(InputsFault::Refused(refusal)) => refused_serve(alloc, &asked.schema, refusal),
         Err(InputsFault::Memory) => Outcome::Memory,
     }
@@ -144,22 +204,27 @@ fn serve_of<Rt: Threads + Wait + Sync, D: Doors>(
 
 /// Serves clients over HTTP, by the schema, the clients and the list of trusted documents of files, until each door has given all its connections or failed.
 ///
-/// It asks that no doors run, that there are 1 to 16 workers, and that each serves at most 4,294,967,295 connections. All doors that
+/// Where a journal is named, the clients' accounts are those of the journal, which outlive the program, and one worker serves.
+///
+/// It asks that no doors run, that there are 1 to 16 workers, one over a journal, and that each serves at most 4,294,967,295 connections. All doors that
 /// were started are stopped at the end.
-pub fn serve<Rt: Threads + Wait + Sync, F: Files, D: Doors>(
+pub fn serve<Rt: Threads + Wait + Sync, F: Files, D: Doors, J: Disks>(
     alloc: Global,
     rt: &Rt,
     asked: &AskedServe,
     files: &mut F,
     doors: &mut D,
+    disks: &mut J,
 ) -> Outcome
+where
+    J::D: Drop,
     requires limits { ServesWithinLimits (Serve asked.now) }
     requires idle { D.running doors.old ≡ 0 }
     ensures { ServeCameTo asked.now (files_told (F.content files.old) (F.faults files.old) (F.faults files.new))
-        (doors_call D.faults D.asked D.running D.stopped doors.old doors.new) result }
+        (outside_call (doors_call D.faults D.asked D.running D.stopped doors.old doors.new) (disks_call J.holds J.last J.faults disks.old disks.new)) result }
 {
     match read_serve(alloc, asked, files) {
-        Ok(texts) => serve_of(alloc, rt, asked, &texts, doors),
+        Ok(texts) => serve_of(alloc, rt, asked, &texts, doors, disks),
         Err(outcome) => outcome,
     }
 }

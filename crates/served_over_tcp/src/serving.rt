@@ -3,6 +3,7 @@
 use doors::TcpDoors;
 use gateway_run::run;
 use gql_base::Text;
+use journal_disk::MemDisks;
 use outside::{Failures, MemFile, MemFiles, MemSink};
 use std::alloc::{AllocError, Global};
 use std::io;
@@ -56,8 +57,9 @@ pub(crate) fn serve<W: Threads + Wait + Sync>(
     let mut doors = TcpDoors::new(rt.clone()?, alloc);
     let mut out = MemSink::new(alloc, Failures::none(alloc));
     let mut err = MemSink::new(alloc, Failures::none(alloc));
+    let mut disks = MemDisks::new(Vec::new(alloc), Vec::new(alloc), Failures::none(alloc));
     let status = run(
-        workers, alloc, &words, &mut files, &mut doors, &mut out, &mut err,
+        workers, alloc, &words, &mut files, &mut doors, &mut disks, &mut out, &mut err,
     );
     let output = String::from_utf8(out.written).unwrap_or(String::new(alloc));
     Ok(Served { status, output })

@@ -52,6 +52,15 @@ fn add_door(
     doors.add(door).map_err(|_| AllocError)
 }
 
+// What starts one door for a connection, and nothing else.
+fn one_door(alloc: Global, exchange: &Exchange) -> Result<RowDoors, AllocError>
+    ensures { IfOk result (λ doors. doors.running ≡ 0) }
+{
+    let mut doors = MemDoors::new(alloc, 1, Failures::none(alloc));
+    add_door(alloc, exchange, &mut doors, Failures::none(alloc))?;
+    Ok(doors)
+}
+
 // What starts two doors for a connection each, and nothing else. The second one fails, or none does.
 fn two_doors(alloc: Global, exchange: &Exchange, fails: bool) -> Result<RowDoors, AllocError>
     ensures { IfOk result (λ doors. doors.running ≡ 0) }
@@ -67,8 +76,8 @@ fn two_doors(alloc: Global, exchange: &Exchange, fails: bool) -> Result<RowDoors
     Ok(doors)
 }
 
-/// What starts the doors of a row with this mark, for a connection each, and nothing else: four where it is `*`, and else two, of which
-/// the second fails where it is `!`.
+/// What starts the doors of a row with this mark, for a connection each, and nothing else: one where it begins with `j`, four where it
+/// is `*`, and else two, of which the second fails where it is `!`.
 pub(crate) fn doors_for(
     alloc: Global,
     exchange: &Exchange,
@@ -76,6 +85,9 @@ pub(crate) fn doors_for(
 ) -> Result<RowDoors, AllocError>
     ensures { IfOk result (λ doors. doors.running ≡ 0) }
 {
+    if mark.starts_with('j') {
+        return one_door(alloc, exchange);
+    }
     let mut doors = two_doors(alloc, exchange, mark == "!")?;
     if mark == "*" {
         add_door(alloc, exchange, &mut doors, Failures::none(alloc))?;

@@ -2,6 +2,7 @@
 
 ghost use Rattle.std.specs.Prelude.{◌≡◌};
 
+use crate::disks_of_rows::{disks_for, push_disk};
 use crate::doors_of_rows::{Exchange, doors_for, push_heads};
 use crate::padded_files::PaddedFiles;
 use gateway_run::{WordsFault, end_without_command, run};
@@ -59,12 +60,13 @@ fn failing_read(mark: &str) -> u64 {
     }
 }
 
-// Runs one row, and gives what it came to.
+// Runs one row, and gives what it came to. What the row before left on its disk becomes what this one leaves.
 fn outcome_of<W: Threads + Wait + Sync>(
     rt: &HostRuntime,
     workers: &W,
     exchange: &Exchange,
     row: &str,
+    left: &mut Vec<u8>,
 ) -> io::Result<Vec<u8>> {
     let alloc = rt.alloc();
     let (mark, words) = parts_of(row);
@@ -72,6 +74,7 @@ fn outcome_of<W: Threads + Wait + Sync>(
     let mut out = stream(alloc, failing)?;
     let mut err = stream(alloc, failing)?;
     let mut doors = doors_for(alloc, exchange, mark)?;
+    let mut disks = disks_for(alloc, mark, left)?;
     let status = if words == "?" {
         end_without_command(WordsFault::Usage, &mut out, &mut err)
     } else {
@@ -82,6 +85,7 @@ fn outcome_of<W: Threads + Wait + Sync>(
             &words_of(alloc, words)?,
             &mut files,
             &mut doors,
+            &mut disks,
             &mut out,
             &mut err,
         )
@@ -90,9 +94,10 @@ fn outcome_of<W: Threads + Wait + Sync>(
     push_marked(&mut text, b"> ", &out.written)?;
     push_marked(&mut text, b"! ", &err.written)?;
     text.extend_from_slice(format!(in alloc; "= {status}\n")?.as_bytes())?;
-    if mark == "*" {
+    if mark == "*" || mark.starts_with('j') {
         push_heads(&mut text, &doors)?;
     }
+    push_disk(alloc, &mut text, &disks, left)?;
     Ok(text)
 }
 
@@ -104,11 +109,12 @@ pub(crate) fn play<W: Threads + Wait + Sync>(
     list: &str,
 ) -> io::Result<()> {
     let mut to = rt.stdout();
+    let mut left = Vec::new(rt.alloc());
     for line in list.lines() {
         to.write_all(line.as_bytes())?;
         to.write_all(b"\n")?;
         if let Some(row) = line.strip_prefix('$') {
-            to.write_all(&outcome_of(rt, workers, exchange, row)?)?;
+            to.write_all(&outcome_of(rt, workers, exchange, row, &mut left)?)?;
         }
     }
     Ok(())

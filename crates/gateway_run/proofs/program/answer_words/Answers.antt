@@ -1,12 +1,12 @@
--- The words were not read into a command, and the doors are as before.
+-- The words were not read into a command, and doors and disks are as before.
 use Rattle.std.proofs.Common.{ap, refl, Err}
 use Rattle.command_outcomes.specs.Outcomes.{files_told}
-use Rattle.gateway_run.specs.Serve.{doors_call}
+use Rattle.gateway_run.specs.Serve.{doors_call, disks_call, outside_call}
 use Rattle.gateway_run.proofs.WordEnds.{unread}
 use Rattle.gateway_run.proofs.program.answer_words.Goals as goal
 
 pub returns-in-Err : goal.returns-in-Err
 returns-in-Err g c =
     unread c.args.words.now (files_told (g.F.Files.content c.args.files.now) (g.F.Files.faults c.args.files.now) (g.F.Files.faults c.args.files.now))
-    (doors_call g.D.Doors.faults g.D.Doors.asked g.D.Doors.running g.D.Doors.stopped c.args.doors.now c.args.doors.now) c.in-Err.fault c.no_outcome.result
-    (λ same. c.in-Err.ensures.usage (ap Err same)) c.no_outcome.ensures (λ name. refl) refl
+    (outside_call (doors_call g.D.Doors.faults g.D.Doors.asked g.D.Doors.running g.D.Doors.stopped c.args.doors.now c.args.doors.now) (disks_call g.J.Disks.holds g.J.Disks.last g.J.Disks.faults c.args.disks.now c.args.disks.now)) c.in-Err.fault c.no_outcome.result
+    (λ same. c.in-Err.ensures.usage (ap Err same)) c.no_outcome.ensures (λ name. refl) (refl, refl)
