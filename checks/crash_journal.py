@@ -84,11 +84,11 @@ def bodies(data):
 class History:
     """What the slots of a file come to."""
 
-    def __init__(self, data):
-        self.accounts = [Account(*client) for client in CLIENTS]
+    def __init__(self, data, clients=None, mark=MARK):
+        self.accounts = [Account(*client) for client in clients or CLIENTS]
         self.granted, self.settled, self.open = {}, {}, {}
         slots = bodies(data)
-        if slots and slots[0] != b"\0" + MARK + bytes(30):
+        if slots and slots[0] != b"\0" + mark + bytes(30):
             raise ValueError("slot 0 is no header with the mark")
         for slot, body in enumerate(slots[1:], 1):
             if not self.take(slot, body):
@@ -98,7 +98,7 @@ class History:
         if any(body[29:]):
             return False
         kind, client, number, *cost = RECORD.unpack(body)
-        if kind not in (1, 2) or client >= len(CLIENTS):
+        if kind not in (1, 2) or client >= len(self.accounts):
             return False
         if kind == 1:
             self.granted[slot] = self.open[slot] = (client, number, cost)
@@ -304,4 +304,5 @@ def main():
         kill_often(program, folder, given.kills, given.seed)
 
 
-main()
+if __name__ == "__main__":
+    main()

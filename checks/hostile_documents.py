@@ -219,6 +219,52 @@ def doubled(levels, piece, last, on="N", field="n"):
     return build
 
 
+def kinds(count):
+    """An interface of as many types, with a field that takes an argument."""
+    return "type Query { n: I } interface I { b(x: Int): Int } " + " ".join("type T%d implements I { b(x: Int): Int }" % i for i in range(count))
+
+
+def chain_of_calls(length):
+    """Fragments that each make a call with a variable of its own, all of one value, and spread the next one."""
+    count = (length - 120) // 56
+    head = "query(%s)" % ",".join("$v%d:Int=1" % i for i in range(count))
+    fragments = "".join("fragment F%d on I{b(x:$v%d)...F%d}" % (i, i, i + 1) for i in range(count))
+    return head + "{k0:n{...F0}k1:n{...F0}k2:n{...F0}}" + fragments + "fragment F%d on I{b(x:1)}" % count
+
+
+def own_variables(text):
+    """Keys that each make a call with a variable of its own, whose default fills an input object."""
+    def build(length):
+        count = (length - 20) // 32
+        head = "query(%s)" % ",".join("$v%d:I={}" % i for i in range(count))
+        return head + "{%s}" % "".join("k%d:o(i:%s)" % (i, text % i) for i in range(count))
+    return build
+
+
+def types_elsewhere(length):
+    """Keys that spread a fragment with conditions on seventeen types that aren't possible there."""
+    fragment = "fragment F on I{%s}" % "".join("...on X%d{a}" % i for i in range(17))
+    return "{%s}%s" % (filled(length - len(fragment) - 2, key("...F")), fragment)
+
+
+def pairs(length):
+    """Keys that each make an equal call of their own beside a fragment of as many."""
+    count = (length - 40) // 68
+    head = "query(%s)" % ",".join("$v%d:I={},$w%d:I={}" % (i, i) for i in range(count))
+    keys = "".join("k%d:n{c:o(i:[$v%d])...F}" % (i, i) for i in range(count))
+    return head + "{%s}fragment F on N{%s}" % (keys, "".join("c:o(i:[$w%d])" % i for i in range(count)))
+
+
+# The upper half of this integer is the factor of the kit's FoldHasher: whoever writes it last makes the hash of what is written 0.
+LAST = (0x9E3779B97F4A7C15 << 64) - (1 << 128)
+
+
+def one_hash(length):
+    """Keys that make two great calls by turns, whose hashes are one."""
+    fragment = "fragment F on N{c:b(x:[$v 0 %d])d:b(x:[$v 1 %d])}" % (LAST, LAST)
+    return "query($v:S){%s}%s" % (filled(length - len(fragment) - 20, key("...F")), fragment)
+
+
 def doubled_types(count):
     return "type Query { n: I } interface I { a: Int n: I } " + " ".join("type T%d implements I { a: Int n: I }" % i for i in range(count))
 
@@ -270,6 +316,12 @@ FAMILIES = {
     "great calls by turns": (fields_of(70), calls_by_turns(70, ["c%d:o%d(i:$a)"]), great(1, 1)),
     "a long response key": (ONE, long_key),
     "doubled places of a type": (doubled_types(4900), doubled(13, "...on T0{a:n{...F%d}b:n{...F%d}}", "...on T0{a}", "I")),
+    "equal calls of a chain": (kinds(60), chain_of_calls),
+    "variables with defaults": (defaults(901), own_variables("[$v%d]")),
+    "variables with defaults of defaults": (nested_defaults(), own_variables("$v%d")),
+    "types elsewhere": (doubled_types(4900) + "".join(" type X%d { a: Int }" % i for i in range(17)), types_elsewhere),
+    "pairs of equal calls": ("type Query { n: N } type N { n: N o(i: [I]): Int } " + defaults(901).split("} ", 1)[1], pairs),
+    "calls of one hash": ("type Query { n: N } scalar S type N { n: N b(x: [S]): Int }", one_hash, json.dumps({"v": [1] * 19980}, separators=(",", ":"))),
 }
 
 

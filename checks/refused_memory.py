@@ -18,6 +18,8 @@ NO_MEMORY = 5
 COMMANDS = [
     ["check", "books.graphql"],
     ["price", "catalog.graphql", "search.graphql", "--variables", "search.json"],
+    ["explain", "catalog.graphql", "search.graphql", "--variables", "search.json"],
+    ["introspect", "books.graphql", "book_type.graphql"],
     ["worst", "books.graphql", "titles.graphql", "types"],
     ["forward", "catalog.graphql", "search.graphql", "--variables", "search.json"],
     ["meter", "catalog.graphql", "search.graphql", "search_reply.json", "--variables", "search.json"],
@@ -123,10 +125,11 @@ def main():
         for words in COMMANDS:
             ended, without = plain(words, shim, folder)
             print(f"{' '.join(words)}: refused in turn {ended + without}, status 5 at {ended}, done without at {without}")
-        words = ["replay", "books.graphql", "budgets.clients", "minute.script"]
-        counts = replay(words, shim, folder)
-        print(f"{' '.join(words)}: refused in turn {sum(counts.values())}, status 5 at {counts['ended']}, done without at "
-              f"{counts['without']}, a begin's 500 at {counts['begins']}, an end's 500 at {counts['ends']}")
+        for script, *options in (["minute.script"], ["trusted.script", "--trusted", "trusted.json", "--trusted-only"]):
+            words = ["replay", "books.graphql", "budgets.clients", script, *options]
+            counts = replay(words, shim, folder)
+            print(f"{' '.join(words)}: refused in turn {sum(counts.values())}, status 5 at {counts['ended']}, done without at "
+                  f"{counts['without']}, a begin's 500 at {counts['begins']}, an end's 500 at {counts['ends']}")
 
 
 main()

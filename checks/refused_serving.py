@@ -2,8 +2,10 @@
 
     python3 checks/refused_serving.py [PROGRAM]
 
-Whatever is refused: the gateway ends with the status of want of memory and no line, or with closing lines whose accounts are the sum
-of the charges that the replies told. At most one of the two requests notices, and the other one is answered as usual."""
+They are served once from fresh accounts, and once over a new journal. Whatever is refused: the gateway ends with the status of want of memory and no line, or with closing lines whose accounts are the sum
+of the charges that the replies told. At most one of the two requests notices, and the other one is answered as usual. The
+file of the journal has each charge that a reply told; where the gateway served to its end it has no others and no open grant. Where its disk could not
+be opened the status is 9."""
 
 import collections
 import os
@@ -14,6 +16,9 @@ import sys
 import tempfile
 import threading
 import time
+
+sys.dont_write_bytecode = True
+from crash_journal import RECORD, bodies, read
 
 HERE = os.path.dirname(os.path.abspath(__file__))
 EXAMPLES = os.path.join(os.path.dirname(HERE), "examples")
@@ -59,10 +64,10 @@ def ask(gateway):
     sys.exit("the gateway doesn't answer")
 
 
-def serve(number, shim, told="/dev/null"):
+def serve(number, shim, told="/dev/null", journal=None):
     """The two replies, the status, and what was written."""
     env = dict(os.environ, LD_PRELOAD=shim, REFUSE=str(number), TOLD=told)
-    words = ["serve", "books.graphql", "day.clients", "--listen", "%s:%d" % LISTEN, "--upstream", "%s:%d" % UPSTREAM, "--workers", "1", "--connections", "2"]
+    words = ["serve", "books.graphql", "day.clients", "--listen", "%s:%d" % LISTEN, "--upstream", "%s:%d" % UPSTREAM, "--connections", "2", *(["--journal", journal] if journal else ["--workers", "1"])]
     gateway = subprocess.Popen([PROGRAM, *words], cwd=EXAMPLES, env=env, stdout=subprocess.PIPE, stderr=subprocess.PIPE)
     replies = [ask(gateway), ask(gateway)]
     out, err = gateway.communicate(timeout=60)
@@ -80,12 +85,14 @@ def millionths(text):
     return int(whole) * 1000000 + int(part.ljust(6, "0"))
 
 
-def kind(replies, status, out, err):
+def kind(replies, status, out, err, journal=None):
     """What came of a run in a few words; ends the test where it is none of those that may be."""
     told = [sum(part) for part in zip(*(cost(reply, b"x-cost-charged") for reply in replies))]
     states = [reply.split(b" ")[1].decode() if reply else "none" for reply in replies]
     if status == 5 and (out, err) == ("", ""):
         return "status 5, replies " + " ".join(states)
+    if journal and status == 9 and (out, err) == ("", "disk\n") and told == [0, 0]:
+        return "status 9, replies " + " ".join(states)
     found = re.fullmatch(r"reader window \d+ settled (\S+) (\S+)\n(?:.*\n)*connections (\d) exchanges (\d)\n", out)
     if not found or (status, err) not in ((0, ""), (8, "door\n")):
         sys.exit(f"{replies} {status} {out} {err}")
@@ -96,23 +103,54 @@ def kind(replies, status, out, err):
     return f"status {status}, replies " + " ".join(states)
 
 
+def kept(journal):
+    """The grants in the file of a journal that are open, and what is settled there."""
+    opened, settled = set(), [0, 0]
+    for slot, body in enumerate(bodies(read(journal))[1:], 1):
+        kind, _, number, *cost = RECORD.unpack(body)
+        if kind == 1:
+            opened.add(slot)
+        else:
+            opened.remove(number)
+            settled = [settled[i] + cost[i] for i in (0, 1)]
+    return opened, settled
+
+
+def compare(journal, replies, status):
+    """Ends the test where the file of the journal lacks what was told, or has more at a regular end."""
+    opened, settled = kept(journal) if os.path.exists(journal) else (set(), [0, 0])
+    told = [sum(part) for part in zip(*(cost(reply, b"x-cost-charged") for reply in replies))]
+    if any(settled[i] < told[i] for i in (0, 1)) or (status in (0, 8) and (opened or settled != told)):
+        sys.exit(f"{replies} {status}: the journal has {settled} settled and {opened} open")
+
+
+def refuse_each(shim, told, journal=None):
+    """Refuses each request for memory in turn, over a new journal each time, and prints what came of it."""
+    kinds, number = collections.Counter(), 1
+    while True:
+        if journal and os.path.exists(journal):
+            os.remove(journal)
+        found = serve(number, shim, told, journal)
+        if not os.path.exists(told):
+            break
+        os.remove(told)
+        kinds[kind(*found, journal)] += 1
+        if journal:
+            compare(journal, *found[:2])
+        number += 1
+    print(f"refused in turn {number - 1}{', over a journal' if journal else ''}")
+    for name, times in sorted(kinds.items()):
+        print(f"{times:6} {name}")
+
+
 def main():
     upstream()
     with tempfile.TemporaryDirectory() as folder:
         shim, told = os.path.join(folder, "refuse.so"), os.path.join(folder, "told")
         subprocess.run(["cc", "-shared", "-fPIC", "-O1", "-o", shim, os.path.join(HERE, "refuse.c"), "-ldl"], check=True)
         print("nothing refused:", kind(*serve(0, shim)))
-        kinds, number = collections.Counter(), 1
-        while True:
-            found = serve(number, shim, told)
-            if not os.path.exists(told):
-                break
-            os.remove(told)
-            kinds[kind(*found)] += 1
-            number += 1
-        print(f"refused in turn {number - 1}")
-        for name, times in sorted(kinds.items()):
-            print(f"{times:6} {name}")
+        refuse_each(shim, told)
+        refuse_each(shim, told, os.path.join(folder, "journal"))
 
 
 main()
