@@ -1,5 +1,5 @@
 -- Sums of capped costs, value after value.
-use Rattle.std.proofs.Common.{ℕ, zero, suc, ◌+◌, ◌*◌, ◌≡◌, ◌<◌, ◌≤◌, List, [], ◌∷◌, length, map, drop, get_or, Option, sym, ap, ◌∙◌, arith}
+use Rattle.std.proofs.Common.{ℕ, ◌+◌, ◌≡◌, ◌<◌, ◌≤◌, List, length, map, drop, get_or, Option, sym, ap, ◌∙◌, arith}
 use Rattle.std.proofs.lemmas.List.{drop_all}
 use Rattle.cost_num.specs.declared.TheConstants.{CAP}
 use Rattle.cost_num.specs.Capped.{capped}
@@ -7,10 +7,9 @@ use Rattle.gql_base.specs.names.Names.{first_of_name}
 use Rattle.input_values.specs.inputs.Shapes.{ShapeTree}
 use Rattle.input_values.specs.declared.values.coerced.Coerced.{Coerced}
 use Rattle.input_values.specs.declared.values.coerced.CoercedField.{CoercedField}
-use Rattle.input_values.specs.values.Coerced.{CoercedTree, CoercedTrees, CoercedFields, coerced_tree, named_tree, coerced_list, coerced_object, trees_from, named_trees_from, nodes, item_nodes, field_nodes}
+use Rattle.input_values.specs.values.Coerced.{CoercedTree, CoercedTrees, CoercedFields, coerced_tree, named_tree, trees_from, named_trees_from}
 use Rattle.input_values.proofs.CoercedTrees.{field_opened}
 use Rattle.gql_base.proofs.Lists.{at_front}
-use Rattle.cost_directives.proofs.FirstsFound.{never}
 use Rattle.cost_directives.specs.ArgumentCosts.{ObjectInputs, InputWeightData, weighed_name, cost_at_field, value_cost, items_cost, fields_cost, field_cost}
 
 abbrev pub items_in : List Coerced → CoercedTrees
@@ -57,33 +56,6 @@ pub no_field_left : (objects : ObjectInputs) (inputs : List InputWeightData) (fs
     → capped (sum + fields_cost objects inputs (fields_in (drop at fs))) ≡ capped whole → sum ≤ CAP + 1 → sum ≡ capped whole
 unfolding value_cost
 no_field_left objects inputs fs at sum whole end same small = none_left sum (fields_cost objects inputs (fields_in (drop at fs))) whole (ap (λ l. fields_cost objects inputs (fields_in l)) (drop_all at fs end)) same small
-
--- ---- how much is left to be looked at
-
-size_of_item : (vs : List Coerced) (at : ℕ) (v : Coerced) → at < length vs → v ≡ get_or vs at v → nodes (coerced_tree v) ≤ item_nodes (items_in vs)
-size_of_item [] at v within is = absurd (never at within)
-size_of_item (w ∷ vs) zero v within is = let e = ap (λ x. nodes (coerced_tree x)) is in omega (arith, e)
-size_of_item (w ∷ vs) (suc at) v within is = let e = size_of_item vs at v (omega arith) is in omega (arith, e)
-
-size_of_field : (fs : List CoercedField) (at : ℕ) (f : CoercedField) → at < length fs → f ≡ get_or fs at f → nodes (named_tree f).1 ≤ field_nodes (fields_in fs)
-size_of_field [] at f within is = absurd (never at within)
-size_of_field (g ∷ fs) zero f within is = let e = ap (λ x. nodes (named_tree x).1) is in omega (arith, e)
-size_of_field (g ∷ fs) (suc at) f within is = let e = size_of_field fs at f (omega arith) is in omega (arith, e)
-
-pub list_falls : (v : Coerced) (vs xs : List Coerced) → coerced_tree v ≡ coerced_list (items_in vs) → xs ≡ vs → 4 * item_nodes (items_in xs) + 3 < 4 * nodes (coerced_tree v)
-list_falls v vs xs is same = let e = ap nodes is in let f = ap (λ l. item_nodes (items_in l)) same in omega (arith, e, f)
-
-pub object_falls : (v : Coerced) (fs xs : List CoercedField) → coerced_tree v ≡ coerced_object (fields_in fs) → xs ≡ fs → 4 * field_nodes (fields_in xs) + 3 < 4 * nodes (coerced_tree v)
-object_falls v fs xs is same = let e = ap nodes is in let f = ap (λ l. field_nodes (fields_in l)) same in omega (arith, e, f)
-
-pub item_falls : (vs : List Coerced) (at : ℕ) (v : Coerced) → at < length vs → v ≡ get_or vs at v → 4 * nodes (coerced_tree v) < 4 * item_nodes (items_in vs) + 2
-item_falls vs at v within is = let e = size_of_item vs at v within is in omega (arith, e)
-
-pub field_falls : (fs : List CoercedField) (at : ℕ) (f : CoercedField) → at < length fs → f ≡ get_or fs at f → 4 * nodes (named_tree f).1 + 1 < 4 * field_nodes (fields_in fs) + 2
-field_falls fs at f within is = let e = size_of_field fs at f within is in omega (arith, e)
-
-pub value_falls : (f : CoercedField) (v : Coerced) → v ≡ f.value → 4 * nodes (coerced_tree v) < 4 * nodes (named_tree f).1 + 1
-value_falls f v is = let e = ap (λ x. nodes (coerced_tree x)) is in let g = ap (λ x. nodes x.1) (field_opened f) in omega (arith, e, g)
 
 -- ---- one value
 

@@ -52,13 +52,14 @@ fn object_at(types: &[TypeWeight], of: TypeId) -> Option<&TypeWeight>
 // A value at this type, where the place has this weight of its own.
 #[cycle(costs)]
 #[tactic(auto, using(crate::proofs::CoercedParts::coerced_parts))]
-fn value_cost(types: &[TypeWeight], shape: &Shape, own: Option<u64>, value: &Coerced) -> u64
+fn value_cost(value: &Coerced, types: &[TypeWeight], shape: &Shape, own: Option<u64>) -> u64
     ensures { result ≡ capped (value_cost (map type_inputs types.now) (shape_tree shape.now) own (coerced_tree value.now)) }
 {
     match value {
         Coerced::Null => 0,
-        Coerced::List(items) => list_cost(types, shape, own, items.as_slice()),
-        Coerced::Object(fields) => record_cost(types, shape, own, fields.as_slice()),
+        Coerced::List(items) => list_cost(items.as_slice(), types, shape, own),
+        Coerced::Object(fields) => record_cost(fields.as_slice(), types, shape, own),
+        Coerced::Shared(held) => value_cost(held, types, shape, own),
         Coerced::Int(_) => leaf_cost(own),
         Coerced::Str(_) => leaf_cost(own),
         Coerced::Bool(_) => leaf_cost(own),
@@ -67,32 +68,32 @@ fn value_cost(types: &[TypeWeight], shape: &Shape, own: Option<u64>, value: &Coe
 }
 
 #[cycle(costs)]
-fn list_cost(types: &[TypeWeight], shape: &Shape, own: Option<u64>, items: &[Coerced]) -> u64
+fn list_cost(items: &[Coerced], types: &[TypeWeight], shape: &Shape, own: Option<u64>) -> u64
     ensures { result ≡ capped (list_cost (map type_inputs types.now) (shape_tree shape.now) own (trees_from (map coerced_tree items.now))) }
 {
     match shape_level(shape) {
         ShapeLevel::Named { of: _, nullable: _ } => leaf_cost(own),
-        ShapeLevel::ListOf { item, nullable: _ } => items_cost(types, item, own, items),
+        ShapeLevel::ListOf { item, nullable: _ } => items_cost(items, types, item, own),
     }
 }
 
 #[cycle(costs)]
-fn items_cost(types: &[TypeWeight], item: &Shape, own: Option<u64>, items: &[Coerced]) -> u64
+fn items_cost(items: &[Coerced], types: &[TypeWeight], item: &Shape, own: Option<u64>) -> u64
     ensures { result ≡ capped (items_cost (map type_inputs types.now) (shape_tree item.now) own (trees_from (map coerced_tree items.now))) }
 {
     let mut sum: u64 = 0;
     'items: for value in items {
-        sum = sum_capped(sum, value_cost(types, item, own, value));
+        sum = sum_capped(sum, value_cost(value, types, item, own));
     }
     sum
 }
 
 #[cycle(costs)]
 fn record_cost(
+    fields: &[CoercedField],
     types: &[TypeWeight],
     shape: &Shape,
     own: Option<u64>,
-    fields: &[CoercedField],
 ) -> u64
     ensures { result ≡ capped (record_cost (map type_inputs types.now) (shape_tree shape.now) own (named_trees_from (map named_tree fields.now))) }
 {
@@ -105,19 +106,19 @@ fn record_cost(
             None => leaf_cost(own),
             Some(object) => sum_capped(
                 object_cost(own),
-                fields_cost(types, &object.inputs, fields),
+                fields_cost(fields, types, &object.inputs),
             ),
         },
     }
 }
 
 #[cycle(costs)]
-fn fields_cost(types: &[TypeWeight], inputs: &Hashed<InputWeight>, fields: &[CoercedField]) -> u64
+fn fields_cost(fields: &[CoercedField], types: &[TypeWeight], inputs: &Hashed<InputWeight>) -> u64
     ensures { result ≡ capped (fields_cost (map type_inputs types.now) (map input_weight inputs.now.items.items) (named_trees_from (map named_tree fields.now))) }
 {
     let mut sum: u64 = 0;
     'fields: for field in fields {
-        sum = sum_capped(sum, field_cost(types, inputs, field));
+        sum = sum_capped(sum, field_cost(field, types, inputs));
     }
     sum
 }
@@ -129,11 +130,11 @@ fn input_named<'a>(inputs: &'a Hashed<InputWeight>, name: &str) -> Option<&'a In
 }
 
 #[cycle(costs)]
-fn field_cost(types: &[TypeWeight], inputs: &Hashed<InputWeight>, field: &CoercedField) -> u64
+fn field_cost(field: &CoercedField, types: &[TypeWeight], inputs: &Hashed<InputWeight>) -> u64
     ensures { result ≡ capped (field_cost (map type_inputs types.now) (map input_weight inputs.now.items.items) (named_tree field.now)) }
 {
     match input_named(inputs, field.name.as_str()) {
-        Some(input) => value_cost(types, &input.shape, input.own, &field.value),
+        Some(input) => value_cost(&field.value, types, &input.shape, input.own),
         None => 0,
     }
 }
@@ -143,7 +144,7 @@ fn argument_cost(types: &[TypeWeight], input: &InputWeight, arg: Option<&Arg>) -
 {
     match arg {
         Some(arg) => match &arg.value {
-            Some(value) => value_cost(types, &input.shape, input.own, value),
+            Some(value) => value_cost(value, types, &input.shape, input.own),
             None => 0,
         },
         None => 0,

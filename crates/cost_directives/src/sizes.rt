@@ -94,6 +94,7 @@ fn int_in(value: &Coerced) -> Option<i32>
         Coerced::EnumName(_) => None,
         Coerced::List(_) => None,
         Coerced::Object(_) => None,
+        Coerced::Shared(held) => int_in(held),
     }
 }
 

@@ -1,10 +1,11 @@
 -- Coerced values that are opened or made.
 use Rattle.std.proofs.Common.{◌≡◌, ℕ, ℤ, Bool, List, map, Vec, Global}
+use Rattle.std.specs.Arc.{arc_value}
 use Rattle.input_values.specs.declared.values.coerced.Coerced.{Coerced}
 use Rattle.input_values.specs.declared.values.coerced.CoercedField.{CoercedField}
 use Rattle.input_values.specs.declared.values.coerced.Coerced.TheOpen.{Coerced-F}
 use Rattle.input_values.specs.declared.values.coerced.Coerced.TheFolds.{fold-roll-Coerced, fold_out-CoercedField, fold-roll-CoercedField}
-use Rattle.input_values.specs.declared.values.coerced.Coerced.TheViews.{List as ListValue, Object as ObjectValue, roll-CoercedField}
+use Rattle.input_values.specs.declared.values.coerced.Coerced.TheViews.{List as ListValue, Object as ObjectValue, Shared as SharedValue, roll-CoercedField}
 use Rattle.input_values.specs.declared.values.coerced.Coerced.TheBlock.{Int as IntValue, Str as StrValue, Bool as BoolValue, Null as NullValue, EnumName as EnumValue}
 use Rattle.input_values.specs.values.Coerced.{CoercedTree, coerced_null, coerced_integer, coerced_string, coerced_boolean, coerced_enum, coerced_list, coerced_object, coerced_step, coerced_field_step, NamedTree, coerced_tree, named_tree, trees_from, named_trees_from}
 
@@ -36,6 +37,10 @@ pub object_made : (fields : Vec CoercedField Global) → coerced_tree (ObjectVal
 unfolding coerced_tree named_tree Rattle.input_values.specs.declared.values.coerced.Coerced.TheViews.roll-Coerced denote.Hole.Carrier.roll
 object_made fields = fold-roll-Coerced CoercedTree NamedTree coerced_step coerced_field_step (Coerced-F.Object fields)
 
+pub shared_made : (held : _) → coerced_tree (SharedValue held) ≡ coerced_tree (arc_value held)
+unfolding coerced_tree Rattle.input_values.specs.declared.values.coerced.Coerced.TheViews.roll-Coerced denote.Hole.Carrier.roll
+shared_made held = fold-roll-Coerced CoercedTree NamedTree coerced_step coerced_field_step (Coerced-F.Shared held)
+
 pub field_made : (name : List ℕ) (v : Coerced) → named_tree (roll-CoercedField record { name = name; value = v }) ≡ (name, coerced_tree v)
 unfolding named_tree coerced_tree
 field_made name v = fold-roll-CoercedField CoercedTree NamedTree coerced_step coerced_field_step record { name = name; value = v }
@@ -44,4 +49,4 @@ pub field_opened : (f : CoercedField) → named_tree f ≡ (f.name, coerced_tree
 unfolding named_tree coerced_tree
 field_opened f = fold_out-CoercedField CoercedTree NamedTree coerced_step coerced_field_step f
 
-pub ruleset made_trees = (null_made, integer_made, string_made, boolean_made, enum_made, list_made, object_made)
+pub ruleset made_trees = (null_made, integer_made, string_made, boolean_made, enum_made, list_made, object_made, shared_made)

@@ -74,6 +74,7 @@ fn is_flag(value: &Coerced, default: bool) -> bool
         Coerced::EnumName(_) => false,
         Coerced::List(_) => false,
         Coerced::Object(_) => false,
+        Coerced::Shared(held) => is_flag(held, default),
     }
 }
 

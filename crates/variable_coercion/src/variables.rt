@@ -17,7 +17,7 @@ use crate::values::{ValueFault, coerced_default, coerced_json};
 use document_reader::{Operation, VariableDef};
 use gql_base::{Indexed, Text, Value as Literal, index_owned};
 use input_values::places::is_nullable;
-use input_values::{Coerced, Shape, VariableValue};
+use input_values::{Coerced, Shape, VariableValue, made};
 use schema_model::Schema;
 use serde_json::Value;
 use std::alloc::{AllocError, Global};
@@ -153,7 +153,7 @@ fn no_value(alloc: Global, name: &str, nullable: bool) -> Result<Option<Coerced>
     })
 }
 
-/// What a value that is there says of the variable of this name.
+/// What a value that is there says of the variable of this name. Whatever it is written into shares it.
 fn told(
     alloc: Global,
     name: &str,
@@ -162,7 +162,7 @@ fn told(
     ensures { (answer : Result CoercedTree Unfit) → AnswersRefusal coerced_tree unfit_told value answer → AnswersRefusal value_data variable_told result (given_value (variable_refusal name.now) answer) }
 {
     match value {
-        Ok(value) => Ok(Some(value)),
+        Ok(value) => Ok(Some(made::shared(alloc, value)?)),
         Err(ValueFault::BadValue { path }) => Err(CoerceFault::BadValue {
             path: joined(alloc, name, &path)?,
         }),

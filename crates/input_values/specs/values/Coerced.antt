@@ -73,6 +73,7 @@ coerced_step (Coerced-F.Bool b) = coerced_boolean b
 coerced_step (Coerced-F.EnumName name) = coerced_enum name
 coerced_step (Coerced-F.List items) = coerced_list (trees_from items.items)
 coerced_step (Coerced-F.Object fields) = coerced_object (named_trees_from fields.items)
+coerced_step (Coerced-F.Shared held) = held.value
 
 abbrev pub coerced_field_step : CoercedField-F CoercedTree NamedTree → NamedTree
 coerced_field_step f = (f.name, f.value)

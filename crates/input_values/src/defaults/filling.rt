@@ -15,6 +15,7 @@ use crate::coercion::scope::Scope;
 use crate::inputs::shape::Shape;
 use crate::inputs::types::InputTypes;
 use crate::values::coerced::Coerced;
+use crate::values::made;
 use gql_base::{Value, index_owned};
 use std::alloc::{AllocError, Global};
 use thiserror::Error;
@@ -61,20 +62,20 @@ pub fn coerce_default<T: InputTypes>(
     };
     let mut count = 0;
     match coerce_literal(alloc, &scope, shape, literal, &mut count) {
-        Ok(value) => small_value(value, count),
+        Ok(value) => small_value(alloc, value, count),
         Err(fault) => Err(default_fault(fault)),
     }
 }
 
-/// A value that was built, where it is small enough.
-fn small_value(value: Option<Coerced>, count: u64) -> Result<Coerced, DefaultFault>
+/// A value that was built, where it is small enough. Whatever is filled with it shares it.
+fn small_value(alloc: Global, value: Option<Coerced>, count: u64) -> Result<Coerced, DefaultFault>
     ensures { (answer : Answer CoercedTree) → Coerces 1000 0 count (Ok value) answer → AnswersDefault result (small_enough answer) }
 {
     if count > u64::from(DEFAULT_LIMIT) {
         return Err(DefaultFault::Bad);
     }
     match value {
-        Some(value) => Ok(value),
+        Some(value) => Ok(made::shared(alloc, value)?),
         None => Err(DefaultFault::Bad),
     }
 }

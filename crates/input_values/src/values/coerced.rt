@@ -1,6 +1,7 @@
 //! Coerced values (GraphQL October 2021, 3.4 to 3.12).
 
 use gql_base::Text;
+use std::sync::Arc;
 
 /// A value that was coerced to an input type.
 #[derive(Drop)]
@@ -16,6 +17,8 @@ pub enum Coerced {
     /// An input object, by its fields in the order of their definitions; or an object in the value of a custom scalar,
     /// by its fields in the order in which they were given.
     Object(Vec<CoercedField>),
+    /// A list or an object that stands at several places, and is held once.
+    Shared(Arc<Coerced>),
 }
 
 /// A field of an object.

@@ -6,8 +6,9 @@ ghost use Rattle.input_values.specs.values.Coerced.{coerced_tree, named_tree};
 use crate::values::coerced::{Coerced, CoercedField};
 use gql_base::Text;
 use std::alloc::{AllocError, Global};
+use std::sync::Arc;
 
-/// A copy of a coerced value. It fails for want of memory alone.
+/// A copy of a coerced value, where what is shared is shared again. It fails for want of memory alone.
 #[cycle(copies)]
 pub fn copy_value(alloc: Global, value: &Coerced) -> Result<Coerced, AllocError>
     ensures { IfOk result (λ copy. coerced_tree copy ≡ coerced_tree value.now) }
@@ -20,6 +21,7 @@ pub fn copy_value(alloc: Global, value: &Coerced) -> Result<Coerced, AllocError>
         Coerced::EnumName(name) => Ok(Coerced::EnumName(Text::copy_of(alloc, name.as_str())?)),
         Coerced::List(items) => Ok(Coerced::List(copy_items(alloc, items.as_slice())?)),
         Coerced::Object(fields) => Ok(Coerced::Object(copy_fields(alloc, fields.as_slice())?)),
+        Coerced::Shared(held) => Ok(Coerced::Shared(Arc::try_clone(held)?)),
     }
 }
 

@@ -19,6 +19,7 @@ pub fn is_null(value: &Coerced) -> bool
         Coerced::EnumName(_) => false,
         Coerced::List(_) => false,
         Coerced::Object(_) => false,
+        Coerced::Shared(held) => is_null(held),
     }
 }
 
@@ -48,15 +49,21 @@ pub fn count_no_node(limit: u32, count: &mut u64)
 pub fn count_nodes(value: &Coerced, limit: u32, count: &mut u64)
     ensures { count.new ≡ counted limit (count.old + nodes (coerced_tree value.now)) }
 {
-    count_node(limit, count);
     match value {
-        Coerced::List(items) => count_items(items.as_slice(), limit, count),
-        Coerced::Object(fields) => count_fields(fields.as_slice(), limit, count),
-        Coerced::Null => (),
-        Coerced::Int(_) => (),
-        Coerced::Str(_) => (),
-        Coerced::Bool(_) => (),
-        Coerced::EnumName(_) => (),
+        Coerced::Shared(held) => count_nodes(held, limit, count),
+        Coerced::List(items) => {
+            count_node(limit, count);
+            count_items(items.as_slice(), limit, count);
+        }
+        Coerced::Object(fields) => {
+            count_node(limit, count);
+            count_fields(fields.as_slice(), limit, count);
+        }
+        Coerced::Null => count_node(limit, count),
+        Coerced::Int(_) => count_node(limit, count),
+        Coerced::Str(_) => count_node(limit, count),
+        Coerced::Bool(_) => count_node(limit, count),
+        Coerced::EnumName(_) => count_node(limit, count),
     }
 }
 

@@ -1,10 +1,12 @@
 //! Coerced values that are made, and the trees that they stand for.
 
-ghost use Rattle.std.specs.Prelude.{◌≡◌, map};
+ghost use Rattle.std.specs.Prelude.{◌≡◌, IfOk, map};
 ghost use Rattle.input_values.specs.values.Coerced.{coerced_tree, named_tree, coerced_null, coerced_integer, coerced_string, coerced_boolean, coerced_enum, coerced_list, coerced_object, trees_from, named_trees_from};
 
 use crate::values::coerced::{Coerced, CoercedField};
 use gql_base::Text;
+use std::alloc::{AllocError, Global};
+use std::sync::Arc;
 
 /// Null.
 #[tactic(auto, unfolding(crate::specs::values::Coerced::coerced_tree))]
@@ -60,6 +62,38 @@ pub fn object(fields: Vec<CoercedField>) -> Coerced
     ensures { coerced_tree result ≡ coerced_object (named_trees_from (map named_tree fields.items)) }
 {
     Coerced::Object(fields)
+}
+
+// A value that is held once for all places where it stands.
+#[tactic(auto, using(crate::proofs::CoercedTrees::shared_made))]
+fn held_once(alloc: Global, value: Coerced) -> Result<Coerced, AllocError>
+    ensures { IfOk result (λ v. coerced_tree v ≡ coerced_tree value) }
+{
+    Ok(Coerced::Shared(Arc::new(alloc, value)?))
+}
+
+// Whether a value holds others.
+fn is_composite(value: &Coerced) -> bool {
+    match value {
+        Coerced::List(_) | Coerced::Object(_) => true,
+        Coerced::Null
+        | Coerced::Int(_)
+        | Coerced::Str(_)
+        | Coerced::Bool(_)
+        | Coerced::EnumName(_)
+        | Coerced::Shared(_) => false,
+    }
+}
+
+/// The same value, whose copies share it where it is a list or an object. It fails for want of memory alone.
+pub fn shared(alloc: Global, value: Coerced) -> Result<Coerced, AllocError>
+    ensures { IfOk result (λ v. coerced_tree v ≡ coerced_tree value) }
+{
+    if is_composite(&value) {
+        held_once(alloc, value)
+    } else {
+        Ok(value)
+    }
 }
 
 /// A field of an object.

@@ -1,27 +1,12 @@
-use Rattle.std.proofs.Common.{rules, arith, None, map, refl, ap, ◌∙◌}
+use Rattle.std.proofs.Common.{arith, None, map, refl, ap, ◌∙◌}
 use Rattle.cost_num.specs.Capped.{capped}
 use Rattle.input_values.specs.inputs.Shapes.{shape_tree}
 use Rattle.input_values.specs.values.Coerced.{coerced_tree, coerced_null, coerced_integer, coerced_string, coerced_boolean, coerced_enum, coerced_list, coerced_object}
 use Rattle.input_values.proofs.CoercedTrees.{null_made, integer_made, string_made, boolean_made, enum_made, list_made, object_made}
 use Rattle.cost_directives.specs.ArgumentCosts.{value_cost, list_cost, record_cost}
 use Rattle.cost_directives.specs.WeightViews.{type_inputs, input_weight, maybe_input}
-use Rattle.cost_directives.proofs.CostSteps.{items_in, fields_in, one_item, one_field, no_item_left, no_field_left, list_falls, object_falls, item_falls, field_falls, value_falls, cost_is, field_cost_is}
+use Rattle.cost_directives.proofs.CostSteps.{items_in, fields_in, one_item, one_field, no_item_left, no_field_left, cost_is, field_cost_is}
 use Rattle.cost_directives.proofs.argument_costs.+costs.Goals as goal
-
-pub value_cost-list_cost-requires : goal.value_cost-list_cost-requires
-value_cost-list_cost-requires t c = let less = list_falls c.args.value.now c.in-List.items.items c.as_slice.result.now (ap coerced_tree c.in-List.is ∙ list_made c.in-List.items) c.as_slice.ensures.value in search (rules, less)
-
-pub value_cost-record_cost-requires : goal.value_cost-record_cost-requires
-value_cost-record_cost-requires t c = let less = object_falls c.args.value.now c.in-Object.fields.items c.as_slice-in-Object.result.now (ap coerced_tree c.in-Object.is ∙ object_made c.in-Object.fields) c.as_slice-in-Object.ensures.value in search (rules, less)
-
-pub items_cost-value_cost-requires : goal.items_cost-value_cost-requires
-items_cost-value_cost-requires t c = let less = item_falls c.args.items.now c.items.value-index c.value-item.result c.items-test.true c.value-item.is in search (rules, less)
-
-pub fields_cost-field_cost-requires : goal.fields_cost-field_cost-requires
-fields_cost-field_cost-requires t c = let less = field_falls c.args.fields.now c.fields.field-index c.field-item.result c.fields-test.true c.field-item.is in search (rules, less)
-
-pub field_cost-value_cost-requires : goal.field_cost-value_cost-requires
-field_cost-value_cost-requires t c = let less = value_falls c.args.field.now c.args.field.now.value refl in search (rules, less)
 
 pub items_cost-items-preserved : goal.items_cost-items-preserved
 items_cost-items-preserved t c =

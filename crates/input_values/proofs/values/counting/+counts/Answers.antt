@@ -15,4 +15,4 @@ count_nodes-returns-in-List t c =
 pub count_nodes-returns-in-Object : goal.count_nodes-returns-in-Object
 count_nodes-returns-in-Object t c =
     let all = ap (λ v. nodes (coerced_tree v)) c.in-Object.is ∙ object_nodes_are c.in-Object.fields c.as_slice-in-Object.result.now c.as_slice-in-Object.ensures.value in
-    omega (arith, all, c.count_node.ensures, c.count_fields.ensures)
+    omega (arith, all, c.count_node-in-Object.ensures, c.count_fields.ensures)
