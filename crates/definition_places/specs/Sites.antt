@@ -5,7 +5,7 @@ use Rattle.std.specs.Str.{bytes_eq}
 use Rattle.std.specs.Option.{is_some}
 use Rattle.gql_base.specs.declared.lexical.token.Token.{Token}
 use Rattle.gql_base.specs.declared.lexical.token.TokenKind.{TokenKind}
-use Rattle.gql_base.specs.declared.lexical.token.TokenKind.TheVariants.{Name, Int, Str, BlockStr, Bang, Dollar, Amp, OpenParen, CloseParen, Spread, Colon, Equals, At, OpenBracket, CloseBracket, OpenBrace, Pipe, CloseBrace}
+use Rattle.gql_base.specs.declared.lexical.token.TokenKind.TheVariants.{Name, Amp, OpenParen, CloseParen, Colon, Equals, At, OpenBracket, CloseBracket, OpenBrace, Pipe, CloseBrace}
 use Rattle.gql_base.specs.lexical.Tokens.{Lexes, bytes_at}
 use Rattle.schema_rules.specs.Places.{PlaceTree, at_type, at_field, at_argument, at_directive, at_directive_argument, at_schema, place_text}
 

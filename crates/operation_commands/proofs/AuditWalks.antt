@@ -1,5 +1,5 @@
 -- What an audit has found so far, and what is left.
-use Rattle.std.proofs.Common.{◌≡◌, ◌≢◌, ◌∙◌, ℕ, ◌+◌, ◌<◌, ◌≤◌, suc, inl, inr, List, [], ◌∷◌, ◌++◌, length, map, drop, get_or, Vec, Option, None, Some, refl, sym, ap, subst, arith, drop-cons}
+use Rattle.std.proofs.Common.{◌≡◌, ◌∙◌, ℕ, ◌+◌, ◌<◌, ◌≤◌, suc, List, [], ◌∷◌, ◌++◌, length, map, drop, get_or, Vec, refl, sym, ap, subst, arith, drop-cons}
 use Rattle.std.specs.List.{AllZip}
 use Rattle.std.specs.declared.alloc.Global.{Global}
 use Rattle.std.proofs.lemmas.List.{append_assoc, append-nil, drop_all, length-append, get_or-map}
@@ -9,7 +9,7 @@ use Rattle.document_reader.specs.DocumentAnswers.{IsDocumentOf}
 use Rattle.command_words.specs.declared.command.AskedAudit.{AskedAudit}
 use Rattle.operation_commands.specs.declared.asked.AskedTexts.{AskedTexts}
 use Rattle.operation_commands.specs.declared.findings.Finding.{Finding}
-use Rattle.operation_commands.specs.Audit.{texts_alone, operation_names, names_in, IsFinding, FindEach, FindsOperations, AreFoundIn, AreFound, Adds}
+use Rattle.operation_commands.specs.Audit.{operation_names, names_in, IsFinding, FindEach, FindsOperations, AreFoundIn, AreFound, Adds}
 
 abbrev pub bytes_of : Vec ℕ Global → List ℕ
 bytes_of v = v.items

@@ -6,7 +6,6 @@ mod OnePrice
 mod OneMeasure
 mod OperationLines
 mod TabledPlans
-mod ToldSpots
 mod AuditWalks
 mod AuditedPrices
 mod AuditTotals

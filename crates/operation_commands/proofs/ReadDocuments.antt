@@ -1,5 +1,5 @@
 -- The files of documents, read one after another.
-use Rattle.std.proofs.Common.{◌≡◌, ◌∙◌, inl, inr, ℕ, ◌+◌, ◌<◌, ◌≤◌, suc, List, [], ◌∷◌, ◌++◌, length, drop, get_or, Option, Contains, map, Vec, refl, sym, ap, subst, arith, drop-cons}
+use Rattle.std.proofs.Common.{◌≡◌, ◌∙◌, ℕ, ◌+◌, ◌<◌, ◌≤◌, suc, List, [], ◌∷◌, ◌++◌, length, drop, get_or, Option, sym, ap, subst, arith, drop-cons}
 use Rattle.std.proofs.lemmas.List.{append_assoc, append-nil, drop_all}
 use Rattle.command_outcomes.specs.declared.limits.TheConstants.{DOCUMENT_LIMIT}
 use Rattle.command_outcomes.specs.Reading.{IsRead}

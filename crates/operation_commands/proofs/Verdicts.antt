@@ -1,12 +1,12 @@
 -- What is found of an operation, by what its price is or why it has none.
-use Rattle.std.proofs.Common.{◌≡◌, ◌≤◌, inl, inr, ℕ, List, [], Option, None, Some, refl, sym, ap, subst}
+use Rattle.std.proofs.Common.{◌≡◌, ◌≤◌, inl, inr, ℕ, List, [], Option, None, refl, sym, ap, subst}
 use Rattle.serde_json.specs.View.{view}
 use Rattle.cost_num.specs.declared.TheConstants.{CAP}
 use Rattle.cost_num.specs.declared.Cost.{Cost}
 use Rattle.document_reader.specs.declared.trees.Document.{Document}
 use Rattle.document_reader.specs.DocumentAnswers.{IsDocumentOf}
 use Rattle.acceptance.specs.Requests.{RequestData}
-use Rattle.acceptance.specs.Refusals.{IsUnread}
+use Rattle.acceptance.specs.Refusals.{}
 use Rattle.command_words.specs.declared.command.Asked.{Asked}
 use Rattle.command_words.specs.declared.command.AskedAudit.{AskedAudit}
 use Rattle.command_outcomes.specs.declared.limits.TheConstants.{DOCUMENT_LIMIT}

@@ -16,11 +16,15 @@ pub struct Place<'a> {
     pub offset: usize,
 }
 
-/// The name that stands at a place, with the `$` or the `@` in front of it; the empty text where there is none.
+/// The name that stands at a place, with the `$` or the `@` in front of it; that the text ends there, where it does; the empty text where
+/// neither is so.
 fn name_at<'a>(place: Place<'a>) -> &'a str {
     let Some(rest) = place.text.get(place.offset..) else {
         return "";
     };
+    if rest.is_empty() {
+        return "The end of the text";
+    }
     match rest.split_once(|c: char| !(c.is_ascii_alphanumeric()
         || c == '_'
         || c == '$'

@@ -19,7 +19,7 @@ const ROWS: &[(&str, Option<Place<'_>>, &str)] = &[
             text: "{ a",
             offset: 3,
         }),
-        "document 2 Unexpected 3\nline 1, column 4:\n{ a\n   ^\nWhat stands at the mark can't follow what stands before it.\nLook at what stands in front of it: each opening brace and parenthesis has its closing one, and none is empty.",
+        "document 2 Unexpected 3\nline 1, column 4:\n{ a\n   ^\nThe end of the text can't follow what stands before it.\nLook at what stands in front of it: each opening brace and parenthesis has its closing one, and none is empty.",
     ),
     (
         "plan 1 Argument data.a 2 BadValue first",

@@ -1,4 +1,4 @@
-use Rattle.std.proofs.Common.{◌≡◌, ◌∙◌, List, ap}
+use Rattle.std.proofs.Common.{◌∙◌, ap}
 use Rattle.std.proofs.lemmas.Result.{IfOk-weaker}
 use Rattle.definition_places.specs.Sites.{at_first, first_site, IsDefinedAt}
 use Rattle.definition_places.proofs.finding.defined_at.Goals as goal
