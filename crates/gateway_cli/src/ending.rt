@@ -36,8 +36,6 @@ fn end_run<Rt: Threads + Wait + Sync, F: Files, D: Doors, J: Disks, K: Sink, E: 
     out: &mut K,
     err: &mut E,
 ) -> ExitCode
-where
-    J::D: Drop,
     requires idle { D.running doors.old ≡ 0 }
     ensures ran { Runs words.now (exit_status result) (files_call F.content F.faults files.old files.new)
         (outside_call (doors_call D.faults D.asked D.running D.stopped doors.old doors.new) (disks_call J.holds J.last J.faults disks.old disks.new))
@@ -60,8 +58,6 @@ pub(crate) fn end<Rt: Threads + Wait + Sync, F: Files, D: Doors, J: Disks, K: Si
     out: &mut K,
     err: &mut E,
 ) -> ExitCode
-where
-    J::D: Drop,
     requires idle { D.running doors.old ≡ 0 }
     ensures ran { IfOk words (λ words. Runs words.items (exit_status result) (files_call F.content F.faults files.old files.new)
         (outside_call (doors_call D.faults D.asked D.running D.stopped doors.old doors.new) (disks_call J.holds J.last J.faults disks.old disks.new))

@@ -42,8 +42,6 @@ fn outcome_of<Rt: Threads + Wait + Sync, F: Files, D: Doors, J: Disks>(
     doors: &mut D,
     disks: &mut J,
 ) -> Outcome
-where
-    J::D: Drop,
     requires limits { ServesWithinLimits command }
     requires idle { D.running doors.old ≡ 0 }
     ensures { CommandCameTo command (files_told (F.content files.old) (F.faults files.old) (F.faults files.new))
@@ -89,8 +87,6 @@ fn answer_words<Rt: Threads + Wait + Sync, F: Files, D: Doors, J: Disks>(
     doors: &mut D,
     disks: &mut J,
 ) -> Outcome
-where
-    J::D: Drop,
     requires idle { D.running doors.old ≡ 0 }
     ensures { ComeTo words.now (files_told (F.content files.old) (F.faults files.old) (F.faults files.new))
         (outside_call (doors_call D.faults D.asked D.running D.stopped doors.old doors.new) (disks_call J.holds J.last J.faults disks.old disks.new)) result }
@@ -113,8 +109,6 @@ pub fn run<Rt: Threads + Wait + Sync, F: Files, D: Doors, J: Disks, K: Sink, E: 
     out: &mut K,
     err: &mut E,
 ) -> u8
-where
-    J::D: Drop,
     requires idle { D.running doors.old ≡ 0 }
     ensures { Runs words.now result (files_call F.content F.faults files.old files.new)
         (outside_call (doors_call D.faults D.asked D.running D.stopped doors.old doors.new) (disks_call J.holds J.last J.faults disks.old disks.new))

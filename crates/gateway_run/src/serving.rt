@@ -85,8 +85,6 @@ fn keep_by<Rt: Threads + Wait + Sync, D: Doors, J: Disks>(
     doors: &mut D,
     disks: &mut J,
 ) -> Outcome
-where
-    J::D: Drop,
     requires limits { ServesWithinLimits (Serve asked.now) }
     requires one { asked.now.workers ≡ 1 }
     requires weighed { HasWeights (schema_data inputs.rules.weighed.schema) (weights_data inputs.rules.weighed.weights) }
@@ -164,8 +162,6 @@ fn serve_asked<Rt: Threads + Wait + Sync, D: Doors, J: Disks>(
     doors: &mut D,
     disks: &mut J,
 ) -> Outcome
-where
-    J::D: Drop,
     requires limits { ServesWithinLimits (Serve asked.now) }
     requires weighed { HasWeights (schema_data inputs.rules.weighed.schema) (weights_data inputs.rules.weighed.weights) }
     requires served { MayBeServed inputs.rules.clients.window_seconds inputs.rules.clients.clients.items }
@@ -187,8 +183,6 @@ fn serve_of<Rt: Threads + Wait + Sync, D: Doors, J: Disks>(
     doors: &mut D,
     disks: &mut J,
 ) -> Outcome
-where
-    J::D: Drop,
     requires limits { ServesWithinLimits (Serve asked.now) }
     requires text { IsText SCHEMA_LIMIT texts.now.rules.schema }
     requires idle { D.running doors.old ≡ 0 }
@@ -216,8 +210,6 @@ pub fn serve<Rt: Threads + Wait + Sync, F: Files, D: Doors, J: Disks>(
     doors: &mut D,
     disks: &mut J,
 ) -> Outcome
-where
-    J::D: Drop,
     requires limits { ServesWithinLimits (Serve asked.now) }
     requires idle { D.running doors.old ≡ 0 }
     ensures { ServeCameTo asked.now (files_told (F.content files.old) (F.faults files.old) (F.faults files.new))

@@ -9,7 +9,7 @@ use std::alloc::Global;
 
 /// Disks by their names, which are opened and shut.
 pub trait Disks {
-    type D: Disk;
+    type D: Disk + Drop;
 
     /// What the disk of a name reads as when it is opened, where that is told.
     ghost holds: { Self → List ℕ → Option (List ℕ) };

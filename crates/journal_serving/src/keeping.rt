@@ -150,8 +150,6 @@ pub fn serve_journal<D: Doors, J: Disks, R: Wait>(
     doors: &mut D,
     serving: &Serving<'_>,
 ) -> Result<KeptEnd, KeptFault>
-where
-    J::D: Drop,
     requires idle { D.running doors.old ≡ 0 }
     requires workers { serving.now.workers ≡ 1 }
     requires connections { serving.now.connections ≤ CONNECTION_LIMIT }
