@@ -32,6 +32,7 @@ fn is_true(value: &Coerced) -> bool
         Coerced::EnumName(_) => false,
         Coerced::List(_) => false,
         Coerced::Object(_) => false,
+        Coerced::Shared(held) => is_true(held),
     }
 }
 
@@ -56,6 +57,7 @@ fn place_named<N: Named + Drop>(names: &Indexed<N>, value: &Coerced) -> Option<u
         Coerced::EnumName(_) => None,
         Coerced::List(_) => None,
         Coerced::Object(_) => None,
+        Coerced::Shared(held) => place_named(names, held),
     }
 }
 

@@ -1,29 +1,23 @@
 -- Fields that are told to look like others.
 use Rattle.std.proofs.Common.{◌≡◌, inl, inr, ℕ, zero, suc, ◌+◌, ◌<◌, ◌≤◌, List, [], ◌∷◌, ◌++◌, map, take, length, get_or, Option, refl, sym, ap, ◌∙◌, subst, append-nil, arith}
-use Rattle.std.specs.Prelude.{option_map}
 use Rattle.std.proofs.lemmas.List.{map_push, take_more, take_all}
 use Rattle.gql_base.specs.parts.Trees.{named_value}
-use Rattle.document_rules.specs.Sites.{below_field, meaning_on}
 use Rattle.document_rules.proofs.SiteSteps.{name_of_names}
-use Rattle.schema_model.specs.Numbers.{type_number}
 use Rattle.schema_model.specs.SchemaData.{SchemaData}
-use Rattle.plan_model.specs.SelectedFields.{FieldCall, is_asked, written_below, is_abstract}
 use Rattle.plan_model.specs.GivenAlike.{AreGivenAlike}
 use Rattle.plan_model.specs.Likeness.{HasLike, LooksLike, AreLike}
 use Rattle.plan_model.proofs.LikeLists.{one_behind}
 use Rattle.collected_fields.specs.declared.collected.Collected.{Collected}
-use Rattle.collected_fields.specs.Views.{collected_field}
+use Rattle.collected_fields.specs.Views.{collected_field, asks_in}
 
--- what is asked rests on the name alone
-asked_alike : (s : SchemaData) (parent other : Option ℕ) (c d : FieldCall) → parent ≡ other → c.name ≡ d.name → is_asked s parent c ≡ is_asked s other d
-unfolding is_asked written_below
-asked_alike s parent other c d same named = ap (λ p. is_abstract s (below_field s (meaning_on s p c.name))) same ∙ ap (λ (n : List ℕ). is_abstract s (below_field s (meaning_on s other n))) named
-
-pub look_alike : (f g : Collected) → option_map type_number f.parent ≡ option_map type_number g.parent → (collected_field f).key ≡ (collected_field g).key → f.field.now.name.text ≡ g.field.now.name.text
-    → AreGivenAlike (map named_value f.field.now.arguments.items) (map named_value g.field.now.arguments.items) → (s : SchemaData) → LooksLike s (collected_field f) (collected_field g)
-look_alike f g parents keys names given s =
-    let named : (collected_field f).call.name ≡ (collected_field g).call.name = ap (λ i. i.0) (name_of_names f.field.now.alias f.field.now.name) ∙ (names ∙ sym (ap (λ i. i.0) (name_of_names g.field.now.alias g.field.now.name))) in
-    record { key = keys; name = named; given = given; asked = asked_alike s (option_map type_number f.parent) (option_map type_number g.parent) (collected_field f).call (collected_field g).call parents named }
+pub look_alike : (s : SchemaData) (f g : Collected) → (collected_field f).key ≡ (collected_field g).key → f.field.now.name.text ≡ g.field.now.name.text → asks_in s (collected_field f) ≡ asks_in s (collected_field g)
+    → AreGivenAlike (map named_value f.field.now.arguments.items) (map named_value g.field.now.arguments.items) → LooksLike s (collected_field f) (collected_field g)
+look_alike s f g keys names asked given = record {
+  key = keys;
+  name = ap (λ i. i.0) (name_of_names f.field.now.alias f.field.now.name) ∙ (names ∙ sym (ap (λ i. i.0) (name_of_names g.field.now.alias g.field.now.name)));
+  given = given;
+  asked = asked;
+}
 
 pub like_at : (s : SchemaData) (fields : List Collected) (at : ℕ) (f g : Collected) → at < length fields → g ≡ get_or fields at g → LooksLike s (collected_field f) (collected_field g) → HasLike (LooksLike s) (map collected_field fields) (collected_field f)
 like_at s [] at f g less is like = absurd (none_less at less)

@@ -5,9 +5,7 @@ use Rattle.std.specs.Prelude.{All}
 use Rattle.std.proofs.lemmas.List.{map_push, map-append, take_more, take_all, drop_all}
 use Rattle.gql_base.proofs.Lists.{at_front}
 use Rattle.std.proofs.lemmas.List.Elements.{All-head, All-cons}
-use Rattle.input_values.specs.inputs.Shapes.{named_shape}
-use Rattle.schema_rules.specs.declared.kind.Kind.TheVariants.{Scalar}
-use Rattle.schema_model.specs.SchemaData.{SchemaData, TypeData, FieldData}
+use Rattle.schema_model.specs.SchemaData.{SchemaData}
 use Rattle.document_rules.proofs.Lists.{map_twice}
 use Rattle.plan_model.specs.Collecting.{CollectedField}
 use Rattle.plan_model.specs.Repeats.{LeavesOutRepeats}
@@ -83,46 +81,46 @@ one_stands old new numbers number stands known =
 
 -- ---- groups
 
-pub finished : (old new : Joins) (fields unlike : List Collected) (numbers below : List ℕ) (g : Group) → ((s : SchemaData) → AreLike s (map collected_field fields) (map collected_field unlike)) → numbers ≡ map number_alone (map numbered fields) → StandFor old new numbers below
-    → g.fields.items ≡ unlike → g.below.items ≡ below → Finishes old new (map numbered fields) g
-finished old new fields unlike numbers below g like is stand these those = record {
-  like = λ s. subst (λ fs. AreLike s fs (map collected_field g.fields.items)) (sym (alone_all fields)) (subst (λ cs. AreLike s (map collected_field fields) (map collected_field cs)) (sym these) (like s));
+pub finished : (s : SchemaData) (old new : Joins) (fields unlike : List Collected) (numbers below : List ℕ) (g : Group) → AreLike s (map collected_field fields) (map collected_field unlike) → numbers ≡ map number_alone (map numbered fields) → StandFor old new numbers below
+    → g.fields.items ≡ unlike → g.below.items ≡ below → Finishes s old new (map numbered fields) g
+finished s old new fields unlike numbers below g like is stand these those = record {
+  like = subst (λ fs. AreLike s fs (map collected_field g.fields.items)) (sym (alone_all fields)) (subst (λ cs. AreLike s (map collected_field fields) (map collected_field cs)) (sym these) like);
   below = subst (λ ns. StandFor old new ns g.below.items) is (subst (λ bs. StandFor old new numbers bs) (sym those) stand);
 }
 
-module _ (fields : List (Vec Collected Global)) (at : ℕ) (of : Vec Collected Global) (here : at < length fields) (is : of ≡ get_or fields at of) where
+module _ (s : SchemaData) (fields : List (Vec Collected Global)) (at : ℕ) (of : Vec Collected Global) (here : at < length fields) (is : of ≡ get_or fields at of) where
   one_key_more : map numbered_group (take (at + 1) fields) ≡ map numbered_group (take at fields) ++ (numbered_group of ∷ [])
   one_key_more = ap (map numbered_group) (take_more fields at of here ∙ ap (λ x. take at fields ++ (x ∷ [])) (sym is)) ∙ map_push numbered_group (take at fields) of
 
-  pub finished_next : (a b c : Joins) (groups pushed : List Group) (g : Group) → pushed ≡ groups ++ (g ∷ []) → HasMore a b → HasMore b c → AllFinish a b (map numbered_group (take at fields)) groups → Finishes b c (numbered_group of) g
-      → AllFinish a c (map numbered_group (take (at + 1) fields)) pushed
+  pub finished_next : (a b c : Joins) (groups pushed : List Group) (g : Group) → pushed ≡ groups ++ (g ∷ []) → HasMore a b → HasMore b c → AllFinish s a b (map numbered_group (take at fields)) groups → Finishes s b c (numbered_group of) g
+      → AllFinish s a c (map numbered_group (take (at + 1) fields)) pushed
   finished_next a b c groups pushed g grown first second before one =
-      subst (λ fs. AllFinish a c fs pushed) (sym one_key_more) (subst (λ gs. AllFinish a c (map numbered_group (take at fields) ++ (numbered_group of ∷ [])) gs) (sym grown)
-      (one_more_finished a c (map numbered_group (take at fields)) groups (numbered_group of) g
-      (all_finish_still a a b c (map numbered_group (take at fields)) groups (more_itself a) second before) (finishes_still a b c c (numbered_group of) g first (more_itself c) one)))
+      subst (λ fs. AllFinish s a c fs pushed) (sym one_key_more) (subst (λ gs. AllFinish s a c (map numbered_group (take at fields) ++ (numbered_group of ∷ [])) gs) (sym grown)
+      (one_more_finished s a c (map numbered_group (take at fields)) groups (numbered_group of) g
+      (all_finish_still s a a b c (map numbered_group (take at fields)) groups (more_itself a) second before) (finishes_still s a b c c (numbered_group of) g first (more_itself c) one)))
 
-  pub shortened_next : (a b c : Joins) (all made pushed : List Collected) → pushed ≡ all ++ made → a.count ≡ b.count → HasMore a b → HasMore b c → AllShorten a b (map numbered_group (take at fields)) (map numbered all) → Shortens b c (numbered_group of) (map numbered made)
-      → AllShorten a c (map numbered_group (take (at + 1) fields)) (map numbered pushed)
+  pub shortened_next : (a b c : Joins) (all made pushed : List Collected) → pushed ≡ all ++ made → a.count ≡ b.count → HasMore a b → HasMore b c → AllShorten s a b (map numbered_group (take at fields)) (map numbered all) → Shortens s b c (numbered_group of) (map numbered made)
+      → AllShorten s a c (map numbered_group (take (at + 1) fields)) (map numbered pushed)
   shortened_next a b c all made pushed grown same first second before one =
-      subst (λ fs. AllShorten a c fs (map numbered pushed)) (sym one_key_more)
-      (subst (λ ns. AllShorten a c (map numbered_group (take at fields) ++ (numbered_group of ∷ [])) ns) (sym (ap (map numbered) grown ∙ map-append numbered all made))
-      (one_more_shorter a c (map numbered_group (take at fields)) (map numbered all) (numbered_group of) (map numbered made)
-      (all_shorten_still a a b c (map numbered_group (take at fields)) (map numbered all) (λ none. none) (more_itself a) second before)
-      (shortens_still a b c c (numbered_group of) (map numbered made) (still_nothing a b same first) first (more_itself c) one)))
+      subst (λ fs. AllShorten s a c fs (map numbered pushed)) (sym one_key_more)
+      (subst (λ ns. AllShorten s a c (map numbered_group (take at fields) ++ (numbered_group of ∷ [])) ns) (sym (ap (map numbered) grown ∙ map-append numbered all made))
+      (one_more_shorter s a c (map numbered_group (take at fields)) (map numbered all) (numbered_group of) (map numbered made)
+      (all_shorten_still s a a b c (map numbered_group (take at fields)) (map numbered all) (λ none. none) (more_itself a) second before)
+      (shortens_still s a b c c (numbered_group of) (map numbered made) (still_nothing a b same first) first (more_itself c) one)))
 
-pub finished_all : (a b : Joins) (fields : List (Vec Collected Global)) (at : ℕ) (groups : List Group) → length fields ≤ at → AllFinish a b (map numbered_group (take at fields)) groups → AllFinish a b (map numbered_group fields) groups
-finished_all a b fields at groups past h = subst (λ (fs : List (Vec Collected Global)). AllFinish a b (map numbered_group fs) groups) (take_all at fields past) h
+pub finished_all : (s : SchemaData) (a b : Joins) (fields : List (Vec Collected Global)) (at : ℕ) (groups : List Group) → length fields ≤ at → AllFinish s a b (map numbered_group (take at fields)) groups → AllFinish s a b (map numbered_group fields) groups
+finished_all s a b fields at groups past h = subst (λ (fs : List (Vec Collected Global)). AllFinish s a b (map numbered_group fs) groups) (take_all at fields past) h
 
-pub shortened_all : (a b : Joins) (fields : List (Vec Collected Global)) (at : ℕ) (made : List NumberedField) → length fields ≤ at → AllShorten a b (map numbered_group (take at fields)) made → AllShorten a b (map numbered_group fields) made
-shortened_all a b fields at made past h = subst (λ (fs : List (Vec Collected Global)). AllShorten a b (map numbered_group fs) made) (take_all at fields past) h
+pub shortened_all : (s : SchemaData) (a b : Joins) (fields : List (Vec Collected Global)) (at : ℕ) (made : List NumberedField) → length fields ≤ at → AllShorten s a b (map numbered_group (take at fields)) made → AllShorten s a b (map numbered_group fields) made
+shortened_all s a b fields at made past h = subst (λ (fs : List (Vec Collected Global)). AllShorten s a b (map numbered_group fs) made) (take_all at fields past) h
 
 -- ---- few fields in the place of others
 
-short_already : (j : Joins) (fields : List NumberedField) → Shortens j j fields fields
-short_already j fields = record { like = λ s. all_like_themselves s [] (map field_alone fields); below = λ none. stand_themselves j j (map number_alone fields) (more_itself j) }
+short_already : (s : SchemaData) (j : Joins) (fields : List NumberedField) → Shortens s j j fields fields
+short_already s j fields = record { like = all_like_themselves s [] (map field_alone fields); below = λ none. stand_themselves j j (map number_alone fields) (more_itself j) }
 
-pub short_copied : (j : Joins) (fields made : List Collected) → made ≡ fields → Shortens j j (map numbered fields) (map numbered made)
-short_copied j fields made same = subst (λ (cs : List Collected). Shortens j j (map numbered fields) (map numbered cs)) (sym same) (short_already j (map numbered fields))
+pub short_copied : (s : SchemaData) (j : Joins) (fields made : List Collected) → made ≡ fields → Shortens s j j (map numbered fields) (map numbered made)
+short_copied s j fields made same = subst (λ (cs : List Collected). Shortens s j j (map numbered fields) (map numbered cs)) (sym same) (short_already s j (map numbered fields))
 
 alone_with : (number nothing : ℕ) (fields : List CollectedField) → map field_alone (with_number number nothing fields) ≡ fields
 alone_with number nothing [] = refl
@@ -156,32 +154,22 @@ module _ (j : Joins) (nothing : ℕ) (known : IsNumberIn j nothing) (none : sets
   unfolding beside
   with_stands number f fs = ap (λ xs. sets_in_joins j number ++ xs) (nothings_stand fs) ∙ append-nil (sets_in_joins j number)
 
--- a schema, if there were none
-bare_type : TypeData
-bare_type = record { name = []; kind = Scalar; names = []; fields = []; interfaces = []; members = []; values = []; inputs = []; cost = None }
-
-bare_field : FieldData
-bare_field = record { name = []; owner = 0; shape = named_shape 0 true; arguments = []; cost = None; size = None }
-
-bare_schema : SchemaData
-bare_schema = record { types = []; fields = []; other_type = bare_type; other_field = bare_field; directives = []; defined = 0; query = 0; mutation = None; subscription = None }
-
 -- Fields that are like none are none.
 like_none : (s : SchemaData) (fields : List CollectedField) → AreLike s fields [] → fields ≡ []
 like_none s [] a = refl
 like_none s (f ∷ fields) a = absurd a.0
 
-pub shortened_by : (old new : Joins) (fields made : List NumberedField) (unlike : List CollectedField) (number : ℕ) → old.count ≡ new.count → HasMore old new → ((s : SchemaData) → AreLike s (map field_alone fields) unlike) → StandsForAll old new (map number_alone fields) number
-    → made ≡ with_number number new.count unlike → Shortens old new fields made
-shortened_by old new fields made unlike number same more like stands is = subst (λ ns. Shortens old new fields ns) (sym is) (record {
-  like = λ s. subst (λ fs. AreLike s (map field_alone fields) fs) (sym (alone_with number new.count unlike)) (like s);
+pub shortened_by : (s : SchemaData) (old new : Joins) (fields made : List NumberedField) (unlike : List CollectedField) (number : ℕ) → old.count ≡ new.count → HasMore old new → AreLike s (map field_alone fields) unlike → StandsForAll old new (map number_alone fields) number
+    → made ≡ with_number number new.count unlike → Shortens s old new fields made
+shortened_by s old new fields made unlike number same more like stands is = subst (λ ns. Shortens s old new fields ns) (sym is) (record {
+  like = subst (λ fs. AreLike s (map field_alone fields) fs) (sym (alone_with number new.count unlike)) like;
   below = λ nothing known.
       let none = still_nothing old new same more nothing in
       let here = stands known in
-      (with_known new new.count none.0 none.1 number unlike here.0, by_fields none.0 none.1 unlike (like_none bare_schema (map field_alone fields)) (like bare_schema) here.1);
+      (with_known new new.count none.0 none.1 number unlike here.0, by_fields none.0 none.1 unlike (like_none s (map field_alone fields)) like here.1);
 })
   where
-    by_fields : IsNumberIn new new.count → sets_in_joins new new.count ≡ [] → (us : List CollectedField) → (AreLike bare_schema (map field_alone fields) [] → map field_alone fields ≡ []) → AreLike bare_schema (map field_alone fields) us → LeavesOutRepeats (flat_map (sets_in_joins old) (map number_alone fields)) (sets_in_joins new number)
+    by_fields : IsNumberIn new new.count → sets_in_joins new new.count ≡ [] → (us : List CollectedField) → (AreLike s (map field_alone fields) [] → map field_alone fields ≡ []) → AreLike s (map field_alone fields) us → LeavesOutRepeats (flat_map (sets_in_joins old) (map number_alone fields)) (sets_in_joins new number)
         → LeavesOutRepeats (flat_map (sets_in_joins old) (map number_alone fields)) (flat_map (sets_in_joins new) (map number_alone (with_number number new.count us)))
     by_fields there none [] empty a thin = subst (λ ns. LeavesOutRepeats (flat_map (sets_in_joins old) (map number_alone ns)) []) (sym (no_fields fields (empty a))) tt
       where
@@ -213,7 +201,7 @@ with_all below nothing fields made at whole past before =
     sym (append-nil (map numbered made)) ∙ (ap (λ (cs : List Collected). map numbered made ++ with_number below nothing (map collected_field cs)) (sym (drop_all at fields past)) ∙ before)
 
 -- few fields of one key, whose first has a number for all
-pub shortened_joined : (old new : Joins) (fields unlike made : List Collected) (numbers : List ℕ) (number : ℕ) → new.count ≡ old.count → HasMore old new → ((s : SchemaData) → AreLike s (map collected_field fields) (map collected_field unlike)) → numbers ≡ map number_alone (map numbered fields)
-    → StandsForAll old new numbers number → map numbered made ≡ with_number number new.count (map collected_field unlike) → Shortens old new (map numbered fields) (map numbered made)
-shortened_joined old new fields unlike made numbers number same more like is stands by = shortened_by old new (map numbered fields) (map numbered made) (map collected_field unlike) number (sym same) more
-    (λ s. subst (λ fs. AreLike s fs (map collected_field unlike)) (sym (alone_all fields)) (like s)) (subst (λ ns. StandsForAll old new ns number) is stands) by
+pub shortened_joined : (s : SchemaData) (old new : Joins) (fields unlike made : List Collected) (numbers : List ℕ) (number : ℕ) → new.count ≡ old.count → HasMore old new → AreLike s (map collected_field fields) (map collected_field unlike) → numbers ≡ map number_alone (map numbered fields)
+    → StandsForAll old new numbers number → map numbered made ≡ with_number number new.count (map collected_field unlike) → Shortens s old new (map numbered fields) (map numbered made)
+shortened_joined s old new fields unlike made numbers number same more like is stands by = shortened_by s old new (map numbered fields) (map numbered made) (map collected_field unlike) number (sym same) more
+    (subst (λ fs. AreLike s fs (map collected_field unlike)) (sym (alone_all fields)) like) (subst (λ ns. StandsForAll old new ns number) is stands) by

@@ -14,17 +14,18 @@ use Rattle.collected_fields.specs.declared.collected.Group.{Group}
 use Rattle.collected_fields.specs.declared.collector.Collector.{Collector}
 use Rattle.collected_fields.specs.declared.findings.Findings.{Findings}
 use Rattle.collected_fields.specs.declared.joins.Joins.{Joins}
-use Rattle.collected_fields.specs.declared.reaching.Reaches.{Reaches}
+use Rattle.collected_fields.specs.declared.looked.LookedAt.{LookedAt}
 use Rattle.collected_fields.specs.declared.tables.Tables.{Tables}
 use Rattle.collected_fields.specs.Groups.{AreGroupsOf}
 use Rattle.collected_fields.specs.Gathering.{IsReady, setting_at, written_at, sets_at, meaning_at, IsNumber, position_at, ComesTo, ComesToAt, IsReadyCollector, Grows, groups_seen, IsGroupAt, AreFoundAt, GivesGroups}
 use Rattle.collected_fields.specs.Lists.{HasMore, AllFinish, HasNothing, AllShorten}
-use Rattle.collected_fields.specs.Reaching.{AreReached}
+use Rattle.collected_fields.specs.Reaching.{AreAllFoundFor}
 use Rattle.collected_fields.specs.Serving.{number_alone, Serve, ComeTo}
 use Rattle.collected_fields.specs.Views.{collected_field}
 use Rattle.collected_fields.specs.Walks.{NumberedField, field_alone, numbered_of_key, numbered_by_key, found_in, KeepsOne}
 use Rattle.collected_fields.proofs.CollectLaws.{of_ready, is_ready}
 use Rattle.collected_fields.proofs.KeyLaws.{AreFilledFor, all_filled_for}
+use Rattle.collected_fields.proofs.ReachingLaws.{all_found_still}
 use Rattle.collected_fields.proofs.ListLaws.{more_itself, more_again, still_numbers, still_nothing, all_finish_still}
 use Rattle.collected_fields.proofs.ServingLaws.{serve_still, filled_too, AreFinished, groups_finished, AllShorter, all_shorter}
 
@@ -34,12 +35,12 @@ pub same_written : (c d : Collector) → d.tables ≡ c.tables → written_at d 
 unfolding written_at
 same_written c d same = ap (λ (t : Tables). written_at (record { tables = t; joins = c.joins; kept = c.kept; walk = c.walk; met = c.met; reaches = c.reaches })) same
 
--- What was found of selection sets stays right.
+-- What was found of selection sets and lists stays right.
 abbrev pub StayRight : Collector → Collector → Type 0
-StayRight c d = AreReached c.tables c.reaches → AreReached c.tables d.reaches
+StayRight c d = AreAllFoundFor c.tables c.joins c.reaches → AreAllFoundFor c.tables c.joins d.reaches
 
 pub same_reached : (c d : Collector) → d.reaches ≡ c.reaches → StayRight c d
-same_reached c d same right = subst (λ (r : Reaches). AreReached c.tables r) (sym same) right
+same_reached c d same right = subst (λ (r : LookedAt). AreAllFoundFor c.tables c.joins r) (sym same) right
 
 pub ready_same : (c d : Collector) → d.tables ≡ c.tables → d.joins ≡ c.joins → d.kept ≡ c.kept → StayRight c d → IsReadyCollector c → IsReadyCollector d
 unfolding written_at
@@ -118,7 +119,7 @@ ready_more c d tables kept reaches count more ready = record {
   kept = λ T number fields found.
       let here = ready.kept T number fields (ap (λ (k : Findings). found_in k T number) (sym kept) ∙ found) in
       ((more number here.0).0, comes_still c d tables more T (number ∷ []) fields (one_number c number here.0) here.1);
-  reached = same_sound.reached;
+  reached = all_found_still d.tables c.joins d.joins d.reaches more same_sound.reached;
 }
   where
     same_sound : IsReadyCollector (record { tables = d.tables; joins = c.joins; kept = c.kept; walk = c.walk; met = c.met; reaches = d.reaches })
@@ -140,7 +141,7 @@ ready_kept c d T number new tables joins reaches adds there comes ready = record
       subst (λ (p : ℕ). IsNumber d p × ComesToAt d U (p ∷ []) found) (sym is.1) (subst (λ (V : ℕ). IsNumber d number × ComesToAt d V (number ∷ []) found) (sym is.0)
       (subst (λ (ns : List NumberedField). IsNumber d number × ComesToAt d T (number ∷ []) ns) (sym is.2) ((more number there).0, comes_still c d tables more T (number ∷ []) new (one_number c number there) comes))))
       (adds U place found h);
-  reached = same.reached;
+  reached = subst (λ (j : Joins). AreAllFoundFor d.tables j d.reaches) (sym joins) same.reached;
 }
   where
     more : HasMore c.joins d.joins
@@ -205,16 +206,16 @@ module _ (old new : Collector) (written : written_at new ≡ written_at old) whe
       (cases_Bool (has_key key f.0))
 
   module _ (e : Setting) (fields : List NumberedField) (known : All (λ f. IsNumber old f.1) fields) where
-    finished_keys : (keys : List (List ℕ)) (groups : List Group) → AllFinish old.joins new.joins (map (λ key. numbered_of_key key fields) keys) groups → AreFinished e (meaning_at old) (map (λ key. numbered_of_key key fields) keys) (groups_seen new groups)
+    finished_keys : (keys : List (List ℕ)) (groups : List Group) → AllFinish e.schema old.joins new.joins (map (λ key. numbered_of_key key fields) keys) groups → AreFinished e (meaning_at old) (map (λ key. numbered_of_key key fields) keys) (groups_seen new groups)
     finished_keys [] [] h = tt
     finished_keys [] (g ∷ groups) h = absurd h
     finished_keys (key ∷ keys) [] h = absurd h
     finished_keys (key ∷ keys) (g ∷ groups) h = (
-      record { like = h.0.like e.schema; below = meant (map number_alone (numbered_of_key key fields)) g.below.items (h.0.below (known_of_key fields known key)).1 },
+      record { like = h.0.like; below = meant (map number_alone (numbered_of_key key fields)) g.below.items (h.0.below (known_of_key fields known key)).1 },
       finished_keys keys groups h.1,
     )
 
-    known_groups : (left : List CollectedField) (keys others : List (List ℕ)) (groups : List Group) → AllFinish old.joins new.joins (map (λ key. numbered_of_key key fields) keys) groups → AreGroupsOf e left others (groups_seen new groups) → AreFilledFor left others → All (IsGroupAt new) groups
+    known_groups : (left : List CollectedField) (keys others : List (List ℕ)) (groups : List Group) → AllFinish e.schema old.joins new.joins (map (λ key. numbered_of_key key fields) keys) groups → AreGroupsOf e left others (groups_seen new groups) → AreFilledFor left others → All (IsGroupAt new) groups
     known_groups left [] others [] h of filled = λ k x less. absurd (none_less k less)
       where
         none_less : (n : ℕ) → n < 0 → ⊥
@@ -227,7 +228,7 @@ module _ (old new : Collector) (written : written_at new ≡ written_at old) whe
         (known_groups left keys others groups h.1 of.1 filled.1)
 
   shorter_keys : (e : Setting) → HasNothing old.joins → ((numbers : List ℕ) → All (IsNumber old) numbers → flat_map (meaning_at new) numbers ≡ flat_map (meaning_at old) numbers) → (fields : List NumberedField) → All (λ f. IsNumber old f.1) fields
-      → (keys : List (List ℕ)) (made : List NumberedField) → AllShorten old.joins new.joins (map (λ key. numbered_of_key key fields) keys) made → AllShorter e (meaning_at new) (map (λ key. numbered_of_key key fields) keys) made × All (λ f. IsNumber new f.1) made
+      → (keys : List (List ℕ)) (made : List NumberedField) → AllShorten e.schema old.joins new.joins (map (λ key. numbered_of_key key fields) keys) made → AllShorter e (meaning_at new) (map (λ key. numbered_of_key key fields) keys) made × All (λ f. IsNumber new f.1) made
   shorter_keys e nothing same fields known [] made h = (h, subst (λ ns. All (λ (f : NumberedField). IsNumber new f.1) ns) (sym h) (λ k x less. absurd (none_less k less)))
     where
       none_less : (n : ℕ) → n < 0 → ⊥
@@ -244,7 +245,7 @@ module _ (old new : Collector) (written : written_at new ≡ written_at old) whe
               (
                 h.1.1.0.0,
                 record {
-                  like = h.1.1.0.1.like e.schema;
+                  like = h.1.1.0.1.like;
                   below = subst (λ (ws : List WrittenSelections). LeavesOutRepeats ws (flat_map (meaning_at new) (map number_alone h.0))) (sym (same (map number_alone of) (known_of_key fields known key))) (meant (map number_alone of) (map number_alone h.0) here.1);
                 },
               ),
@@ -259,7 +260,7 @@ module _ (old new : Collector) (written : written_at new ≡ written_at old) whe
       both_known [] ms a b = b
       both_known (n ∷ ns) ms a b = All-cons (λ (f : NumberedField). IsNumber new f.1) n (ns ++ ms) (All-head (IsNumber new) n.1 (map number_alone ns) a) (both_known ns ms (All-tail (IsNumber new) n.1 (map number_alone ns) a) b)
 
-pub gives_groups : (old mid new : Collector) (T : ℕ) (numbers : List ℕ) (of_keys : List (List NumberedField)) (groups : List Group) → AreFoundAt old T numbers of_keys → Grows old mid → Grows mid new → AllFinish mid.joins new.joins of_keys groups → GivesGroups old new T numbers groups
+pub gives_groups : (old mid new : Collector) (T : ℕ) (numbers : List ℕ) (of_keys : List (List NumberedField)) (groups : List Group) → AreFoundAt old T numbers of_keys → Grows old mid → Grows mid new → AllFinish (setting_at old).schema mid.joins new.joins of_keys groups → GivesGroups old new T numbers groups
 gives_groups old mid new T numbers of_keys groups found first second finish = record {
   found = λ ready acyclic.
       let comes = found.found ready acyclic in
@@ -276,8 +277,8 @@ gives_groups old mid new T numbers of_keys groups found first second finish = re
     written : written_at new ≡ written_at old
     written = second.written ∙ first.written
 
-    whole : AllFinish old.joins new.joins (numbered_by_key found.fields) groups
-    whole = subst (λ (rs : List (List NumberedField)). AllFinish old.joins new.joins rs groups) found.grouped (all_finish_still old.joins mid.joins new.joins new.joins of_keys groups first.numbers (more_itself new.joins) finish)
+    whole : AllFinish (setting_at old).schema old.joins new.joins (numbered_by_key found.fields) groups
+    whole = subst (λ (rs : List (List NumberedField)). AllFinish (setting_at old).schema old.joins new.joins rs groups) found.grouped (all_finish_still (setting_at old).schema old.joins mid.joins new.joins new.joins of_keys groups first.numbers (more_itself new.joins) finish)
 
     grouped : (ready : IsReady old) (acyclic : IsAcyclic (setting_at old) (position_at old numbers)) → AreGroupsOf (setting_at old) ((found.found ready acyclic).come.left) (keys_of ((found.found ready acyclic).come.left)) (groups_seen new groups)
     grouped ready acyclic =
@@ -286,12 +287,12 @@ gives_groups old mid new T numbers of_keys groups found first second finish = re
 
 -- what is made shorter of what a number comes to
 pub shorter_comes : (old new : Collector) (T number : ℕ) (of_keys : List (List NumberedField)) (made : List NumberedField) → new.tables ≡ old.tables → HasMore old.joins new.joins → IsReadyCollector old → IsNumber old number → AreFoundAt old T (number ∷ []) of_keys
-    → AllShorten old.joins new.joins of_keys made → ComesToAt new T (number ∷ []) made
+    → AllShorten (setting_at old).schema old.joins new.joins of_keys made → ComesToAt new T (number ∷ []) made
 shorter_comes old new T number of_keys made tables more ready there found short acyclic =
     let comes : ComesTo new T (number ∷ []) found.fields = comes_still old new tables more T (number ∷ []) found.fields (one_number old number there) (found.found (is_ready old ready)) acyclic in
     let before : IsAcyclic (setting_at old) (position_at old (number ∷ [])) = subst (λ (e : Setting). IsAcyclic e (position_at old (number ∷ []))) (same_setting old new tables more)
     (subst (λ (p : Position). IsAcyclic (setting_at new) p) (ap (λ (ws : List WrittenSelections). record { selections = ws; handed = None }) (same_meanings old new (same_written old new tables) more (number ∷ []) (one_number old number there))) acyclic) in
-    let whole : AllShorten old.joins new.joins (numbered_by_key found.fields) made = subst (λ (rs : List (List NumberedField)). AllShorten old.joins new.joins rs made) found.grouped short in
+    let whole : AllShorten (setting_at new).schema old.joins new.joins (numbered_by_key found.fields) made = subst (λ (e : Setting). AllShorten e.schema old.joins new.joins (numbered_by_key found.fields) made) (sym (same_setting old new tables more)) (subst (λ (rs : List (List NumberedField)). AllShorten (setting_at old).schema old.joins new.joins rs made) found.grouped short) in
     let shorter = shorter_keys old new (same_written old new tables) (setting_at new) ready.nothing (same_meanings old new (same_written old new tables) more) found.fields (found.found (is_ready old ready) before).known (keys_of (map field_alone found.fields)) made whole in
     record {
       come = record { left = comes.come.left; repeats = comes.come.repeats; served = all_shorter (setting_at new) (meaning_at new) comes.come.left found.fields made comes.come.served shorter.0 };
@@ -300,7 +301,7 @@ shorter_comes old new T number of_keys made tables more ready there found short 
 
 -- It has more lists, and what a number comes to is kept.
 pub apart_grows : (c d : Collector) (T number : ℕ) (of_keys : List (List NumberedField)) (made : List NumberedField) → d.tables ≡ c.tables → d.reaches ≡ c.reaches → d.joins.count ≡ c.joins.count → HasMore c.joins d.joins
-    → KeepsOne c.kept d.kept T number made → IsNumber c number → AreFoundAt c T (number ∷ []) of_keys → AllShorten c.joins d.joins of_keys made → Grows c d
+    → KeepsOne c.kept d.kept T number made → IsNumber c number → AreFoundAt c T (number ∷ []) of_keys → AllShorten (setting_at c).schema c.joins d.joins of_keys made → Grows c d
 apart_grows c d T number of_keys made tables reaches count more adds there found short = record {
   planning = ap (λ (t : Tables). t.planning) tables;
   written = same_written c d tables;
@@ -313,9 +314,9 @@ apart_grows c d T number of_keys made tables reaches count more adds there found
 
 -- what is kept of a number, once its fields were found
 pub apart_found : (old mid new : Collector) (T number : ℕ) (of_keys : List (List NumberedField)) (made : List NumberedField) → mid.tables ≡ old.tables → mid.joins ≡ old.joins → mid.kept ≡ old.kept → new.tables ≡ mid.tables → new.reaches ≡ old.reaches → new.joins.count ≡ mid.joins.count → HasMore mid.joins new.joins
-    → AreFoundAt old T (number ∷ []) of_keys → AllShorten mid.joins new.joins of_keys made → KeepsOne mid.kept new.kept T number made → IsNumber old number → Grows old new
+    → AreFoundAt old T (number ∷ []) of_keys → AllShorten (setting_at old).schema mid.joins new.joins of_keys made → KeepsOne mid.kept new.kept T number made → IsNumber old number → Grows old new
 apart_found old mid new T number of_keys made tables joins kept same reaches count more found short adds there = apart_grows old new T number of_keys made (same ∙ tables) reaches (count ∙ ap (λ (j : Joins). j.count) joins) (subst (λ (j : Joins). HasMore j new.joins) joins more)
-    (subst (λ (k : Findings). KeepsOne k new.kept T number made) kept adds) there found (subst (λ (j : Joins). AllShorten j new.joins of_keys made) joins short)
+    (subst (λ (k : Findings). KeepsOne k new.kept T number made) kept adds) there found (subst (λ (j : Joins). AllShorten (setting_at old).schema j new.joins of_keys made) joins short)
 
 -- more lists, once fields were found
 pub found_grows : (old mid new : Collector) → mid.tables ≡ old.tables → mid.joins ≡ old.joins → mid.kept ≡ old.kept → mid.reaches ≡ old.reaches → new.tables ≡ mid.tables → new.kept ≡ mid.kept → new.reaches ≡ mid.reaches → new.joins.count ≡ mid.joins.count → HasMore mid.joins new.joins → Grows old new

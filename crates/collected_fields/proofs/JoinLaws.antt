@@ -1,5 +1,5 @@
 -- Selection sets that are added to a list once, and lists that are put behind others.
-use Rattle.std.proofs.Common.{◌≡◌, inl, ⊎_elim, ℕ, zero, suc, ◌+◌, ◌-◌, ◌<◌, ◌≤◌, ltb, List, [], ◌∷◌, ◌++◌, map, flat_map, take, length, get_or, slice_get, slice_set, Bool, true, false, Option, Some, None, Vec, length-append, append-nil, append_assoc, refl, sym, ap, ◌∙◌, subst, arith, if◌then◌else◌}
+use Rattle.std.proofs.Common.{◌≡◌, inl, inr, ⊎_elim, ℕ, zero, suc, ◌+◌, ◌-◌, ◌<◌, ◌≤◌, ltb, List, [], ◌∷◌, ◌++◌, map, flat_map, take, length, get_or, slice_get, Bool, true, false, Option, Some, None, Vec, length-append, append-nil, append_assoc, refl, sym, ap, ◌∙◌, subst, arith, if◌then◌else◌}
 use Rattle.std.specs.declared.alloc.Global.{Global}
 use Rattle.std.specs.Prelude.{SomeIff}
 use Rattle.std.proofs.lemmas.Bool.{lt-ltb, ltb-true, cases_lt}
@@ -7,62 +7,54 @@ use Rattle.std.proofs.lemmas.Grind.{flat_map-append}
 use Rattle.std.proofs.lemmas.List.{length-map, take_more, take_all}
 use Rattle.std.proofs.lemmas.Option.{none-some, slice_get-map, get_or_from_slice_get}
 use Rattle.plan_model.specs.Repeats.{Holds, IsThinned, LeavesOutRepeats}
-use Rattle.plan_model.proofs.Thinning.{in_two, held_left, held_right}
-use Rattle.collected_fields.specs.declared.joins.Adding.{Adding}
+use Rattle.plan_model.proofs.Thinning.{in_two}
 use Rattle.collected_fields.specs.declared.joins.Joins.{Joins}
-use Rattle.collected_fields.specs.Joining.{IsMarking, AddsEach, AddsOnce}
+use Rattle.collected_fields.specs.Joining.{AddsEach}
 use Rattle.collected_fields.specs.Lists.{lists_of_joins, sets_in_joins, HasMore, MayStandForList}
 use Rattle.collected_fields.specs.Serving.{sets_of}
-use Rattle.collected_fields.proofs.WalkLaws.{seen_as, marked_either}
+use Rattle.collected_fields.proofs.ListLaws.{more_again}
+use Rattle.collected_fields.proofs.WalkLaws.{seen_as}
 
 -- ---- adding
 
-pub adds_none : (a : Adding) → AddsOnce [] a a
-adds_none a marking = record { marking = marking; more = []; grown = sym (append-nil a.list.items); thin = tt }
+pub adds_none : (a : List ℕ) → AddsEach [] a a
+adds_none a = record { more = []; grown = sym (append-nil a); thin = tt }
 
-pub adds_both : (xs ys : List ℕ) (a b c : Adding) → AddsOnce xs a b → AddsOnce ys b c → AddsOnce (xs ++ ys) a c
-adds_both xs ys a b c first second marking =
-    let one : AddsEach xs a b = first marking in
-    let two : AddsEach ys b c = second one.marking in
-    record {
-      marking = two.marking;
-      more = one.more ++ two.more;
-      grown = two.grown ∙ (ap (λ (l : List ℕ). l ++ two.more) one.grown ∙ append_assoc a.list.items one.more two.more);
-      thin = in_two a.list.items xs one.more ys two.more one.thin (subst (λ (l : List ℕ). IsThinned l ys two.more) one.grown two.thin);
-    }
-
-pub adds_marked : (a : Adding) (set : ℕ) → get_or a.marks.items set false ≡ true → AddsOnce (set ∷ []) a a
-adds_marked a set is marking = record { marking = marking; more = []; grown = sym (append-nil a.list.items); thin = (marking set is, tt) }
-
-pub adds_new : (a b : Adding) (set : ℕ) → b.marks.items ≡ slice_set a.marks.items set true → b.list.items ≡ a.list.items ++ (set ∷ []) → AddsOnce (set ∷ []) a b
-adds_new a b set marks list marking = record {
-  marking = λ k is. subst (λ (l : List ℕ). Holds l k) (sym list) (⊎_elim
-      (λ (here : k ≡ set). held_right a.list.items (set ∷ []) k (inl here))
-      (λ (before : get_or a.marks.items k false ≡ true). held_left a.list.items (set ∷ []) k (marking k before))
-      (marked_either a.marks.items set k (subst (λ (m : List Bool). get_or m k false ≡ true) marks is)));
-  more = set ∷ [];
-  grown = list;
-  thin = inl (refl, tt);
+pub adds_both : (xs ys a b c : List ℕ) → AddsEach xs a b → AddsEach ys b c → AddsEach (xs ++ ys) a c
+adds_both xs ys a b c one two = record {
+  more = one.more ++ two.more;
+  grown = two.grown ∙ (ap (λ (l : List ℕ). l ++ two.more) one.grown ∙ append_assoc a one.more two.more);
+  thin = in_two a xs one.more ys two.more one.thin (subst (λ (l : List ℕ). IsThinned l ys two.more) one.grown two.thin);
 }
 
-pub adds_next : (sets : List ℕ) (at d : ℕ) (a b c : Adding) → at < length sets → AddsOnce (take at sets) a b → AddsOnce (get_or sets at d ∷ []) b c → AddsOnce (take (at + 1) sets) a c
+pub adds_held : (a : List ℕ) (set : ℕ) → Holds a set → AddsEach (set ∷ []) a a
+adds_held a set is = record { more = []; grown = sym (append-nil a); thin = (is, tt) }
+
+pub adds_new : (a b : List ℕ) (set : ℕ) → b ≡ a ++ (set ∷ []) → AddsEach (set ∷ []) a b
+adds_new a b set grown = record { more = set ∷ []; grown = grown; thin = inl (refl, tt) }
+
+pub adds_next : (sets : List ℕ) (at d : ℕ) (a b c : List ℕ) → at < length sets → AddsEach (take at sets) a b → AddsEach (get_or sets at d ∷ []) b c → AddsEach (take (at + 1) sets) a c
 adds_next sets at d a b c here first second =
-    subst (λ xs. AddsOnce xs a c) (sym (take_more sets at d here)) (adds_both (take at sets) (get_or sets at d ∷ []) a b c first second)
+    subst (λ xs. AddsEach xs a c) (sym (take_more sets at d here)) (adds_both (take at sets) (get_or sets at d ∷ []) a b c first second)
 
-pub adds_all : (sets : List ℕ) (at : ℕ) (a b : Adding) → length sets ≤ at → AddsOnce (take at sets) a b → AddsOnce sets a b
-adds_all sets at a b past h = subst (λ xs. AddsOnce xs a b) (take_all at sets past) h
+pub adds_all : (sets : List ℕ) (at : ℕ) (a b : List ℕ) → length sets ≤ at → AddsEach (take at sets) a b → AddsEach sets a b
+adds_all sets at a b past h = subst (λ xs. AddsEach xs a b) (take_all at sets past) h
 
-pub left_next : (sets : ℕ → List ℕ) (numbers : List ℕ) (at d : ℕ) (a b : Adding) → at < length numbers → IsMarking a → LeavesOutRepeats (flat_map sets (take at numbers)) a.list.items → AddsOnce (sets (get_or numbers at d)) a b
-    → IsMarking b × LeavesOutRepeats (flat_map sets (take (at + 1) numbers)) b.list.items
-left_next sets numbers at d a b here marking before add =
+pub left_next : (sets : ℕ → List ℕ) (numbers : List ℕ) (at d : ℕ) (a b : List ℕ) → at < length numbers → LeavesOutRepeats (flat_map sets (take at numbers)) a → AddsEach (sets (get_or numbers at d)) a b → LeavesOutRepeats (flat_map sets (take (at + 1) numbers)) b
+left_next sets numbers at d a b here before one =
     let number : ℕ = get_or numbers at d in
-    let one : AddsEach (sets number) a b = add marking in
     let longer : flat_map sets (take (at + 1) numbers) ≡ flat_map sets (take at numbers) ++ sets number =
-    ap (flat_map sets) (take_more numbers at d here) ∙ (flat_map-append sets (take at numbers) (number ∷ []) ∙ ap (λ (xs : List ℕ). flat_map sets (take at numbers) ++ xs) (append-nil (sets number))) in (
-      one.marking,
-      subst (λ xs. LeavesOutRepeats xs b.list.items) (sym longer) (subst (λ ys. LeavesOutRepeats (flat_map sets (take at numbers) ++ sets number) ys) (sym one.grown)
-          (in_two [] (flat_map sets (take at numbers)) a.list.items (sets number) one.more before one.thin)),
-    )
+    ap (flat_map sets) (take_more numbers at d here) ∙ (flat_map-append sets (take at numbers) (number ∷ []) ∙ ap (λ (xs : List ℕ). flat_map sets (take at numbers) ++ xs) (append-nil (sets number))) in
+    subst (λ xs. LeavesOutRepeats xs b) (sym longer) (subst (λ ys. LeavesOutRepeats (flat_map sets (take at numbers) ++ sets number) ys) (sym one.grown)
+    (in_two [] (flat_map sets (take at numbers)) a (sets number) one.more before one.thin))
+
+pub held_at : (list : List ℕ) (at set other : ℕ) → slice_get list at ≡ Some other → other ≡ set → Holds list set
+held_at [] at set other there is = absurd (none-some other there)
+held_at (x ∷ list) zero set other there is = inl (sym is ∙ sym (some-same x other there))
+  where
+    some-same : (a b : ℕ) → Some a ≡ Some b → a ≡ b
+    some-same a b h = cc
+held_at (x ∷ list) (suc at) set other there is = inr (held_at list at set other there is)
 
 -- ---- lists behind others
 
@@ -112,6 +104,9 @@ same_more old new count lists number h = (
   ap (λ n. sets_of n (lists_of_joins new) number) count ∙ ap (λ (ls : List (Vec ℕ Global)). sets_of old.count (map (λ l. l.items) ls) number) lists,
 )
 
+pub same_flat : (a b c : Joins) → b.count ≡ a.count → b.lists ≡ a.lists → HasMore b c → HasMore a c
+same_flat a b c count lists more = more_again a b c (same_more a b count (ap (λ (v : Vec (Vec ℕ Global) Global). v.items) lists)) more
+
 got_within : {A : Type 0} (xs : List A) (n : ℕ) (x : A) → slice_get xs n ≡ Some x → n < length xs
 got_within [] n x h = absurd (none-some x h)
 got_within (y ∷ xs) zero x h = omega arith
@@ -147,7 +142,7 @@ pub new_stands : (old new : Joins) (list : List ℕ) (place : ℕ) (number : Opt
 new_stands old new list place number P is grown at = found_stands new list place number P is
     (ap (λ ls. slice_get ls place) grown ∙ last_there (lists_of_joins old) list place (at ∙ sym (length-map old.lists.items (λ l. l.items))))
 
-got_here : {A : Type 0} (xs : List A) (n : ℕ) (x : A) → n < length xs → x ≡ get_or xs n x → slice_get xs n ≡ Some x
+pub got_here : {A : Type 0} (xs : List A) (n : ℕ) (x : A) → n < length xs → x ≡ get_or xs n x → slice_get xs n ≡ Some x
 got_here [] n x h is = absurd (none_less n h)
   where
     none_less : (n : ℕ) → n < 0 → ⊥
@@ -158,3 +153,16 @@ got_here (y ∷ xs) (suc n) x h is = got_here xs n x (omega arith) is
 pub list_there : (j : Joins) (seen : List (Vec ℕ Global)) (place : ℕ) (other : Vec ℕ Global) (list : List ℕ) → seen ≡ j.lists.items → place < length seen → other ≡ get_or seen place other → other.items ≡ list → slice_get (lists_of_joins j) place ≡ Some list
 list_there j seen place other list same less here is =
     slice_get-map (λ (l : Vec ℕ Global). l.items) j.lists.items place ∙ (ap (seen_as (λ (l : Vec ℕ Global). l.items)) (ap (λ (ls : List (Vec ℕ Global)). slice_get ls place) (sym same) ∙ got_here seen place other less here) ∙ ap Some is)
+
+-- the list of a number that is one of a list
+module _ (j : Joins) (number : ℕ) (seen : List (Vec ℕ Global)) (past : j.count ≤ number) (same : seen ≡ j.lists.items) (less : number - j.count < length seen) where
+  back : j.count + (number - j.count) ≡ number
+  back = omega (arith, past)
+
+  pub number_of_list : number < j.count + length j.lists.items
+  number_of_list = let long : length seen ≡ length j.lists.items = ap length same in omega (arith, past, less, long)
+
+  pub list_of_number : (other : Vec ℕ Global) (list : List ℕ) → other ≡ get_or seen (number - j.count) other → list ≡ other.items → list ≡ sets_in_joins j number
+  list_of_number other list here is =
+      is ∙ sym (ap (sets_in_joins j) (sym back) ∙ (behind_count j.count (lists_of_joins j) (number - j.count) ∙ get_or_from_slice_get (lists_of_joins j) (number - j.count) other.items []
+      (list_there j seen (number - j.count) other other.items same less here refl)))

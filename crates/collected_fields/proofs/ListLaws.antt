@@ -1,6 +1,7 @@
 -- Numbers of selection sets and of lists of them, while there come to be more.
 use Rattle.std.proofs.Common.{◌≡◌, ℕ, ◌<◌, List, [], ◌∷◌, ◌++◌, map, flat_map, append-nil, append_assoc, refl, sym, ap, ◌∙◌, subst, arith}
 use Rattle.std.proofs.lemmas.List.Elements.{All-head, All-tail, All-cons}
+use Rattle.schema_model.specs.SchemaData.{SchemaData}
 use Rattle.plan_model.specs.Repeats.{LeavesOutRepeats}
 use Rattle.collected_fields.specs.declared.collected.Group.{Group}
 use Rattle.collected_fields.specs.declared.joins.Joins.{Joins}
@@ -35,33 +36,33 @@ stand_still a b c d numbers others before behind stand known =
           (subst (λ ys. LeavesOutRepeats (flat_map (sets_in_joins b) numbers) ys) (sym (same_sets c d others behind here.0)) here.1),
     )
 
-pub finishes_still : (a b c d : Joins) (of : List NumberedField) (g : Group) → HasMore a b → HasMore c d → Finishes b c of g → Finishes a d of g
-finishes_still a b c d of g before behind f = record { like = f.like; below = stand_still a b c d (map number_alone of) g.below.items before behind f.below }
+pub finishes_still : (s : SchemaData) (a b c d : Joins) (of : List NumberedField) (g : Group) → HasMore a b → HasMore c d → Finishes s b c of g → Finishes s a d of g
+finishes_still s a b c d of g before behind f = record { like = f.like; below = stand_still a b c d (map number_alone of) g.below.items before behind f.below }
 
-pub all_finish_still : (a b c d : Joins) (of : List (List NumberedField)) (groups : List Group) → HasMore a b → HasMore c d → AllFinish b c of groups → AllFinish a d of groups
-all_finish_still a b c d [] [] before behind h = tt
-all_finish_still a b c d [] (g ∷ groups) before behind h = absurd h
-all_finish_still a b c d (of ∷ others) [] before behind h = absurd h
-all_finish_still a b c d (of ∷ others) (g ∷ groups) before behind h = (finishes_still a b c d of g before behind h.0, all_finish_still a b c d others groups before behind h.1)
+pub all_finish_still : (s : SchemaData) (a b c d : Joins) (of : List (List NumberedField)) (groups : List Group) → HasMore a b → HasMore c d → AllFinish s b c of groups → AllFinish s a d of groups
+all_finish_still s a b c d [] [] before behind h = tt
+all_finish_still s a b c d [] (g ∷ groups) before behind h = absurd h
+all_finish_still s a b c d (of ∷ others) [] before behind h = absurd h
+all_finish_still s a b c d (of ∷ others) (g ∷ groups) before behind h = (finishes_still s a b c d of g before behind h.0, all_finish_still s a b c d others groups before behind h.1)
 
-pub one_more_finished : (a b : Joins) (of : List (List NumberedField)) (groups : List Group) (last : List NumberedField) (g : Group) → AllFinish a b of groups → Finishes a b last g → AllFinish a b (of ++ (last ∷ [])) (groups ++ (g ∷ []))
-one_more_finished a b [] [] last g h f = (f, tt)
-one_more_finished a b [] (x ∷ groups) last g h f = absurd h
-one_more_finished a b (of ∷ others) [] last g h f = absurd h
-one_more_finished a b (of ∷ others) (x ∷ groups) last g h f = (h.0, one_more_finished a b others groups last g h.1 f)
+pub one_more_finished : (s : SchemaData) (a b : Joins) (of : List (List NumberedField)) (groups : List Group) (last : List NumberedField) (g : Group) → AllFinish s a b of groups → Finishes s a b last g → AllFinish s a b (of ++ (last ∷ [])) (groups ++ (g ∷ []))
+one_more_finished s a b [] [] last g h f = (f, tt)
+one_more_finished s a b [] (x ∷ groups) last g h f = absurd h
+one_more_finished s a b (of ∷ others) [] last g h f = absurd h
+one_more_finished s a b (of ∷ others) (x ∷ groups) last g h f = (h.0, one_more_finished s a b others groups last g h.1 f)
 
-pub shortens_still : (a b c d : Joins) (of made : List NumberedField) → (HasNothing a → HasNothing b) → HasMore a b → HasMore c d → Shortens b c of made → Shortens a d of made
-shortens_still a b c d of made nothing before behind s = record { like = s.like; below = λ none. stand_still a b c d (map number_alone of) (map number_alone made) before behind (s.below (nothing none)) }
+pub shortens_still : (s : SchemaData) (a b c d : Joins) (of made : List NumberedField) → (HasNothing a → HasNothing b) → HasMore a b → HasMore c d → Shortens s b c of made → Shortens s a d of made
+shortens_still s a b c d of made nothing before behind h = record { like = h.like; below = λ none. stand_still a b c d (map number_alone of) (map number_alone made) before behind (h.below (nothing none)) }
 
-pub all_shorten_still : (a b c d : Joins) (of : List (List NumberedField)) (made : List NumberedField) → (HasNothing a → HasNothing b) → HasMore a b → HasMore c d → AllShorten b c of made → AllShorten a d of made
-all_shorten_still a b c d [] made nothing before behind h = h
-all_shorten_still a b c d (of ∷ others) made nothing before behind h =
-    (h.0, (h.1.0, ((h.1.1.0.0, shortens_still a b c d of h.0 nothing before behind h.1.1.0.1), all_shorten_still a b c d others h.1.0 nothing before behind h.1.1.1)))
+pub all_shorten_still : (s : SchemaData) (a b c d : Joins) (of : List (List NumberedField)) (made : List NumberedField) → (HasNothing a → HasNothing b) → HasMore a b → HasMore c d → AllShorten s b c of made → AllShorten s a d of made
+all_shorten_still s a b c d [] made nothing before behind h = h
+all_shorten_still s a b c d (of ∷ others) made nothing before behind h =
+    (h.0, (h.1.0, ((h.1.1.0.0, shortens_still s a b c d of h.0 nothing before behind h.1.1.0.1), all_shorten_still s a b c d others h.1.0 nothing before behind h.1.1.1)))
 
-pub one_more_shorter : (a b : Joins) (of : List (List NumberedField)) (made : List NumberedField) (last short : List NumberedField) → AllShorten a b of made → Shortens a b last short → AllShorten a b (of ++ (last ∷ [])) (made ++ short)
-one_more_shorter a b [] made last short h s = (short, ([], ((ap (λ ms. ms ++ short) h ∙ sym (append-nil short), s), refl)))
-one_more_shorter a b (of ∷ others) made last short h s =
-    (h.0, (h.1.0 ++ short, ((ap (λ ms. ms ++ short) h.1.1.0.0 ∙ append_assoc h.0 h.1.0 short, h.1.1.0.1), one_more_shorter a b others h.1.0 last short h.1.1.1 s)))
+pub one_more_shorter : (s : SchemaData) (a b : Joins) (of : List (List NumberedField)) (made : List NumberedField) (last short : List NumberedField) → AllShorten s a b of made → Shortens s a b last short → AllShorten s a b (of ++ (last ∷ [])) (made ++ short)
+one_more_shorter s a b [] made last short h one = (short, ([], ((ap (λ ms. ms ++ short) h ∙ sym (append-nil short), one), refl)))
+one_more_shorter s a b (of ∷ others) made last short h one =
+    (h.0, (h.1.0 ++ short, ((ap (λ ms. ms ++ short) h.1.1.0.0 ∙ append_assoc h.0 h.1.0 short, h.1.1.0.1), one_more_shorter s a b others h.1.0 last short h.1.1.1 one)))
 
 -- the number that stands for nothing still does
 pub still_nothing : (a b : Joins) → a.count ≡ b.count → HasMore a b → HasNothing a → HasNothing b

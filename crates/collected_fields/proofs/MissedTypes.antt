@@ -1,15 +1,15 @@
 -- Types that are missed, and those that are among others.
 use Rattle.std.proofs.Common.{◌≡◌, ◌⊎◌, inl, inr, ⊎_elim, ◌<◌, ◌≤◌, ◌+◌, ℕ, zero, suc, List, [], ◌∷◌, ◌++◌, map, filter, drop, length, get_or, slice_set, Bool, true, false, true≢false, ◌||◌, nat_eq, Option, Some, None, refl, sym, ap, ◌∙◌, subst, append_assoc, append-nil}
 use Rattle.std.specs.List.{list_any}
-use Rattle.std.proofs.lemmas.Bool.{eq-eqb}
-use Rattle.std.proofs.lemmas.List.{drop_all}
+use Rattle.std.proofs.lemmas.Bool.{eq-eqb, eqb-true}
+use Rattle.std.proofs.lemmas.List.{drop_all, drop_more}
 use Rattle.std.proofs.lemmas.Option.{same_Some}
 use Rattle.gql_base.proofs.Lists.{at_front}
 use Rattle.input_values.specs.declared.inputs.shape.TypeId.{TypeId}
 use Rattle.schema_model.specs.Numbers.{type_number}
 use Rattle.schema_model.specs.SchemaData.{SchemaData, applies, possible, IsPossibleType}
 use Rattle.schema_model.proofs.PossibleLaws.{possible_iff}
-use Rattle.collected_fields.specs.Reached.{IsObjectType}
+use Rattle.collected_fields.specs.Reached.{IsObjectType, is_marked_in, AreMarked}
 
 -- ---- types to which a condition applies
 
@@ -55,6 +55,29 @@ module _ (passes : ℕ → Bool) (types : List TypeId) where
 
   pub all_passed : (some : List TypeId) (at : ℕ) → length types ≤ at → map type_number some ++ passing (drop at types) ≡ passing types → map type_number some ≡ passing types
   all_passed some at past before = sym (append-nil (map type_number some)) ∙ (ap (λ ts. map type_number some ++ passing ts) (sym (drop_all at types past)) ∙ before)
+
+-- ---- types that are marked
+
+module _ (marks : List Bool) (types : List TypeId) where
+  -- It is marked, or among those that are left.
+  abbrev pub IsMarkedOrLeft : ℕ → ℕ → Type 0
+  IsMarkedOrLeft at T = (is_marked_in marks T ≡ true) ⊎ (list_any (nat_eq T) (map type_number (drop at types)) ≡ true)
+
+  pub marked_next : (at : ℕ) (d : TypeId) (T : ℕ) → at < length types → is_marked_in marks (get_or types at d).number ≡ true → IsMarkedOrLeft at T → IsMarkedOrLeft (at + 1) T
+  marked_next at d T here marked before = ⊎_elim
+      (λ (done : is_marked_in marks T ≡ true). inl done)
+      (λ (left : list_any (nat_eq T) (map type_number (drop at types)) ≡ true). first (nat_eq T (get_or types at d).number) refl (ap (λ (ts : List TypeId). list_any (nat_eq T) (map type_number ts)) (sym (drop_more types at d here)) ∙ left))
+      before
+    where
+      first : (b : Bool) → nat_eq T (get_or types at d).number ≡ b → list_any (nat_eq T) ((get_or types at d).number ∷ map type_number (drop (at + 1) types)) ≡ true → IsMarkedOrLeft (at + 1) T
+      first true same h = inl (subst (λ n. is_marked_in marks n ≡ true) (sym (eqb-true T (get_or types at d).number same)) marked)
+      first false other h = inr (ap (λ b. b || list_any (nat_eq T) (map type_number (drop (at + 1) types))) (sym other) ∙ h)
+
+  pub all_marked : (at : ℕ) → length types ≤ at → ((T : ℕ) → list_any (nat_eq T) (map type_number types) ≡ true → IsMarkedOrLeft at T) → AreMarked marks (map type_number types)
+  all_marked at past so_far T h = ⊎_elim
+      (λ (done : is_marked_in marks T ≡ true). done)
+      (λ (left : list_any (nat_eq T) (map type_number (drop at types)) ≡ true). absurd (true≢false (sym left ∙ ap (λ ts. list_any (nat_eq T) (map type_number ts)) (drop_all at types past))))
+      (so_far T h)
 
 -- ---- what is kept at places
 

@@ -1,18 +1,9 @@
 -- Selection sets that are added to a list, each once.
-use Rattle.std.specs.Prelude.{◌≡◌, ℕ, true, false, List, ◌++◌, get_or}
-use Rattle.plan_model.specs.Repeats.{Holds, IsThinned}
-use Rattle.collected_fields.specs.declared.joins.Adding.{Adding}
+use Rattle.std.specs.Prelude.{◌≡◌, ℕ, List, ◌++◌}
+use Rattle.plan_model.specs.Repeats.{IsThinned}
 
--- What is marked is in the list.
-abbrev pub IsMarking : Adding → Type 0
-IsMarking a = (set : ℕ) → get_or a.marks.items set false ≡ true → Holds a.list.items set
-
--- These sets are put behind the list, without those that are there.
-pub record AddsEach (sets : List ℕ) (old new : Adding) : Type 0 where
-  pub marking : IsMarking new
+-- These sets are put behind a list, where some may be left out that are there.
+pub record AddsEach (sets old new : List ℕ) : Type 0 where
   pub more : List ℕ
-  pub grown : new.list.items ≡ old.list.items ++ more
-  pub thin : IsThinned old.list.items sets more
-
-abbrev pub AddsOnce : List ℕ → Adding → Adding → Type 0
-AddsOnce sets old new = IsMarking old → AddsEach sets old new
+  pub grown : new ≡ old ++ more
+  pub thin : IsThinned old sets more

@@ -46,15 +46,15 @@ StandFor old new numbers others = AreNumbersIn old numbers → AreNumbersIn new 
 -- ---- groups
 
 -- The group is made of these numbered fields.
-pub record Finishes (old new : Joins) (of : List NumberedField) (g : Group) : Type 0 where
-  pub like : (s : SchemaData) → AreLike s (map field_alone of) (map collected_field g.fields.items)
+pub record Finishes (s : SchemaData) (old new : Joins) (of : List NumberedField) (g : Group) : Type 0 where
+  pub like : AreLike s (map field_alone of) (map collected_field g.fields.items)
   pub below : StandFor old new (map number_alone of) g.below.items
 
-abbrev pub AllFinish : Joins → Joins → List (List NumberedField) → List Group → Type 0
-AllFinish old new [] [] = Unit {0}
-AllFinish old new [] (g ∷ groups) = ⊥
-AllFinish old new (of ∷ others) [] = ⊥
-AllFinish old new (of ∷ others) (g ∷ groups) = Finishes old new of g × AllFinish old new others groups
+abbrev pub AllFinish : SchemaData → Joins → Joins → List (List NumberedField) → List Group → Type 0
+AllFinish s old new [] [] = Unit {0}
+AllFinish s old new [] (g ∷ groups) = ⊥
+AllFinish s old new (of ∷ others) [] = ⊥
+AllFinish s old new (of ∷ others) (g ∷ groups) = Finishes s old new of g × AllFinish s old new others groups
 
 -- ---- fields that are kept
 
@@ -63,19 +63,19 @@ abbrev pub HasNothing : Joins → Type 0
 HasNothing j = IsNumberIn j j.count × (sets_in_joins j j.count ≡ [])
 
 -- Some numbered fields stand in the place of others of one key.
-pub record Shortens (old new : Joins) (of made : List NumberedField) : Type 0 where
-  pub like : (s : SchemaData) → AreLike s (map field_alone of) (map field_alone made)
+pub record Shortens (s : SchemaData) (old new : Joins) (of made : List NumberedField) : Type 0 where
+  pub like : AreLike s (map field_alone of) (map field_alone made)
   pub below : HasNothing old → StandFor old new (map number_alone of) (map number_alone made)
 
-abbrev pub MayShorten : Joins → Joins → List NumberedField → Option (List NumberedField) → Type 0
-MayShorten old new of None = Unit {0}
-MayShorten old new of (Some made) = Shortens old new of made
+abbrev pub MayShorten : SchemaData → Joins → Joins → List NumberedField → Option (List NumberedField) → Type 0
+MayShorten s old new of None = Unit {0}
+MayShorten s old new of (Some made) = Shortens s old new of made
 
 -- the same of each key, one behind the other
-abbrev pub AllShorten : Joins → Joins → List (List NumberedField) → List NumberedField → Type 0
-AllShorten old new [] made = made ≡ []
-AllShorten old new (of ∷ others) made = (first : List NumberedField) × ((rest : List NumberedField) × (((made ≡ first ++ rest) × Shortens old new of first) × AllShorten old new others rest))
+abbrev pub AllShorten : SchemaData → Joins → Joins → List (List NumberedField) → List NumberedField → Type 0
+AllShorten s old new [] made = made ≡ []
+AllShorten s old new (of ∷ others) made = (first : List NumberedField) × ((rest : List NumberedField) × (((made ≡ first ++ rest) × Shortens s old new of first) × AllShorten s old new others rest))
 
-abbrev pub MayShortenAll : Joins → Joins → List (List NumberedField) → Option (List NumberedField) → Type 0
-MayShortenAll old new of None = Unit {0}
-MayShortenAll old new of (Some made) = AllShorten old new of made
+abbrev pub MayShortenAll : SchemaData → Joins → Joins → List (List NumberedField) → Option (List NumberedField) → Type 0
+MayShortenAll s old new of None = Unit {0}
+MayShortenAll s old new of (Some made) = AllShorten s old new of made

@@ -1,5 +1,5 @@
 -- The types of objects for which selections may have fields.
-use Rattle.std.specs.Prelude.{◌≡◌, ◌<◌, ℕ, Bool, true, false, nat_eq, map, length}
+use Rattle.std.specs.Prelude.{◌≡◌, ◌<◌, ℕ, Bool, true, false, nat_eq, List, map, length, get_or}
 use Rattle.std.specs.List.{list_any}
 use Rattle.schema_rules.specs.Kinds.{is_object}
 use Rattle.schema_model.specs.Numbers.{type_number}
@@ -24,10 +24,23 @@ pub record IsObjectType (s : SchemaData) (T : ℕ) : Type 0 where
   pub there : T < length s.types
   pub object : is_object (type_at s T).kind ≡ true
 
--- What the new one misses, the old one missed, and the condition doesn't apply to it.
-abbrev pub MissesApplied : SchemaData → ℕ → Reach → Reach → Type 0
-MissesApplied s on old new = (T : ℕ) → IsObjectType s T → Misses new T → Misses old T × (applies s on T ≡ false)
+-- whether it is marked
+abbrev pub is_marked_in : List Bool → ℕ → Bool
+is_marked_in marks T = get_or marks T false
 
--- What the new one misses, the old one missed, and so did the other where the condition applies to it.
-abbrev pub MissesWhere : SchemaData → ℕ → Reach → Reach → Reach → Type 0
-MissesWhere s on old new other = (T : ℕ) → IsObjectType s T → Misses new T → Misses old T × (applies s on T ≡ true → Misses other T)
+-- It is a type of objects, and is looked for.
+pub record IsLookedFor (s : SchemaData) (marks : List Bool) (T : ℕ) : Type 0 where
+  pub type : IsObjectType s T
+  pub marked : is_marked_in marks T ≡ true
+
+-- All of them are looked for.
+abbrev pub AreMarked : List Bool → List ℕ → Type 0
+AreMarked marks types = (T : ℕ) → list_any (nat_eq T) types ≡ true → is_marked_in marks T ≡ true
+
+-- What the new one misses of the types that are looked for, the old one missed, and the condition doesn't apply to it.
+abbrev pub MissesApplied : SchemaData → List Bool → ℕ → Reach → Reach → Type 0
+MissesApplied s marks on old new = (T : ℕ) → IsLookedFor s marks T → Misses new T → Misses old T × (applies s on T ≡ false)
+
+-- What the new one misses of these types, the old one missed, and so did the other where the condition applies to it.
+abbrev pub MissesWhere : SchemaData → List Bool → ℕ → Reach → Reach → Reach → Type 0
+MissesWhere s marks on old new other = (T : ℕ) → IsLookedFor s marks T → Misses new T → Misses old T × (applies s on T ≡ true → Misses other T)

@@ -1,14 +1,15 @@
 -- What an operation is planned by, and what is collected, as definitions see them.
-use Rattle.std.specs.Prelude.{ℕ, map, option_map, Option}
+use Rattle.std.specs.Prelude.{ℕ, map, option_map, Option, Bool}
 use Rattle.gql_base.specs.parts.Trees.{named_value}
 use Rattle.document_reader.specs.declared.trees.Field.{Field}
 use Rattle.document_reader.specs.Trees.{names_of, set_tree}
 use Rattle.schema_model.specs.Numbers.{type_number}
+use Rattle.schema_model.specs.SchemaData.{SchemaData}
 use Rattle.schema_model.specs.SchemaViews.{schema_data}
 use Rattle.cost_directives.specs.WeightViews.{weights_data}
 use Rattle.variable_coercion.specs.Calls.{environment}
 use Rattle.document_rules.specs.Sites.{name_of_field}
-use Rattle.plan_model.specs.SelectedFields.{Setting}
+use Rattle.plan_model.specs.SelectedFields.{Setting, is_asked}
 use Rattle.plan_model.specs.Collecting.{CollectedField}
 pub use Rattle.distinct_selections.specs.Adding.{fragment_seen}
 use Rattle.collected_fields.specs.declared.planning.Planning.{Planning}
@@ -29,3 +30,7 @@ written_field parent f = record {
 
 abbrev pub collected_field : Collected → CollectedField
 collected_field c = written_field (option_map type_number c.parent) c.field.now
+
+-- whether a field asks for the names of the types below it
+abbrev pub asks_in : SchemaData → CollectedField → Bool
+asks_in s f = is_asked s f.parent f.call

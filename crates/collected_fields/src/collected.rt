@@ -9,6 +9,8 @@ pub struct Collected<'a> {
     pub parent: Option<TypeId>,
     pub field: &'a Field,
     pub below: usize,
+    /// A hash of its arguments as they are written. Those that are written alike have the same; nothing rests on it.
+    pub written: u64,
 }
 
 /// The fields of one response key. There is at least one.

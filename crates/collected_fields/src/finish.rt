@@ -1,6 +1,7 @@
 //! Groups as they are given, and as they are kept.
 
 ghost use Rattle.std.specs.Prelude.{◌≡◌, ◌<◌, IfOk, OnOk, map, option_map, length, All, ◌++◌};
+ghost use Rattle.schema_model.specs.SchemaViews.{schema_data};
 ghost use Rattle.collected_fields.specs.Views.{collected_field};
 ghost use Rattle.collected_fields.specs.Walks.{numbered, numbered_group};
 ghost use Rattle.collected_fields.specs.Serving.{number_alone, with_number};
@@ -9,6 +10,7 @@ ghost use Rattle.collected_fields.specs.Lists.{HasMore, Finishes, AllFinish, May
 use crate::alike::unlike_fields;
 use crate::collected::{Collected, Group};
 use crate::joins::{FEW, Joins};
+use schema_model::Schema;
 use std::alloc::{AllocError, Global};
 
 /// The numbers of the selections of fields.
@@ -25,14 +27,15 @@ fn numbers_below(alloc: Global, fields: &[Collected<'_>]) -> Result<Vec<usize>, 
 /// The group of these fields.
 fn finish_one<'a>(
     alloc: Global,
+    schema: &Schema,
     fields: &[Collected<'a>],
     joins: &mut Joins,
 ) -> Result<Group<'a>, AllocError>
     ensures count { joins.new.count ≡ joins.old.count }
     ensures more { HasMore joins.old joins.new }
-    ensures finishes { IfOk result (λ group. Finishes joins.old joins.new (map numbered fields.now) group) }
+    ensures finishes { IfOk result (λ group. Finishes (schema_data schema.now) joins.old joins.new (map numbered fields.now) group) }
 {
-    let unlike = unlike_fields(alloc, fields)?;
+    let unlike = unlike_fields(alloc, schema, fields)?;
     let numbers = numbers_below(alloc, fields)?;
     let below = joins.few(alloc, numbers)?;
     Ok(Group {
@@ -44,16 +47,17 @@ fn finish_one<'a>(
 /// The groups of the fields of each key.
 pub fn finish<'a>(
     alloc: Global,
+    schema: &Schema,
     fields: &[Vec<Collected<'a>>],
     joins: &mut Joins,
 ) -> Result<Vec<Group<'a>>, AllocError>
     ensures count { joins.new.count ≡ joins.old.count }
     ensures more { HasMore joins.old joins.new }
-    ensures finished { IfOk result (λ groups. AllFinish joins.old joins.new (map numbered_group fields.now) groups.items) }
+    ensures finished { IfOk result (λ groups. AllFinish (schema_data schema.now) joins.old joins.new (map numbered_group fields.now) groups.items) }
 {
     let mut groups = Vec::new(alloc);
     for of_key in fields {
-        let group = finish_one(alloc, of_key.as_slice(), joins)?;
+        let group = finish_one(alloc, schema, of_key.as_slice(), joins)?;
         groups.push(group)?;
     }
     Ok(groups)
@@ -75,6 +79,7 @@ fn with_number<'a>(
             parent: field.parent,
             field: field.field,
             below,
+            written: field.written,
         })?;
         below = nothing;
     }
@@ -84,17 +89,18 @@ fn with_number<'a>(
 /// Few fields that stand in the place of those of a key, where there is room for the number that this takes.
 fn shortened<'a>(
     alloc: Global,
+    schema: &Schema,
     fields: &[Collected<'a>],
     joins: &mut Joins,
 ) -> Result<Option<Vec<Collected<'a>>>, AllocError>
     ensures count { joins.new.count ≡ joins.old.count }
     ensures more { HasMore joins.old joins.new }
-    ensures shortened { IfOk result (λ made. MayShorten joins.old joins.new (map numbered fields.now) (option_map numbered_group made)) }
+    ensures shortened { IfOk result (λ made. MayShorten (schema_data schema.now) joins.old joins.new (map numbered fields.now) (option_map numbered_group made)) }
 {
     if fields.len() < FEW {
         return Ok(Some(copied(alloc, fields)?));
     }
-    let unlike = unlike_fields(alloc, fields)?;
+    let unlike = unlike_fields(alloc, schema, fields)?;
     let numbers = numbers_below(alloc, fields)?;
     match joins.one(alloc, numbers.as_slice())? {
         Some(number) => Ok(Some(with_number(alloc, unlike.as_slice(), number, joins.count)?)),
@@ -121,22 +127,27 @@ fn append<'a>(fields: &mut Vec<Collected<'a>>, more: &[Collected<'a>]) -> Result
     Ok(())
 }
 
-/// Fields that stand in the place of those of each key, one key behind the other, where there is room.
+/// Fields that stand in the place of those of each key, one key behind the other, where there is room and they are no more than so many.
 pub fn shortened_by_key<'a>(
     alloc: Global,
+    schema: &Schema,
     fields: &[Vec<Collected<'a>>],
+    most: usize,
     joins: &mut Joins,
 ) -> Result<Option<Vec<Collected<'a>>>, AllocError>
     ensures count { joins.new.count ≡ joins.old.count }
     ensures more { HasMore joins.old joins.new }
-    ensures shortened { IfOk result (λ made. MayShortenAll joins.old joins.new (map numbered_group fields.now) (option_map numbered_group made)) }
+    ensures shortened { IfOk result (λ made. MayShortenAll (schema_data schema.now) joins.old joins.new (map numbered_group fields.now) (option_map numbered_group made)) }
 {
     let mut all = Vec::new(alloc);
     for of_key in fields {
-        match shortened(alloc, of_key.as_slice(), joins)? {
+        match shortened(alloc, schema, of_key.as_slice(), joins)? {
             Some(made) => append(&mut all, made.as_slice())?,
             None => return Ok(None),
         }
+    }
+    if all.len() > most {
+        return Ok(None);
     }
     Ok(Some(all))
 }

@@ -1,13 +1,14 @@
 //! Lists of selection sets that have a number of their own.
 
-ghost use Rattle.std.specs.Prelude.{◌≡◌, ℕ, [], ◌∷◌, ◌++◌, IfOk, OnOk, IfSome, Some, false, get_or, slice_get, flat_map};
-ghost use Rattle.plan_model.specs.Repeats.{LeavesOutRepeats};
+ghost use Rattle.std.specs.Prelude.{◌≡◌, ℕ, [], ◌∷◌, ◌++◌, IsTrue, IfOk, OnOk, IfSome, Some, slice_get, flat_map};
+ghost use Rattle.plan_model.specs.Repeats.{Holds, LeavesOutRepeats};
 ghost use Rattle.collected_fields.specs.Lists.{lists_of_joins, sets_in_joins, IsNumberIn, HasMore, MayStandForList, MayStandForAll, StandFor};
-ghost use Rattle.collected_fields.specs.Joining.{AddsOnce};
+ghost use Rattle.collected_fields.specs.Joining.{AddsEach};
 
-use crate::walk::{blanks, set_mark};
 use std::alloc::{AllocError, Global};
 use std::collections::BTreeMap;
+use std::hash::{DefaultHasher, Hasher};
+use std::mem;
 
 /// Of fewer numbers no list is made.
 pub const FEW: usize = 16;
@@ -22,50 +23,65 @@ pub struct Joins {
     pub count: usize,
     pub lists: Vec<Vec<usize>>,
     /// Where a list with such a hash stands.
-    places: BTreeMap<usize, usize>,
+    places: BTreeMap<u64, usize>,
+    /// By which lists are hashed.
+    begun: DefaultHasher,
     room: usize,
+    /// Where selection sets stood in the list that was made last. They may stand elsewhere in the next.
+    spots: Vec<usize>,
 }
 
 /// A number by which equal lists are found. Others may have the same.
-fn hash_of(list: &[usize]) -> usize {
-    let mut hash: usize = 17;
+fn hash_of(begun: DefaultHasher, list: &[usize]) -> u64 {
+    let mut hasher = begun;
     for number in list {
-        hash = hash.wrapping_mul(1000003).wrapping_add(*number);
+        hasher.write_usize(*number);
     }
-    hash
+    hasher.finish()
 }
 
-/// A list to which selection sets are added once, with marks for those that it has.
+/// A list to which selection sets are added once.
 #[derive(Drop)]
 struct Adding {
     list: Vec<usize>,
-    marks: Vec<bool>,
+    /// For each selection set, where it stands in the list, if it stands there.
+    spots: Vec<usize>,
 }
 
 impl Adding {
-    fn is_marked(&self, number: usize) -> bool
-        ensures { result ≡ get_or self.now.marks.items number false }
+    /// Whether a selection set is found in the list.
+    fn has(&self, set: usize) -> bool
+        ensures { IsTrue result → Holds self.now.list.items set }
     {
-        match self.marks.get(number) {
-            Some(mark) => *mark,
+        match self.spots.get(set) {
+            Some(spot) => stands_at(self.list.as_slice(), *spot, set),
             None => false,
         }
     }
 
-    /// Adds a selection set that isn't there.
-    fn add(&mut self, set: usize) -> Result<(), AllocError>
-        ensures { OnOk result (AddsOnce (set ∷ []) self.old self.new) }
+    /// Notes that a selection set comes to stand at the end of the list.
+    fn note(&mut self, set: usize)
+        ensures { self.new.list.items ≡ self.old.list.items }
     {
-        if self.is_marked(set) {
+        if set < self.spots.len() {
+            self.spots[set] = self.list.len();
+        }
+    }
+
+    /// Adds a selection set, where it isn't found in the list.
+    fn add(&mut self, set: usize) -> Result<(), AllocError>
+        ensures { OnOk result (AddsEach (set ∷ []) self.old.list.items self.new.list.items) }
+    {
+        if self.has(set) {
             return Ok(());
         }
-        set_mark(&mut self.marks, set, true);
+        self.note(set);
         self.list.push(set)?;
         Ok(())
     }
 
     fn add_all(&mut self, sets: &[usize]) -> Result<(), AllocError>
-        ensures { OnOk result (AddsOnce sets.now self.old self.new) }
+        ensures { OnOk result (AddsEach sets.now self.old.list.items self.new.list.items) }
     {
         for set in sets {
             self.add(*set)?;
@@ -74,9 +90,28 @@ impl Adding {
     }
 }
 
+/// Whether a selection set stands at a place of a list.
+fn stands_at(list: &[usize], at: usize, set: usize) -> bool
+    ensures { IsTrue result → Holds list.now set }
+{
+    match list.get(at) {
+        Some(other) => *other == set,
+        None => false,
+    }
+}
+
+/// So many places of lists.
+fn no_spots(alloc: Global, count: usize) -> Result<Vec<usize>, AllocError> {
+    let mut spots = Vec::new(alloc);
+    for _at in 0..count {
+        spots.push(0)?;
+    }
+    Ok(spots)
+}
+
 impl Joins {
     /// Lists beside so many selection sets.
-    pub fn new(alloc: Global, count: usize) -> Result<Joins, AllocError>
+    pub fn new(alloc: Global, count: usize, begun: DefaultHasher) -> Result<Joins, AllocError>
         ensures count { IfOk result (λ joins. joins.count ≡ count) }
         ensures lists { IfOk result (λ joins. lists_of_joins joins ≡ [] ∷ []) }
     {
@@ -86,33 +121,29 @@ impl Joins {
             count,
             lists,
             places: BTreeMap::new(alloc),
+            begun,
             room: ROOM,
+            spots: no_spots(alloc, count)?,
         })
     }
 
-    /// How many selection sets a number stands for.
-    fn sets_at(&self, number: usize) -> usize {
+    /// The list of a number, if it is that of a list.
+    pub fn list_at(&self, number: usize) -> Option<&[usize]>
+        ensures there { IfSome result (λ sets. IsNumberIn self.now number) }
+        ensures list { IfSome result (λ sets. sets.now ≡ sets_in_joins self.now number) }
+    {
         if number < self.count {
-            return 1;
+            return None;
         }
         match self.lists.get(number - self.count) {
-            Some(sets) => sets.len(),
-            None => 0,
+            Some(sets) => Some(sets.as_slice()),
+            None => None,
         }
-    }
-
-    /// How many selection sets these numbers stand for, counted as often as they are among them.
-    pub fn sets_below(&self, numbers: &[usize]) -> usize {
-        let mut count: usize = 0;
-        for number in numbers {
-            count = count.saturating_add(self.sets_at(*number));
-        }
-        count
     }
 
     /// Adds the selection sets of a number.
     fn add(&self, number: usize, adding: &mut Adding) -> Result<(), AllocError>
-        ensures { OnOk result (AddsOnce (sets_in_joins self.now number) adding.old adding.new) }
+        ensures { OnOk result (AddsEach (sets_in_joins self.now number) adding.old.list.items adding.new.list.items) }
     {
         if number < self.count {
             return adding.add(number);
@@ -124,21 +155,25 @@ impl Joins {
     }
 
     /// The selection sets of these numbers, one after the other, where repeats are left out.
-    fn flat(&self, alloc: Global, numbers: &[usize]) -> Result<Vec<usize>, AllocError>
-        ensures { IfOk result (λ list. LeavesOutRepeats (flat_map (sets_in_joins self.now) numbers.now) list.items) }
+    fn flat(&mut self, alloc: Global, numbers: &[usize]) -> Result<Vec<usize>, AllocError>
+        ensures count { self.new.count ≡ self.old.count }
+        ensures lists { self.new.lists ≡ self.old.lists }
+        ensures flat { IfOk result (λ list. LeavesOutRepeats (flat_map (sets_in_joins self.old) numbers.now) list.items) }
     {
         let mut adding = Adding {
             list: Vec::new(alloc),
-            marks: blanks(alloc, self.count)?,
+            spots: mem::replace(&mut self.spots, Vec::new(alloc)),
         };
         for number in numbers {
             self.add(*number, &mut adding)?;
         }
-        Ok(adding.list)
+        let Adding { list, spots } = adding;
+        self.spots = spots;
+        Ok(list)
     }
 
     /// The place of a list, if it is found there.
-    fn place_of(&self, hash: usize, list: &[usize]) -> Option<usize>
+    fn place_of(&self, hash: u64, list: &[usize]) -> Option<usize>
         ensures { IfSome result (λ place. slice_get (lists_of_joins self.now) place ≡ Some list.now) }
     {
         match self.places.get(&hash).copied() {
@@ -159,7 +194,7 @@ impl Joins {
     }
 
     /// Puts a list behind the others.
-    fn push(&mut self, hash: usize, list: Vec<usize>) -> Result<(), AllocError>
+    fn push(&mut self, hash: u64, list: Vec<usize>) -> Result<(), AllocError>
         ensures count { self.new.count ≡ self.old.count }
         ensures lists { OnOk result (lists_of_joins self.new ≡ lists_of_joins self.old ++ (list.items ∷ [])) }
         ensures still { HasMore self.old self.new }
@@ -176,7 +211,7 @@ impl Joins {
         ensures more { HasMore self.old self.new }
         ensures number { IfOk result (λ number. MayStandForList self.new list.items number) }
     {
-        let hash = hash_of(list.as_slice());
+        let hash = hash_of(self.begun, list.as_slice());
         match self.place_of(hash, list.as_slice()) {
             Some(place) => Ok(self.count.checked_add(place)),
             None => {

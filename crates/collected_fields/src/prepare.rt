@@ -10,6 +10,7 @@ ghost use Rattle.collected_fields.specs.Steps.{step_data};
 ghost use Rattle.collected_fields.specs.Drafts.{source_setting, AddsTo, AddsInlineTo, Knows};
 ghost use Rattle.collected_fields.specs.Prepared.{list_data, entry_data, Prepares, Grows, AreSound, Lists, IsListed, AreEntries, EntersFragment, steps_of_spread, steps_where, reached_fragment};
 
+use crate::hashes::hash_of;
 use crate::lookups::below_field;
 use crate::planning::Planning;
 use crate::source::{Reached, Source};
@@ -21,6 +22,7 @@ use document_rules::lookups::{below_inline, composite_named};
 use gql_base::{Name, index_owned};
 use input_values::TypeId;
 use std::alloc::{AllocError, Global};
+use std::hash::DefaultHasher;
 
 /// The steps of selections that are written on a type. What stands below their fields is listed.
 #[cycle(prepare)]
@@ -93,7 +95,8 @@ fn add_field<'a>(
     }
     let parent = below_field(source.planning.schema, draft.parent, field);
     let below = list_below(alloc, source, parent, field.selections.as_slice(), lists)?;
-    draft.keep(field, below)
+    let written = hash_of(source.begun, field.arguments.as_slice());
+    draft.keep(field, below, written)
 }
 
 /// Whether these are no selections, below a type that has none.
@@ -260,12 +263,14 @@ fn reached_of<'a>(alloc: Global, fragments: &[&'a Fragment]) -> Result<Vec<Reach
     Ok(reached)
 }
 
-/// Lists the selections of an operation and of its fragments, and gives the number of the first.
+/// Lists the selections of an operation and of its fragments, and gives the number of the first. Arguments are hashed by a hasher that is
+/// begun.
 pub fn tables_of<'a>(
     alloc: Global,
     planning: Planning<'a>,
     root: TypeId,
     selections: &'a [Selection],
+    begun: DefaultHasher,
 ) -> Result<(Tables<'a>, usize), AllocError>
     ensures planning { IfOk result (λ made. made.0.planning ≡ planning.entry) }
     ensures sound { IfOk result (λ made. AreSound (setting_of_planning planning.entry) (map list_data made.0.lists.items) (map entry_data made.0.entries.items)) }
@@ -275,6 +280,7 @@ pub fn tables_of<'a>(
     let source = Source {
         planning,
         fragments: &fragments,
+        begun,
     };
     let mut lists = Vec::new(alloc);
     add_list(alloc, &source, None, &[], &mut lists)?;

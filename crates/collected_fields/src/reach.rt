@@ -5,7 +5,7 @@ ghost use Rattle.std.specs.List.{list_any};
 ghost use Rattle.schema_model.specs.Numbers.{type_number};
 ghost use Rattle.schema_model.specs.SchemaViews.{schema_data};
 ghost use Rattle.schema_model.specs.SchemaData.{applies};
-ghost use Rattle.collected_fields.specs.Reached.{reaches, Misses, IsObjectType, MissesMore, MissesApplied, MissesWhere};
+ghost use Rattle.collected_fields.specs.Reached.{reaches, Misses, is_marked_in, MissesMore, MissesApplied, MissesWhere};
 
 use input_values::TypeId;
 use schema_model::Schema;
@@ -33,6 +33,16 @@ fn is_among(of: TypeId, types: &[TypeId]) -> bool
         }
     }
     false
+}
+
+/// Whether a type is marked.
+pub fn is_marked_in(marks: &[bool], of: TypeId) -> bool
+    ensures { result ≡ is_marked_in marks.now of.number }
+{
+    match marks.get(of.number) {
+        Some(mark) => *mark,
+        None => false,
+    }
 }
 
 impl Reach {
@@ -137,29 +147,50 @@ impl Reach {
         Ok(())
     }
 
-    /// Adds the types of objects to which a condition applies, where there are some.
-    fn add_possible(&mut self, schema: &Schema, on: TypeId) -> Result<(), AllocError>
-        ensures { OnOk result (MissesApplied (schema_data schema.now) on.number self.old self.new) }
+    /// Adds those of some types that are marked, where there is room, or else all.
+    fn add_marked(&mut self, marks: &[bool], types: &[TypeId]) -> Result<(), AllocError>
+        ensures { OnOk result (MissesMore self.old self.new (λ T. is_marked_in marks.now T && list_any (nat_eq T) (map type_number types.now))) }
+    {
+        for of in types {
+            if self.is_every() {
+                return Ok(());
+            }
+            if is_marked_in(marks, *of) {
+                self.add(*of)?;
+            }
+        }
+        Ok(())
+    }
+
+    /// Adds the types of objects to which a condition applies, those that are looked for, where there are some.
+    fn add_possible(
+        &mut self,
+        schema: &Schema,
+        marks: &[bool],
+        on: TypeId,
+    ) -> Result<(), AllocError>
+        ensures { OnOk result (MissesApplied (schema_data schema.now) marks.now on.number self.old self.new) }
     {
         let types = schema.possible(on);
         if types.is_empty() {
             self.widen();
             return Ok(());
         }
-        self.add_all(types)
+        self.add_marked(marks, types)
     }
 
-    /// Adds those types of another to which a condition applies.
+    /// Adds those types of another to which a condition applies, and that are looked for.
     pub fn join_where(
         &mut self,
         schema: &Schema,
+        marks: &[bool],
         on: TypeId,
         other: &Reach,
     ) -> Result<(), AllocError>
-        ensures { OnOk result (MissesWhere (schema_data schema.now) on.number self.old self.new other.now) }
+        ensures { OnOk result (MissesWhere (schema_data schema.now) marks.now on.number self.old self.new other.now) }
     {
         match other {
-            Reach::Every => self.add_possible(schema, on),
+            Reach::Every => self.add_possible(schema, marks, on),
             Reach::These(types) => self.add_where(schema, on, types.as_slice()),
         }
     }

@@ -3,9 +3,10 @@
 ghost use Rattle.std.specs.Prelude.{◌≡◌, ◌∷◌, [], ℕ, map, option_map, None, IfOk, OnOk};
 ghost use Rattle.collected_fields.specs.Steps.{step_data, inline_step};
 ghost use Rattle.collected_fields.specs.Lists.{sets_in_joins};
-ghost use Rattle.collected_fields.specs.Reaching.{ReachesSteps, ReachesStep, ReachesFragment, ReachesWhere, ReachesSets, found_of, AreReached, FindsOne, ReachesNumbers};
+ghost use Rattle.collected_fields.specs.Reaching.{ReachesSteps, ReachesStep, ReachesFragment, ReachesWhere, ReachesSets, found_of, AreReached, AreAllReached, FindsOne, ReachesNumbers};
 
 use crate::joins::Joins;
+use crate::order::order_of;
 use crate::reach::Reach;
 use crate::steps::Step;
 use crate::tables::Tables;
@@ -13,10 +14,11 @@ use crate::walk::{entry_at, place_behind};
 use input_values::TypeId;
 use std::alloc::{AllocError, Global};
 
-/// So many conditions are looked into that stand in one another, beside fragments.
+/// So many conditions and spreads are looked into that stand in one another. A document has fewer conditions in one another, and
+/// what a fragment reaches is found before it is looked into.
 const NESTED: usize = 64;
 
-/// What was found of selection sets, by their numbers.
+/// What was found of selection sets, or of lists of them, by their numbers.
 #[derive(Drop)]
 pub struct Reaches {
     pub sets: Vec<Option<Reach>>,
@@ -54,19 +56,43 @@ impl Reaches {
     }
 }
 
+/// What was found of selection sets and of lists of them.
+#[derive(Drop)]
+pub struct AllReaches {
+    pub sets: Reaches,
+    pub lists: Reaches,
+    /// Whether all fragments were looked into.
+    fragments: bool,
+}
+
+impl AllReaches {
+    /// Nothing was found yet.
+    pub fn new(alloc: Global) -> AllReaches
+        ensures sets { (set : ℕ) → found_of result.sets set ≡ None }
+        ensures lists { (number : ℕ) → found_of result.lists number ≡ None }
+    {
+        AllReaches {
+            sets: Reaches::new(alloc),
+            lists: Reaches::new(alloc),
+            fragments: false,
+        }
+    }
+}
+
 /// Adds the types for which a step may have fields, and tells how many of the next ones were looked at with it.
 #[cycle(reach)]
 fn add_step(
     alloc: Global,
     tables: &Tables<'_>,
+    marks: &[bool],
     depth: usize,
     step: &Step<'_>,
     rest: &[Step<'_>],
     found: &mut Reaches,
     reach: &mut Reach,
 ) -> Result<usize, AllocError>
-    ensures still { AreReached tables.now found.old → AreReached tables.now found.new }
-    ensures adds { IfOk result (λ passed. AreReached tables.now found.old → ReachesStep tables.now reach.old reach.new (step_data step.now) (map step_data rest.now) passed) }
+    ensures still { AreReached tables.now marks.now found.old → AreReached tables.now marks.now found.new }
+    ensures adds { IfOk result (λ passed. AreReached tables.now marks.now found.old → ReachesStep tables.now marks.now reach.old reach.new (step_data step.now) (map step_data rest.now) passed) }
 {
     match step {
         Step::Field(_) => {
@@ -74,11 +100,11 @@ fn add_step(
             Ok(0)
         }
         Step::Spread(number) => {
-            add_fragment(alloc, tables, depth, *number, found, reach)?;
+            add_fragment(alloc, tables, marks, depth, *number, found, reach)?;
             Ok(0)
         }
         Step::Inline { on, count } => {
-            add_inline(alloc, tables, depth, *on, *count, rest, found, reach)?;
+            add_inline(alloc, tables, marks, depth, *on, *count, rest, found, reach)?;
             Ok(*count)
         }
     }
@@ -89,6 +115,7 @@ fn add_step(
 fn add_inline(
     alloc: Global,
     tables: &Tables<'_>,
+    marks: &[bool],
     depth: usize,
     on: TypeId,
     count: usize,
@@ -96,16 +123,24 @@ fn add_inline(
     found: &mut Reaches,
     reach: &mut Reach,
 ) -> Result<(), AllocError>
-    ensures still { AreReached tables.now found.old → AreReached tables.now found.new }
-    ensures adds { OnOk result (AreReached tables.now found.old → ReachesStep tables.now reach.old reach.new (inline_step on.number count) (map step_data rest.now) count) }
+    ensures still { AreReached tables.now marks.now found.old → AreReached tables.now marks.now found.new }
+    ensures adds { OnOk result (AreReached tables.now marks.now found.old → ReachesStep tables.now marks.now reach.old reach.new (inline_step on.number count) (map step_data rest.now) count) }
 {
     if depth == 0 || rest.len() < count {
         reach.widen();
         return Ok(());
     }
     let mut under = Reach::none(alloc);
-    add_steps(alloc, tables, depth - 1, &rest[..count], found, &mut under)?;
-    reach.join_where(tables.planning.schema, on, &under)
+    add_steps(
+        alloc,
+        tables,
+        marks,
+        depth - 1,
+        &rest[..count],
+        found,
+        &mut under,
+    )?;
+    reach.join_where(tables.planning.schema, marks, on, &under)
 }
 
 /// The same of steps, as long as types are told apart.
@@ -113,18 +148,19 @@ fn add_inline(
 fn add_steps(
     alloc: Global,
     tables: &Tables<'_>,
+    marks: &[bool],
     depth: usize,
     steps: &[Step<'_>],
     found: &mut Reaches,
     reach: &mut Reach,
 ) -> Result<(), AllocError>
-    ensures still { AreReached tables.now found.old → AreReached tables.now found.new }
-    ensures adds { OnOk result (AreReached tables.now found.old → ReachesSteps tables.now reach.old reach.new (map step_data steps.now)) }
+    ensures still { AreReached tables.now marks.now found.old → AreReached tables.now marks.now found.new }
+    ensures adds { OnOk result (AreReached tables.now marks.now found.old → ReachesSteps tables.now marks.now reach.old reach.new (map step_data steps.now)) }
 {
     let mut at = 0;
     'steps: while at < steps.len() && !reach.is_every() {
         let rest = &steps[at + 1..];
-        let passed = add_step(alloc, tables, depth, &steps[at], rest, found, reach)?;
+        let passed = add_step(alloc, tables, marks, depth, &steps[at], rest, found, reach)?;
         at = place_behind(at, passed, steps.len());
     }
     Ok(())
@@ -135,17 +171,18 @@ fn add_steps(
 fn add_fragment(
     alloc: Global,
     tables: &Tables<'_>,
+    marks: &[bool],
     depth: usize,
     number: usize,
     found: &mut Reaches,
     reach: &mut Reach,
 ) -> Result<(), AllocError>
-    ensures still { AreReached tables.now found.old → AreReached tables.now found.new }
-    ensures adds { OnOk result (AreReached tables.now found.old → ReachesFragment tables.now reach.old reach.new number) }
+    ensures still { AreReached tables.now marks.now found.old → AreReached tables.now marks.now found.new }
+    ensures adds { OnOk result (AreReached tables.now marks.now found.old → ReachesFragment tables.now marks.now reach.old reach.new number) }
 {
     match entry_at(tables, number) {
         Some(entry) => match entry.on {
-            Some(on) => add_where(alloc, tables, depth, on, entry.list, found, reach),
+            Some(on) => add_where(alloc, tables, marks, depth, on, entry.list, found, reach),
             None => Ok(()),
         },
         None => Ok(()),
@@ -157,22 +194,23 @@ fn add_fragment(
 fn add_where(
     alloc: Global,
     tables: &Tables<'_>,
+    marks: &[bool],
     depth: usize,
     on: TypeId,
     set: usize,
     found: &mut Reaches,
     reach: &mut Reach,
 ) -> Result<(), AllocError>
-    ensures still { AreReached tables.now found.old → AreReached tables.now found.new }
-    ensures adds { OnOk result (AreReached tables.now found.old → ReachesWhere tables.now reach.old reach.new on.number set) }
+    ensures still { AreReached tables.now marks.now found.old → AreReached tables.now marks.now found.new }
+    ensures adds { OnOk result (AreReached tables.now marks.now found.old → ReachesWhere tables.now marks.now reach.old reach.new on.number set) }
 {
     if depth == 0 {
         reach.widen();
         return Ok(());
     }
-    find(alloc, tables, depth - 1, set, found)?;
+    find(alloc, tables, marks, depth - 1, set, found)?;
     match found.of(set) {
-        Some(other) => reach.join_where(tables.planning.schema, on, other),
+        Some(other) => reach.join_where(tables.planning.schema, marks, on, other),
         None => {
             reach.widen();
             Ok(())
@@ -185,17 +223,18 @@ fn add_where(
 fn find(
     alloc: Global,
     tables: &Tables<'_>,
+    marks: &[bool],
     depth: usize,
     set: usize,
     found: &mut Reaches,
 ) -> Result<(), AllocError>
-    ensures still { AreReached tables.now found.old → AreReached tables.now found.new }
+    ensures still { AreReached tables.now marks.now found.old → AreReached tables.now marks.now found.new }
 {
     if found.of(set).is_some() {
         return Ok(());
     }
     let mut reach = Reach::none(alloc);
-    add_listed(alloc, tables, depth, set, found, &mut reach)?;
+    add_listed(alloc, tables, marks, depth, set, found, &mut reach)?;
     found.keep(set, reach)
 }
 
@@ -204,33 +243,94 @@ fn find(
 fn add_listed(
     alloc: Global,
     tables: &Tables<'_>,
+    marks: &[bool],
     depth: usize,
     set: usize,
     found: &mut Reaches,
     reach: &mut Reach,
 ) -> Result<(), AllocError>
-    ensures still { AreReached tables.now found.old → AreReached tables.now found.new }
-    ensures adds { OnOk result (AreReached tables.now found.old → ReachesSets tables.now reach.old reach.new (set ∷ [])) }
+    ensures still { AreReached tables.now marks.now found.old → AreReached tables.now marks.now found.new }
+    ensures adds { OnOk result (AreReached tables.now marks.now found.old → ReachesSets tables.now marks.now reach.old reach.new (set ∷ [])) }
 {
     match tables.lists.get(set) {
-        Some(list) => add_steps(alloc, tables, depth, list.steps.as_slice(), found, reach),
+        Some(list) => add_steps(
+            alloc,
+            tables,
+            marks,
+            depth,
+            list.steps.as_slice(),
+            found,
+            reach,
+        ),
         None => Ok(()),
     }
+}
+
+/// Finds the types of the selection set of a fragment.
+fn find_fragment(
+    alloc: Global,
+    tables: &Tables<'_>,
+    marks: &[bool],
+    number: usize,
+    found: &mut Reaches,
+) -> Result<(), AllocError>
+    ensures still { AreReached tables.now marks.now found.old → AreReached tables.now marks.now found.new }
+{
+    match entry_at(tables, number) {
+        Some(entry) => find(alloc, tables, marks, NESTED, entry.list, found),
+        None => Ok(()),
+    }
+}
+
+/// The same of some fragments, one after another.
+fn find_fragments(
+    alloc: Global,
+    tables: &Tables<'_>,
+    marks: &[bool],
+    numbers: &[usize],
+    found: &mut Reaches,
+) -> Result<(), AllocError>
+    ensures still { AreReached tables.now marks.now found.old → AreReached tables.now marks.now found.new }
+{
+    for number in numbers {
+        find_fragment(alloc, tables, marks, *number, found)?;
+    }
+    Ok(())
+}
+
+/// Looks into all fragments, where that wasn't done yet: into one behind those that it spreads, so that what is found of it
+/// takes no calls in one another for fragments.
+fn begin(
+    alloc: Global,
+    tables: &Tables<'_>,
+    marks: &[bool],
+    all: &mut AllReaches,
+) -> Result<(), AllocError>
+    ensures lists { all.new.lists ≡ all.old.lists }
+    ensures still { AreReached tables.now marks.now all.old.sets → AreReached tables.now marks.now all.new.sets }
+{
+    if all.fragments {
+        return Ok(());
+    }
+    let order = order_of(alloc, tables)?;
+    find_fragments(alloc, tables, marks, order.as_slice(), &mut all.sets)?;
+    all.fragments = true;
+    Ok(())
 }
 
 /// Adds the types of a selection set, which are found once.
 fn add_set(
     alloc: Global,
     tables: &Tables<'_>,
+    marks: &[bool],
     set: usize,
     found: &mut Reaches,
     reach: &mut Reach,
 ) -> Result<(), AllocError>
-    ensures still { AreReached tables.now found.old → AreReached tables.now found.new }
-    ensures adds { OnOk result (AreReached tables.now found.old → ReachesSets tables.now reach.old reach.new (set ∷ [])) }
+    ensures still { AreReached tables.now marks.now found.old → AreReached tables.now marks.now found.new }
+    ensures adds { OnOk result (AreReached tables.now marks.now found.old → ReachesSets tables.now marks.now reach.old reach.new (set ∷ [])) }
 {
-    let depth = tables.planning.fragments.len().saturating_add(NESTED);
-    find(alloc, tables, depth, set, found)?;
+    find(alloc, tables, marks, NESTED, set, found)?;
     match found.of(set) {
         Some(other) => reach.join(other),
         None => {
@@ -244,37 +344,67 @@ fn add_set(
 fn add_sets(
     alloc: Global,
     tables: &Tables<'_>,
+    marks: &[bool],
     sets: &[usize],
     found: &mut Reaches,
     reach: &mut Reach,
 ) -> Result<(), AllocError>
-    ensures still { AreReached tables.now found.old → AreReached tables.now found.new }
-    ensures adds { OnOk result (AreReached tables.now found.old → ReachesSets tables.now reach.old reach.new sets.now) }
+    ensures still { AreReached tables.now marks.now found.old → AreReached tables.now marks.now found.new }
+    ensures adds { OnOk result (AreReached tables.now marks.now found.old → ReachesSets tables.now marks.now reach.old reach.new sets.now) }
 {
     for set in sets {
-        add_set(alloc, tables, *set, found, reach)?;
+        add_set(alloc, tables, marks, *set, found, reach)?;
     }
     Ok(())
 }
 
-/// The same of the sets of a number.
+/// Finds the types of the list of a number, where they weren't found yet.
+fn find_list(
+    alloc: Global,
+    tables: &Tables<'_>,
+    marks: &[bool],
+    joins: &Joins,
+    number: usize,
+    all: &mut AllReaches,
+) -> Result<(), AllocError>
+    ensures still { AreAllReached tables.now marks.now joins.now all.old → AreAllReached tables.now marks.now joins.now all.new }
+{
+    if all.lists.of(number).is_some() {
+        return Ok(());
+    }
+    match joins.list_at(number) {
+        Some(sets) => {
+            let mut reach = Reach::none(alloc);
+            add_sets(alloc, tables, marks, sets, &mut all.sets, &mut reach)?;
+            all.lists.keep(number, reach)
+        }
+        None => Ok(()),
+    }
+}
+
+/// Adds the types of the sets of a number, which are found once.
 fn add_number(
     alloc: Global,
     tables: &Tables<'_>,
+    marks: &[bool],
     joins: &Joins,
     number: usize,
-    found: &mut Reaches,
+    all: &mut AllReaches,
     reach: &mut Reach,
 ) -> Result<(), AllocError>
-    ensures still { AreReached tables.now found.old → AreReached tables.now found.new }
-    ensures adds { OnOk result (AreReached tables.now found.old → ReachesSets tables.now reach.old reach.new (sets_in_joins joins.now number)) }
+    ensures still { AreAllReached tables.now marks.now joins.now all.old → AreAllReached tables.now marks.now joins.now all.new }
+    ensures adds { OnOk result (AreAllReached tables.now marks.now joins.now all.old → ReachesSets tables.now marks.now reach.old reach.new (sets_in_joins joins.now number)) }
 {
     if number < joins.count {
-        return add_set(alloc, tables, number, found, reach);
+        return add_set(alloc, tables, marks, number, &mut all.sets, reach);
     }
-    match joins.lists.get(number - joins.count) {
-        Some(sets) => add_sets(alloc, tables, sets.as_slice(), found, reach),
-        None => Ok(()),
+    find_list(alloc, tables, marks, joins, number, all)?;
+    match all.lists.of(number) {
+        Some(other) => reach.join(other),
+        None => {
+            reach.widen();
+            Ok(())
+        }
     }
 }
 
@@ -282,16 +412,18 @@ fn add_number(
 pub fn reach_of(
     alloc: Global,
     tables: &Tables<'_>,
+    marks: &[bool],
     joins: &Joins,
     numbers: &[usize],
-    found: &mut Reaches,
+    all: &mut AllReaches,
 ) -> Result<Reach, AllocError>
-    ensures still { AreReached tables.now found.old → AreReached tables.now found.new }
-    ensures reach { IfOk result (λ reach. AreReached tables.now found.old → ReachesNumbers tables.now joins.now numbers.now reach) }
+    ensures still { AreAllReached tables.now marks.now joins.now all.old → AreAllReached tables.now marks.now joins.now all.new }
+    ensures reach { IfOk result (λ reach. AreAllReached tables.now marks.now joins.now all.old → ReachesNumbers tables.now marks.now joins.now numbers.now reach) }
 {
+    begin(alloc, tables, marks, all)?;
     let mut reach = Reach::none(alloc);
     for number in numbers {
-        add_number(alloc, tables, joins, *number, found, &mut reach)?;
+        add_number(alloc, tables, marks, joins, *number, all, &mut reach)?;
     }
     Ok(reach)
 }

@@ -70,8 +70,8 @@ impl<'a> Draft<'a> {
         }
     }
 
-    /// Puts a field behind the steps.
-    pub fn keep(&mut self, field: &'a Field, below: usize) -> Result<(), AllocError>
+    /// Puts a field behind the steps, with the number of what stands below it and the hash of its arguments.
+    pub fn keep(&mut self, field: &'a Field, below: usize, written: u64) -> Result<(), AllocError>
         ensures parent { self.new.parent ≡ self.old.parent }
         ensures leaves { OnOk result (Knows self.old → Knows self.new) }
         ensures steps { OnOk result (map step_data self.new.steps.items ≡ map step_data self.old.steps.items ++ (field_step (written_field (option_map type_number self.old.parent) field.now) below ∷ [])) }
@@ -80,6 +80,7 @@ impl<'a> Draft<'a> {
             parent: self.parent,
             field,
             below,
+            written,
         }))?;
         if is_leaf(field) && !self.leaves.contains_key(key_of(field)) {
             self.leaves.insert(key_of(field), field)?;

@@ -1,7 +1,8 @@
 use Rattle.std.proofs.Common.{◌≡◌, map, take}
+use Rattle.schema_model.specs.SchemaViews.{schema_data}
 use Rattle.collected_fields.specs.Walks.{numbered, numbered_group}
 use Rattle.collected_fields.specs.Lists.{HasMore, AllShorten}
 use Rattle.collected_fields.proofs.finish.shortened_by_key.Given as goal
 
 abbrev pub invariant-loop-of_key : goal.invariant-loop-of_key
-invariant-loop-of_key l = (l.joins.count ≡ l.fn.joins.count) × (HasMore l.fn.joins l.joins × AllShorten l.fn.joins l.joins (map numbered_group (take l.of_key-index l.fields)) (map numbered l.all.items))
+invariant-loop-of_key l = (l.joins.count ≡ l.fn.joins.count) × (HasMore l.fn.joins l.joins × AllShorten (schema_data l.schema) l.fn.joins l.joins (map numbered_group (take l.of_key-index l.fields)) (map numbered l.all.items))

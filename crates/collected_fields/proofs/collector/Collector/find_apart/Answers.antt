@@ -1,4 +1,5 @@
 use Rattle.std.proofs.Common.{refl, subst, map, option_map}
+use Rattle.schema_model.specs.SchemaViews.{schema_data}
 use Rattle.collected_fields.specs.Walks.{numbered_group}
 use Rattle.collected_fields.specs.Grouping.{fields_grouped}
 use Rattle.collected_fields.specs.Lists.{AllShorten, MayShortenAll}
@@ -18,8 +19,8 @@ pub returns-in-Some : goal.returns-in-Some
 returns-in-Some c = λ there.
     apart_found c.args.self.now c.fields_by_key.new.self _ c.args.of.number c.args.number (fields_grouped c.in_ok-fields.fields) (numbered_group c.in-Some.short) c.fields_by_key.ensures.tables c.fields_by_key.ensures.joins c.fields_by_key.ensures.kept refl c.fields_by_key.ensures.reaches c.shortened_by_key.ensures.count c.shortened_by_key.ensures.more
     c.in_ok-fields.ensures.found
-    (subst (λ fs. AllShorten c.fields_by_key.new.self.joins c.shortened_by_key.new.joins fs (numbered_group c.in-Some.short)) c.fields.ensures
-    (subst (λ o. MayShortenAll c.fields_by_key.new.self.joins c.shortened_by_key.new.joins (map numbered_group c.fields.result.now) (option_map numbered_group o)) c.in-Some.is c.in_ok-short.ensures.shortened))
+    (subst (λ fs. AllShorten (schema_data c.args.self.now.tables.planning.schema.now) c.fields_by_key.new.self.joins c.shortened_by_key.new.joins fs (numbered_group c.in-Some.short)) c.fields.ensures
+    (subst (λ o. MayShortenAll (schema_data c.args.self.now.tables.planning.schema.now) c.fields_by_key.new.self.joins c.shortened_by_key.new.joins (map numbered_group c.fields.result.now) (option_map numbered_group o)) c.in-Some.is c.in_ok-short.ensures.shortened))
     c.keep.ensures there
 
 pub returns : goal.returns

@@ -1,9 +1,9 @@
-use Rattle.std.proofs.Common.{sym, ◌∙◌}
-use Rattle.collected_fields.proofs.JoinLaws.{adds_marked, adds_new}
+use Rattle.std.proofs.Common.{List, ℕ, [], ◌∷◌, ◌++◌, ap, ◌∙◌}
+use Rattle.collected_fields.proofs.JoinLaws.{adds_held, adds_new}
 use Rattle.collected_fields.proofs.joins.Adding.add.Goals as goal
 
-pub returns-then-is_marked : goal.returns-then-is_marked
-returns-then-is_marked c = adds_marked c.args.self.now c.args.set (sym c.is_marked.ensures ∙ c.if-is_marked.true)
+pub returns-then-has : goal.returns-then-has
+returns-then-has c = adds_held c.args.self.now.list.items c.args.set (c.has.ensures c.if-has.true)
 
 pub returns : goal.returns
-returns c = adds_new c.args.self.now _ c.args.set c.set_mark.ensures c.in_ok-push.ensures.items
+returns c = adds_new c.args.self.now.list.items c.push.new.self.items c.args.set (c.in_ok-push.ensures.items ∙ ap (λ (xs : List ℕ). xs ++ (c.args.set ∷ [])) c.note.ensures)

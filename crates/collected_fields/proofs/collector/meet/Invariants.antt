@@ -1,5 +1,0 @@
-use Rattle.std.proofs.Common.{◌+◌, ◌-◌, length}
-use Rattle.collected_fields.proofs.collector.meet.Given as goal
-
-abbrev pub decreases-met : goal.decreases-met
-decreases-met l = l.number + 1 - length l.met.items

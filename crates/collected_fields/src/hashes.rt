@@ -1,0 +1,87 @@
+//! Hashes of fields' arguments as they are written, and by what they and lists are hashed. They say what may be equal, and nothing rests on
+//! them.
+
+use crate::planning::Planning;
+use crate::steps::key_of;
+use document_reader::Selection;
+use gql_base::{Argument, Value};
+use std::hash::{DefaultHasher, Hasher};
+
+fn put_text(kind: u8, text: &str, into: &mut DefaultHasher) {
+    into.write_u8(kind);
+    into.write_usize(text.len());
+    into.write(text.as_bytes());
+}
+
+#[cycle(hashes)]
+fn put_value(value: &Value, into: &mut DefaultHasher) {
+    match value {
+        Value::Var(name) => put_text(1, name.text.as_str(), into),
+        Value::Int(number) => {
+            into.write_u8(2);
+            into.write_i128(*number);
+        }
+        Value::Str(text) => put_text(3, text.as_str(), into),
+        Value::Bool(truth) => into.write_u8(if *truth { 4 } else { 5 }),
+        Value::Null => into.write_u8(6),
+        Value::EnumName(name) => put_text(7, name.text.as_str(), into),
+        Value::List(items) => put_items(items.as_slice(), into),
+        Value::Object(fields) => put_arguments(fields.as_slice(), into),
+    }
+}
+
+#[cycle(hashes)]
+fn put_items(items: &[Value], into: &mut DefaultHasher) {
+    into.write_usize(items.len());
+    'items: for item in items {
+        put_value(item, into);
+    }
+}
+
+#[cycle(hashes)]
+fn put_arguments(arguments: &[Argument], into: &mut DefaultHasher) {
+    into.write_usize(arguments.len());
+    'arguments: for argument in arguments {
+        put_text(8, argument.name.text.as_str(), into);
+        put_value(&argument.value, into);
+    }
+}
+
+#[cycle(begins)]
+fn put_selection(selection: &Selection, into: &mut DefaultHasher) {
+    match selection {
+        Selection::Field(field) => {
+            put_text(9, key_of(field), into);
+            put_arguments(field.arguments.as_slice(), into);
+            put_selections(field.selections.as_slice(), into);
+        }
+        Selection::Spread { name, .. } => put_text(10, name.text.as_str(), into),
+        Selection::Inline { selections, .. } => put_selections(selections.as_slice(), into),
+    }
+}
+
+#[cycle(begins)]
+fn put_selections(selections: &[Selection], into: &mut DefaultHasher) {
+    'selections: for selection in selections {
+        put_selection(selection, into);
+    }
+}
+
+/// A hasher that has taken in the response keys and arguments of an operation and its fragments. What a hash comes to depends on all of
+/// them, so that who writes them can't choose some that collide: the others that he writes, and these themselves, would make them come
+/// to something else.
+pub(crate) fn begun_with(planning: &Planning<'_>, selections: &[Selection]) -> DefaultHasher {
+    let mut begun = DefaultHasher::new();
+    put_selections(selections, &mut begun);
+    for fragment in planning.fragments {
+        put_selections(fragment.selections.as_slice(), &mut begun);
+    }
+    begun
+}
+
+/// The hash of these arguments, by a hasher that is begun.
+pub(crate) fn hash_of(begun: DefaultHasher, arguments: &[Argument]) -> u64 {
+    let mut hasher = begun;
+    put_arguments(arguments, &mut hasher);
+    hasher.finish()
+}
