@@ -1,8 +1,8 @@
 -- Calls that are kept: found at their places, and known to be equal.
 use Rattle.std.proofs.Common.{◌≡◌, ◌<◌, ℕ, zero, suc, Bool, true, false, not, arith, List, [], ◌∷◌, ◌++◌, length, get_or, All, Option, Some, None, Ok, refl, sym, ap, ◌∙◌, subst}
-use Rattle.std.specs.Prelude.{IfSome}
+use Rattle.std.specs.Prelude.{IfSome, option_to_list}
 use Rattle.std.specs.List.{slice_get}
-use Rattle.std.proofs.lemmas.List.Elements.{All-push}
+use Rattle.std.proofs.lemmas.List.Elements.{All-push, All-pop}
 use Rattle.std.proofs.lemmas.Option.{slice_get_within, get_or_from_slice_get, slice_get_read}
 use Rattle.schema_model.specs.Arguments.{args_data}
 use Rattle.plan_model.specs.SelectedFields.{Setting, refusal_of, if_coerced}
@@ -11,7 +11,8 @@ use Rattle.plan_model.specs.SameArguments.{same_arguments}
 use Rattle.plan_model.proofs.GivenArguments.{coerced_alike}
 use Rattle.collected_fields.specs.Views.{collected_field}
 use Rattle.merged_selections.specs.declared.call.Call.{Call}
-use Rattle.merged_selections.specs.NodeTests.{refused_in, differs_from, IsCall, IsKept, IsAlike, IsThereWith, IsAlikeAt, IsCallAt, same_calls, IsSamePair, IsSameAsAt, AreSameAt, Compares}
+use Rattle.merged_selections.specs.NodeTests.{refused_in, differs_from, IsCall, IsKept, IsAlike, IsThereWith, IsAlikeAt, IsCallAt, same_calls, AreEqual, IsSameAsAt, AreSameAt, Compares}
+use Rattle.merged_selections.proofs.EqualCalls.{equal_none, equal_more}
 use Rattle.merged_selections.proofs.NodeFaults.{same_themselves}
 
 -- ---- what stands at a place
@@ -47,27 +48,13 @@ still_there P [] more at h = absurd h
 still_there P (c ∷ calls) more zero h = refl
 still_there P (c ∷ calls) more (suc at) h = still_there P calls more at h
 
-pair_still : (calls more : List Call) (pair : ℕ × ℕ) → IsSamePair calls pair → IsSamePair (calls ++ more) pair
-pair_still calls more pair h = first (slice_get calls pair.0) refl h
-  where
-    second : Call → Option Call → Type 0
-    second call found = IsThereWith (λ other. same_calls call other ≡ true) found
-
-    first : (found : Option Call) → slice_get calls pair.0 ≡ found → IsThereWith (λ call. second call (slice_get calls pair.1)) found → IsSamePair (calls ++ more) pair
-    first None is h = absurd h
-    first (Some call) is h =
-        subst (λ (o : Option Call). IsThereWith (λ c. second c (slice_get (calls ++ more) pair.1)) o) (sym (still_there (λ c. Unit {0}) calls more pair.0 (subst (λ (o : Option Call). IsThereWith (λ c. Unit {0}) o) (sym is) tt) ∙ is))
-        (subst (second call) (sym (still_there (λ other. same_calls call other ≡ true) calls more pair.1 h)) h)
-
-pairs_still : (calls more : List Call) (pairs : List (ℕ × ℕ)) → All (IsSamePair calls) pairs → All (IsSamePair (calls ++ more)) pairs
-pairs_still calls more pairs all = λ k d within. pair_still calls more (get_or pairs k d) (all k d within)
-
 -- one more is kept
-pub kept_more : (e : Setting) (made now : List Call) (same : List (ℕ × ℕ)) (call : Call) → now ≡ made ++ call ∷ [] → All (IsKept e) made × All (IsSamePair made) same → IsKept e call → All (IsKept e) now × All (IsSamePair now) same
-kept_more e made now same call is kept own = (
-  subst (All (IsKept e)) (sym is) (All-push (IsKept e) made call kept.0 own),
-  subst (λ (calls : List Call). All (IsSamePair calls) same) (sym is) (pairs_still made (call ∷ []) same kept.1),
-)
+pub kept_more : (e : Setting) (made now : List Call) (equal : List ℕ) (call : Call) → now ≡ made ++ call ∷ [] → All (IsKept e) made × AreEqual made equal → IsKept e call → All (IsKept e) now × AreEqual now equal
+kept_more e made now equal call is kept own = (subst (All (IsKept e)) (sym is) (All-push (IsKept e) made call kept.0 own), equal_more made now equal call is kept.1)
+
+-- without the last one, where nothing is noted
+pub kept_fewer : (e : Setting) (calls fewer : List Call) (equal : List ℕ) (last : Option Call) → calls ≡ fewer ++ option_to_list last → All (IsKept e) calls → equal ≡ [] → All (IsKept e) fewer × AreEqual fewer equal
+kept_fewer e calls fewer equal last is kept none = ((All-pop (IsKept e) calls fewer last is kept).0, equal_none fewer equal none)
 
 -- the one that was put last
 pub put_last : (P : Call → Type 0) (calls : List Call) (call : Call) → P call → IsThereWith P (slice_get (calls ++ call ∷ []) (length calls))
@@ -93,44 +80,6 @@ there_at P calls at call within is h = subst (λ (o : Option Call). IsThereWith 
 -- a call is equal to the one at a place where their arguments were found equal
 pub same_as_at : (calls : List Call) (at : ℕ) (call other : Call) → at < length calls → call ≡ get_or calls at call → same_calls call other ≡ true → IsSameAsAt calls at other
 same_as_at calls at call other within is same = there_at (λ c. same_calls c other ≡ true) calls at call within is same
-
--- the pair of a call and of one that was put behind the others
-pair_put : (calls now : List Call) (at : ℕ) (other : Call) → now ≡ calls ++ other ∷ [] → IsSameAsAt calls at other → IsSamePair now (at, length calls)
-pair_put calls now at other is same = subst (λ (cs : List Call). IsSamePair cs (at, length calls)) (sym is) (first (slice_get calls at) refl same)
-  where
-    first : (found : Option Call) → slice_get calls at ≡ found → IsThereWith (λ call. same_calls call other ≡ true) found → IsSamePair (calls ++ other ∷ []) (at, length calls)
-    first None none h = absurd h
-    first (Some call) found h =
-        subst (λ (o : Option Call). IsThereWith (λ c. IsThereWith (λ d. same_calls c d ≡ true) (slice_get (calls ++ other ∷ []) (length calls))) o) (sym (still_there (λ c. Unit {0}) calls (other ∷ []) at (subst (λ (o : Option Call). IsThereWith (λ c. Unit {0}) o) (sym found) tt) ∙ found))
-        (put_last (λ d. same_calls call d ≡ true) calls other h)
-
-pub pair_put_at : (calls now : List Call) (at place : ℕ) (other : Call) → place ≡ length calls → now ≡ calls ++ other ∷ [] → IsSameAsAt calls at other → IsSamePair now (at, place)
-pair_put_at calls now at place other last is same = subst (λ (n : ℕ). IsSamePair now (at, n)) (sym last) (pair_put calls now at other is same)
-
--- the pair of two calls that were found equal
-pub pair_found : (calls listed : List Call) (at place : ℕ) (same : Bool) → at < length calls → place < length calls → listed ≡ calls → AreSameAt listed at place same → same ≡ true → IsSamePair calls (at, place)
-pair_found calls listed at place same within within_too is h found_so =
-    first (slice_get calls at) refl (subst (λ (b : Bool). AreSameAt calls at place b) found_so (subst (λ (cs : List Call). AreSameAt cs at place same) is h))
-  where
-    second : (call : Call) (found : Option Call) → slice_get calls place ≡ found → IfSome found (λ other. true ≡ same_calls call other) → IsThereWith (λ other. same_calls call other ≡ true) found
-    second call None none h = absurd (no_none calls place within_too none)
-    second call (Some other) found h = sym h
-
-    first : (found : Option Call) → slice_get calls at ≡ found → IfSome found (λ call. IfSome (slice_get calls place) (λ other. true ≡ same_calls call other)) → IsThereWith (λ call. IsThereWith (λ other. same_calls call other ≡ true) (slice_get calls place)) found
-    first None none h = absurd (no_none calls at within none)
-    first (Some call) found h = second call (slice_get calls place) refl h
-
--- the calls of a pair are equal
-pub pair_is_same : (calls : List Call) (at place : ℕ) → IsSamePair calls (at, place) → AreSameAt calls at place true
-pair_is_same calls at place h = first (slice_get calls at) h
-  where
-    second : (call : Call) (found : Option Call) → IsThereWith (λ other. same_calls call other ≡ true) found → IfSome found (λ other. true ≡ same_calls call other)
-    second call None h = tt
-    second call (Some other) h = sym h
-
-    first : (found : Option Call) → IsThereWith (λ call. IsThereWith (λ other. same_calls call other ≡ true) (slice_get calls place)) found → IfSome found (λ call. IfSome (slice_get calls place) (λ other. true ≡ same_calls call other))
-    first None h = tt
-    first (Some call) h = second call (slice_get calls place) h
 
 -- a field whose own call is known differs from another call where the two aren't equal
 other_compares : (e : Setting) (field : ℕ) (f : CollectedField) (call other : Call) (same : Bool) → IsCall e field f other → same ≡ same_calls call other → Compares (Ok (not same)) (refused_in e field f) (differs_from e field (args_data call.args) f)

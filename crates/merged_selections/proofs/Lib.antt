@@ -1,4 +1,5 @@
 pub mod AlikeArguments
+pub mod EqualCalls
 pub mod KeptCalls
 pub mod ComparedCalls
 pub mod BuiltNodes
@@ -6,6 +7,7 @@ pub mod BuiltParts
 pub mod BuiltPlans
 pub mod BuiltSteps
 pub mod FewerTypes
+pub mod HeldParts
 pub mod NodeFaults
 pub mod NodeSizes
 pub mod Opened

@@ -1,17 +1,14 @@
 -- What is looked up of a field, as definitions see it.
-use Rattle.std.specs.Prelude.{◌≡◌, ℕ, Bool, true, false, not, ◌&&◌, nat_eq, List, [], ◌∷◌, map, option_map, Option, None, Some, Vec}
+use Rattle.std.specs.Prelude.{◌≡◌, ℕ, Bool, true, false, ◌&&◌, nat_eq, List, [], ◌∷◌, map, option_map, Option, None, Some, Vec}
 use Rattle.std.specs.declared.alloc.Global.{Global}
 use Rattle.std.specs.List.{list_any}
 use Rattle.response_model.specs.Plan.{Form, single, listed}
-use Rattle.schema_rules.specs.declared.kind.Kind.{Kind}
-use Rattle.schema_rules.specs.Kinds.{is_object, is_output_only}
 use Rattle.input_values.specs.declared.inputs.shape.TypeId.{TypeId}
 use Rattle.schema_model.specs.Numbers.{type_number}
 use Rattle.schema_model.specs.SchemaData.{SchemaData, possible}
 use Rattle.schema_model.specs.declared.entries.FieldId.{FieldId}
 use Rattle.document_rules.specs.Sites.{Meaning as MeaningData, name_of_type, known_field, no_such_field, is_composite, type_of_field}
-use Rattle.plan_model.specs.SelectedFields.{HandedSize, form_of, is_asked}
-use Rattle.plan_model.specs.Collecting.{CollectedField}
+use Rattle.plan_model.specs.SelectedFields.{HandedSize, form_of}
 use Rattle.collected_fields.specs.Reached.{IsObjectType}
 use Rattle.merged_selections.specs.declared.lookups.Meaning.{Meaning}
 use Rattle.merged_selections.specs.declared.lookups.Meaning.TheVariants.{NameOfType, Known, NoSuchField}
@@ -49,13 +46,6 @@ is_none (T ∷ Ts) = false
 
 abbrev pub lacks_types_below : SchemaData → ℕ → Bool
 lacks_types_below s field = is_composite s (type_of_field s field) && is_none (possible s (type_of_field s field))
-
-abbrev pub is_abstract_kind : Kind → Bool
-is_abstract_kind kind = is_output_only kind && not (is_object kind)
-
--- whether a field asks for the names of the types below it
-abbrev pub asks_in : SchemaData → CollectedField → Bool
-asks_in s f = is_asked s f.parent f.call
 
 -- the types of the objects that may stand at a field, or at `__typename`
 abbrev pub types_at : SchemaData → Option FieldId → List ℕ

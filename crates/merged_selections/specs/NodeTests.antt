@@ -1,9 +1,10 @@
 -- The tests of a node, one after another, and what is found of it where it passes them.
-use Rattle.std.specs.Prelude.{◌≡◌, ℕ, Bool, true, false, not, List, ◌∷◌, map, option_map, ◌++◌, All, IfSome, slice_get, Option, None, Some, Result, Ok, Err}
+use Rattle.std.specs.Prelude.{◌≡◌, ◌≤◌, ℕ, Bool, true, false, not, List, ◌∷◌, map, length, get_or, option_map, ◌++◌, All, IfSome, slice_get, Option, None, Some, Result, Ok, Err}
 use Rattle.std.specs.List.{list_any}
 use Rattle.std.specs.Str.{bytes_eq}
 use Rattle.cost_num.specs.Capped.{capped}
 use Rattle.schema_rules.specs.First.{or_else, fault_where, first_of}
+use Rattle.input_values.specs.values.Coerced.{CoercedTree}
 use Rattle.schema_model.specs.Arguments.{ArgData, args_data}
 use Rattle.cost_directives.specs.Weights.{argument_cost_in}
 use Rattle.cost_directives.specs.declared.sizes.Size.{Size}
@@ -17,7 +18,7 @@ use Rattle.schema_model.specs.declared.entries.FieldId.{FieldId}
 use Rattle.document_rules.specs.Sites.{known_field}
 use Rattle.plan_model.specs.SelectedFields.{Setting, FieldCall, HandedSize, form_of, handed_in, coerced_arguments, refusal_of, if_coerced, size_answer, size_in, length_in, fault_in, sized_by, meaning_at, size_at, hands_at, cost_at}
 use Rattle.plan_model.specs.Collecting.{CollectedField}
-use Rattle.plan_model.specs.SameArguments.{same_arguments}
+use Rattle.plan_model.specs.SameArguments.{value_of, same_arguments}
 use Rattle.plan_model.specs.Merging.{first_call}
 use Rattle.plan_model.specs.Visits.{NodeFault, too_deep, conflict, refused_argument, refused_size, no_possible_type, fault_of}
 use Rattle.collected_fields.specs.declared.planning.Planning.{Planning}
@@ -131,16 +132,25 @@ IsThereWith Holds (Some call) = Holds call
 abbrev pub same_calls : Call → Call → Bool
 same_calls call other = same_arguments (args_data call.args) (args_data other.args)
 
-abbrev pub IsSamePair : List Call → ℕ × ℕ → Type 0
-IsSamePair calls pair = IsThereWith (λ call. IsThereWith (λ other. same_calls call other ≡ true) (slice_get calls pair.1)) (slice_get calls pair.0)
+-- the values of a call's arguments, and those of the call at a place
+abbrev pub values_in : Call → List (Option CoercedTree)
+values_in call = map value_of (args_data call.args)
+
+abbrev pub values_at : List Call → ℕ → Option (List (Option CoercedTree))
+values_at calls at = option_map values_in (slice_get calls at)
+
+-- For each call one is noted whose arguments are equal, or itself.
+pub record AreEqual (calls : List Call) (equal : List ℕ) : Type 0 where
+  pub short : length equal ≤ length calls
+  pub values : (at : ℕ) → values_at calls (get_or equal at at) ≡ values_at calls at
 
 -- The call at a place is equal to this one.
 abbrev pub IsSameAsAt : List Call → ℕ → Call → Type 0
 IsSameAsAt calls at other = IsThereWith (λ call. same_calls call other ≡ true) (slice_get calls at)
 
--- So are they all, and the pairs that are noted are of equal calls.
+-- So are they all, and those that are noted are equal.
 abbrev pub AreKept : Setting → Calls → Type 0
-AreKept e calls = All (IsKept e) calls.made.items × All (IsSamePair calls.made.items) calls.same.items
+AreKept e calls = All (IsKept e) calls.made.items × AreEqual calls.made.items calls.equal.items
 
 -- whether the calls at two places are equal
 abbrev pub AreSameAt : List Call → ℕ → ℕ → Bool → Type 0

@@ -1,10 +1,9 @@
 //! The calls that were made, found by how they are written.
 
-ghost use Rattle.std.specs.Prelude.{◌≡◌, ◌<◌, ◌++◌, ◌∷◌, [], IsTrue, IfOk, IfSome, OnOk, OnErr, length};
-ghost use Rattle.std.specs.List.{IsAmong};
+ghost use Rattle.std.specs.Prelude.{◌≡◌, ◌<◌, ◌++◌, ◌∷◌, [], IsTrue, IfOk, IfSome, OnOk, get_or, length};
 ghost use Rattle.collected_fields.specs.Views.{setting_of_planning, collected_field};
 ghost use Rattle.plan_model.specs.SelectedFields.{Setting};
-ghost use Rattle.merged_selections.specs.NodeTests.{IsKept, AreKept, IsAlikeAt, FindsCall, Grows, ComparesAt, IsSamePair, IsSameAsAt, AreSameAt};
+ghost use Rattle.merged_selections.specs.NodeTests.{IsKept, AreKept, IsAlikeAt, FindsCall, Grows, ComparesAt, IsSameAsAt, AreSameAt, values_at};
 
 use crate::call::{Call, is_alike, new_call};
 use crate::hashes::hash_of;
@@ -16,24 +15,29 @@ use std::alloc::{AllocError, Global};
 use std::collections::HashMap;
 use variable_coercion::ArgFault;
 
-/// How many bytes the kept calls hold, about, when they are forgotten.
+/// How many bytes the kept calls hold, about, when some are forgotten.
 const ROOM: usize = 64_000_000;
 
-/// How many pairs of equal calls are noted at most.
-const PAIRS: usize = 32;
+/// How often the last call goes for a new one before all are forgotten.
+const TURNS: usize = 256;
+
+/// So many calls are looked at, each equal to the next one, for the one that stands for all of them.
+const HOPS: usize = 64;
 
 /// Calls, each found by its field and by how its arguments are written.
 #[derive(Drop)]
 pub struct Calls<'a> {
     pub made: Vec<Call<'a>>,
-    /// The places of some calls whose arguments are equal, two by two.
-    pub same: Vec<(usize, usize)>,
+    /// For some calls, the place of another one whose arguments are equal. The one to which equal calls lead stands for all of them.
+    pub equal: Vec<usize>,
     /// For each hash, the place of the last call that has it.
     places: HashMap<u64, usize>,
     /// The place of the call that was found last.
     last: usize,
     /// How many bytes the calls hold, about.
     held: usize,
+    /// How often the last call went for a new one since all were forgotten.
+    turns: usize,
 }
 
 /// Whether the arguments of the calls at two places are equal.
@@ -47,6 +51,14 @@ fn same_at(calls: &[Call<'_>], at: usize, place: usize) -> bool
     same_arguments(&call.args, &other.args)
 }
 
+/// How many bytes a call holds, about, if there is one.
+fn bytes_with(call: Option<&Call<'_>>) -> usize {
+    match call {
+        Some(call) => bytes_of(&call.args),
+        None => 0,
+    }
+}
+
 impl<'a> Calls<'a> {
     /// None.
     pub fn new(alloc: Global) -> Calls<'a>
@@ -54,10 +66,11 @@ impl<'a> Calls<'a> {
     {
         Calls {
             made: Vec::new(alloc),
-            same: Vec::new(alloc),
+            equal: Vec::new(alloc),
             places: HashMap::new(alloc),
             last: 0,
             held: 0,
+            turns: 0,
         }
     }
 
@@ -66,7 +79,7 @@ impl<'a> Calls<'a> {
         ensures { IsTrue result → IsAlikeAt self.now.made.items at of.number (collected_field field.now) }
     {
         match self.made.get(at) {
-            Some(call) => is_alike(call, of, field),
+            Some(call) => call.field.written == field.written && is_alike(call, of, field),
             None => false,
         }
     }
@@ -89,9 +102,10 @@ impl<'a> Calls<'a> {
         ensures kept { (e : Setting) → AreKept e self.new }
     {
         self.made.clear();
-        self.same.clear();
+        self.equal.clear();
         self.places.clear();
         self.held = 0;
+        self.turns = 0;
     }
 
     /// Puts a call behind the others, under this hash.
@@ -109,13 +123,29 @@ impl<'a> Calls<'a> {
         Ok(())
     }
 
-    /// Forgets all of them where there is no room left.
+    /// Forgets the last of them, and which are equal.
+    fn forget_last(&mut self)
+        ensures { (e : Setting) → AreKept e self.old → AreKept e self.new }
+    {
+        self.equal.clear();
+        let last = self.made.pop();
+        self.held = self.held.saturating_sub(bytes_with(last.as_ref()));
+    }
+
+    /// Makes room where none is left. Mostly the last of them goes, so that of many that are made by turns most stay; at times
+    /// all go, so that those which aren't made any more don't stay.
     fn make_room(&mut self)
         ensures { (e : Setting) → AreKept e self.old → AreKept e self.new }
     {
-        if self.held > ROOM {
-            self.forget();
+        if self.held <= ROOM {
+            return;
         }
+        if self.turns >= TURNS {
+            self.forget();
+            return;
+        }
+        self.turns += 1;
+        self.forget_last();
     }
 
     /// The place of a field's call that is made anew. Where there is no room left, the others are forgotten.
@@ -158,7 +188,7 @@ impl<'a> Calls<'a> {
         if self.is_alike_at(self.last, of, field) {
             return Ok(self.last);
         }
-        let hash = hash_of(of, field.field.arguments.as_slice());
+        let hash = hash_of(of, field);
         match self.known(hash, of, field) {
             Some(at) => {
                 self.last = at;
@@ -168,31 +198,50 @@ impl<'a> Calls<'a> {
         }
     }
 
-    /// Whether the arguments of the calls at two places are known to be equal.
-    fn knows_same(&self, at: usize, place: usize) -> bool
-        ensures { IsTrue result → IsAmong self.now.same.items (at, place) }
+    /// The place that is noted for a call, or its own.
+    fn equal_to(&self, at: usize) -> usize
+        ensures { result ≡ get_or self.now.equal.items at at }
     {
-        for pair in self.same.as_slice() {
-            if pair.0 == at && pair.1 == place {
-                return true;
-            }
+        match self.equal.get(at) {
+            Some(place) => *place,
+            None => at,
         }
-        false
     }
 
-    /// Notes that the arguments of the calls at two places are equal.
-    fn note_same(&mut self, at: usize, place: usize) -> Result<(), AllocError>
-        ensures made { self.new.made.items ≡ self.old.made.items }
-        ensures kept { (e : Setting) → AreKept e self.old → IsSamePair self.old.made.items (at, place) → AreKept e self.new }
+    /// The place of the call that stands for all that are equal to one, as far as that is known.
+    fn root(&self, at: usize) -> usize
+        ensures { (e : Setting) → AreKept e self.now → values_at self.now.made.items result ≡ values_at self.now.made.items at }
     {
-        if self.same.len() >= PAIRS {
-            self.same.clear();
+        let mut root = at;
+        let mut hops = 0;
+        while hops < HOPS {
+            let next = self.equal_to(root);
+            if next == root {
+                return root;
+            }
+            root = next;
+            hops += 1;
         }
-        self.same.push((at, place))?;
+        root
+    }
+
+    /// Notes one call for another whose arguments are equal.
+    fn point(&mut self, place: usize, to: usize) -> Result<(), AllocError>
+        ensures made { self.new.made.items ≡ self.old.made.items }
+        ensures kept { (e : Setting) → AreKept e self.old → values_at self.old.made.items to ≡ values_at self.old.made.items place → AreKept e self.new }
+    {
+        if place >= self.made.len() {
+            return Ok(());
+        }
+        while self.equal.len() <= place {
+            let at = self.equal.len();
+            self.equal.push(at)?;
+        }
+        self.equal[place] = to;
         Ok(())
     }
 
-    /// Whether the arguments of the calls at two places are equal. Great ones are compared once.
+    /// Whether the arguments of the calls at two places are equal. What is equal to one and the same isn't compared again.
     fn are_same(&mut self, at: usize, place: usize) -> Result<bool, AllocError>
         requires there { at < length self.old.made.items }
         requires there_too { place < length self.old.made.items }
@@ -200,12 +249,16 @@ impl<'a> Calls<'a> {
         ensures kept { (e : Setting) → AreKept e self.old → AreKept e self.new }
         ensures same { (e : Setting) → AreKept e self.old → IfOk result (λ same. AreSameAt self.old.made.items at place same) }
     {
-        if self.knows_same(at, place) {
+        let one = self.root(at);
+        let other = self.root(place);
+        if one == other {
+            self.point(place, one)?;
             return Ok(true);
         }
         let same = same_at(self.made.as_slice(), at, place);
         if same {
-            self.note_same(at, place)?;
+            self.point(other, one)?;
+            self.point(place, one)?;
         }
         Ok(same)
     }
@@ -220,7 +273,7 @@ impl<'a> Calls<'a> {
         }
         let place = self.made.len();
         self.put(hash, call)?;
-        self.note_same(at, place)?;
+        self.point(place, at)?;
         Ok(())
     }
 
@@ -269,7 +322,7 @@ impl<'a> Calls<'a> {
         if self.is_alike_at(at, of, other) {
             return Ok(false);
         }
-        let hash = hash_of(of, other.field.arguments.as_slice());
+        let hash = hash_of(of, other);
         match self.known(hash, of, other) {
             Some(place) => Ok(!self.are_same(at, place)?),
             None => self.differs_anew(alloc, planning, of, at, other, hash),

@@ -16,6 +16,7 @@ fn value_bytes(value: &Coerced) -> usize {
         Coerced::EnumName(name) => NODE.saturating_add(name.as_str().len()),
         Coerced::List(items) => NODE.saturating_add(items_bytes(items.as_slice())),
         Coerced::Object(fields) => NODE.saturating_add(fields_bytes(fields.as_slice())),
+        Coerced::Shared(_) => NODE,
     }
 }
 

@@ -14,7 +14,7 @@ pub struct Keys<'a> {
 
 impl<'a> Keys<'a> {
     /// None.
-    pub fn new(alloc: Global) -> Keys<'a> {
+    pub(crate) fn new(alloc: Global) -> Keys<'a> {
         Keys {
             long: BTreeMap::new(alloc),
         }

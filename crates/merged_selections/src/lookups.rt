@@ -1,21 +1,20 @@
 //! What is looked up of a field in the schema and its weights.
 
-ghost use Rattle.std.specs.Prelude.{◌≡◌, ◌∷◌, Some, map, option_map};
+ghost use Rattle.std.specs.Prelude.{◌≡◌, ◌∷◌, Some, map};
 ghost use Rattle.std.specs.List.{list_any};
 ghost use Rattle.std.specs.Str.{bytes_eq};
 ghost use Rattle.schema_model.specs.Numbers.{type_number};
 ghost use Rattle.schema_model.specs.SchemaViews.{schema_data};
 ghost use Rattle.document_rules.specs.Sites.{known_field, meaning_on};
-ghost use Rattle.plan_model.specs.SelectedFields.{form_of, handed_in, handed_to, is_asked};
-ghost use Rattle.collected_fields.specs.Views.{collected_field};
-ghost use Rattle.merged_selections.specs.NodeParts.{meaning_seen, has_lists, handed_data, types_below, lacks_types_below, is_abstract_kind, asks_in};
+ghost use Rattle.plan_model.specs.SelectedFields.{form_of, handed_in, handed_to};
+ghost use Rattle.collected_fields.specs.Views.{collected_field, asks_in};
+ghost use Rattle.merged_selections.specs.NodeParts.{meaning_seen, has_lists, handed_data, types_below, lacks_types_below};
 
-use collected_fields::Collected;
+use collected_fields::{Collected, asks};
 use document_rules::lookups::{is_composite, type_of_field};
 use gql_base::Text;
 use input_values::{ShapeLevel, TypeId, shape_level};
 use schema_model::{FieldId, Schema};
-use schema_rules::Kind;
 
 /// What a field's name means for objects of a type.
 #[derive(Clone, Copy)]
@@ -134,27 +133,6 @@ pub fn handed_in(
         ShapeLevel::Named { .. } => None,
         ShapeLevel::ListOf { .. } => handed_to(handed, name),
     }
-}
-
-#[tactic(auto, unfolding(plan_model::specs::SelectedFields::is_asked, plan_model::specs::SelectedFields::written_below))]
-/// Whether the type of a field, as the type on which it is written has it, is an interface or a union.
-fn asks(schema: &Schema, field: &Collected<'_>) -> bool
-    ensures { result ≡ is_asked (schema_data schema.now) (collected_field field.now).parent (collected_field field.now).call }
-{
-    match field.parent {
-        None => false,
-        Some(parent) => match meaning_on(schema, parent, name_of(field)) {
-            Meaning::NameOfType => false,
-            Meaning::NoSuchField => false,
-            Meaning::Known(field) => is_abstract(schema.kind(type_of_field(schema, field))),
-        },
-    }
-}
-
-fn is_abstract(kind: Kind) -> bool
-    ensures { result ≡ is_abstract_kind kind }
-{
-    kind.is_output_only() && !kind.is_object()
 }
 
 fn one_asks(schema: &Schema, fields: &[Collected<'_>]) -> bool

@@ -1,10 +1,10 @@
 //! When the arguments of two fields are equal, by their coerced values (GraphQL October 2021, 5.3.2).
 
-ghost use Rattle.std.specs.Prelude.{◌≡◌, Some, map};
+ghost use Rattle.std.specs.Prelude.{◌≡◌, Some, map, option_map};
 ghost use Rattle.input_values.specs.values.Coerced.{coerced_tree, named_tree, trees_from, named_trees_from, coerced_null, coerced_integer, coerced_string, coerced_boolean, coerced_enum, coerced_list, coerced_object};
 ghost use Rattle.schema_model.specs.Arguments.{arg_data, args_data};
 ghost use Rattle.plan_model.specs.SameArguments.{same_value, same_items, same_fields, same_argument, same_arguments};
-ghost use Rattle.merged_selections.specs.Alike.{same_named};
+ghost use Rattle.merged_selections.specs.Alike.{same_named, items_in, fields_in};
 
 use gql_base::Text;
 use input_values::{Coerced, CoercedField};
@@ -22,6 +22,7 @@ fn is_null(value: &Coerced) -> bool
         Coerced::EnumName(_) => false,
         Coerced::List(_) => false,
         Coerced::Object(_) => false,
+        Coerced::Shared(held) => is_null(held),
     }
 }
 
@@ -37,6 +38,7 @@ fn is_integer(number: i128, value: &Coerced) -> bool
         Coerced::EnumName(_) => false,
         Coerced::List(_) => false,
         Coerced::Object(_) => false,
+        Coerced::Shared(held) => is_integer(number, held),
     }
 }
 
@@ -52,6 +54,7 @@ fn is_string(text: &Text, value: &Coerced) -> bool
         Coerced::EnumName(_) => false,
         Coerced::List(_) => false,
         Coerced::Object(_) => false,
+        Coerced::Shared(held) => is_string(text, held),
     }
 }
 
@@ -67,6 +70,7 @@ fn is_truth(truth: bool, value: &Coerced) -> bool
         Coerced::EnumName(_) => false,
         Coerced::List(_) => false,
         Coerced::Object(_) => false,
+        Coerced::Shared(held) => is_truth(truth, held),
     }
 }
 
@@ -82,6 +86,41 @@ fn is_enum(name: &Text, value: &Coerced) -> bool
         Coerced::Bool(_) => false,
         Coerced::List(_) => false,
         Coerced::Object(_) => false,
+        Coerced::Shared(held) => is_enum(name, held),
+    }
+}
+
+/// The items of a list.
+#[tactic(auto, using(crate::proofs::Opened::coerced_parts))]
+fn items_held(value: &Coerced) -> Option<&[Coerced]>
+    ensures { option_map (λ items. trees_from (map coerced_tree items.now)) result ≡ items_in (coerced_tree value.now) }
+{
+    match value {
+        Coerced::List(items) => Some(items.as_slice()),
+        Coerced::Shared(held) => items_held(held),
+        Coerced::Null => None,
+        Coerced::Int(_) => None,
+        Coerced::Str(_) => None,
+        Coerced::Bool(_) => None,
+        Coerced::EnumName(_) => None,
+        Coerced::Object(_) => None,
+    }
+}
+
+/// The fields of an object.
+#[tactic(auto, using(crate::proofs::Opened::coerced_parts))]
+fn fields_held(value: &Coerced) -> Option<&[CoercedField]>
+    ensures { option_map (λ fields. named_trees_from (map named_tree fields.now)) result ≡ fields_in (coerced_tree value.now) }
+{
+    match value {
+        Coerced::Object(fields) => Some(fields.as_slice()),
+        Coerced::Shared(held) => fields_held(held),
+        Coerced::Null => None,
+        Coerced::Int(_) => None,
+        Coerced::Str(_) => None,
+        Coerced::Bool(_) => None,
+        Coerced::EnumName(_) => None,
+        Coerced::List(_) => None,
     }
 }
 
@@ -99,38 +138,27 @@ fn same_value(value: &Coerced, other: &Coerced) -> bool
         Coerced::EnumName(name) => is_enum(name, other),
         Coerced::List(items) => same_list(items.as_slice(), other),
         Coerced::Object(fields) => same_object(fields.as_slice(), other),
+        Coerced::Shared(held) => same_value(held, other),
     }
 }
 
 #[cycle(same)]
-#[tactic(auto, unfolding(plan_model::specs::SameArguments::same_value), using(crate::proofs::Opened::coerced_parts))]
 fn same_list(items: &[Coerced], value: &Coerced) -> bool
     ensures { result ≡ same_value (coerced_list (trees_from (map coerced_tree items.now))) (coerced_tree value.now) }
 {
-    match value {
-        Coerced::List(others) => same_items(items, others.as_slice()),
-        Coerced::Null => false,
-        Coerced::Int(_) => false,
-        Coerced::Str(_) => false,
-        Coerced::Bool(_) => false,
-        Coerced::EnumName(_) => false,
-        Coerced::Object(_) => false,
+    match items_held(value) {
+        Some(others) => same_items(items, others),
+        None => false,
     }
 }
 
 #[cycle(same)]
-#[tactic(auto, unfolding(plan_model::specs::SameArguments::same_value), using(crate::proofs::Opened::coerced_parts))]
 fn same_object(fields: &[CoercedField], value: &Coerced) -> bool
     ensures { result ≡ same_value (coerced_object (named_trees_from (map named_tree fields.now))) (coerced_tree value.now) }
 {
-    match value {
-        Coerced::Object(others) => same_fields(fields, others.as_slice()),
-        Coerced::Null => false,
-        Coerced::Int(_) => false,
-        Coerced::Str(_) => false,
-        Coerced::Bool(_) => false,
-        Coerced::EnumName(_) => false,
-        Coerced::List(_) => false,
+    match fields_held(value) {
+        Some(others) => same_fields(fields, others),
+        None => false,
     }
 }
 

@@ -1,7 +1,31 @@
-use Rattle.std.proofs.Common.{◌∙◌}
+use Rattle.std.proofs.Common.{◌∙◌, sym, ap, map, option_map}
+use Rattle.input_values.specs.values.Coerced.{coerced_tree, named_tree, trees_from, named_trees_from}
+use Rattle.merged_selections.proofs.HeldParts.{list_same, no_list, object_same, no_object}
 use Rattle.merged_selections.proofs.SideBySide.{one_differs, one_is_same, at_end, items_compared, item_compared, items_compare, fields_compared, field_compared, fields_compare, less, not_less}
 use Rattle.merged_selections.proofs.same_values.+same.Goals as goal
 use Rattle.merged_selections.proofs.same_values.+same.Goals.{same_items-then-items-test+else-at-others, same_items-else-items-test, same_fields-then-fields-test+else-at-others, same_fields-else-fields-test}
+
+pub same_list-returns-in-Some : goal.same_list-returns-in-Some
+same_list-returns-in-Some t c =
+    c.same_items.ensures
+    ∙ list_same (trees_from (map coerced_tree c.args.items.now)) (trees_from (map coerced_tree c.in-Some.others.now)) (coerced_tree c.args.value.now)
+    (sym (ap (λ o. option_map (λ items. trees_from (map coerced_tree items.now)) o) c.in-Some.is) ∙ c.items_held.ensures)
+
+pub same_list-returns-in-None : goal.same_list-returns-in-None
+same_list-returns-in-None t c =
+    no_list (trees_from (map coerced_tree c.args.items.now)) (coerced_tree c.args.value.now)
+    (sym (ap (λ o. option_map (λ items. trees_from (map coerced_tree items.now)) o) c.in-None.is) ∙ c.items_held.ensures)
+
+pub same_object-returns-in-Some : goal.same_object-returns-in-Some
+same_object-returns-in-Some t c =
+    c.same_fields.ensures
+    ∙ object_same (named_trees_from (map named_tree c.args.fields.now)) (named_trees_from (map named_tree c.in-Some.others.now)) (coerced_tree c.args.value.now)
+    (sym (ap (λ o. option_map (λ fields. named_trees_from (map named_tree fields.now)) o) c.in-Some.is) ∙ c.fields_held.ensures)
+
+pub same_object-returns-in-None : goal.same_object-returns-in-None
+same_object-returns-in-None t c =
+    no_object (named_trees_from (map named_tree c.args.fields.now)) (coerced_tree c.args.value.now)
+    (sym (ap (λ o. option_map (λ fields. named_trees_from (map named_tree fields.now)) o) c.in-None.is) ∙ c.fields_held.ensures)
 
 pub same_items-returns-then-not-same_value : goal.same_items-returns-then-not-same_value
 same_items-returns-then-not-same_value t c =

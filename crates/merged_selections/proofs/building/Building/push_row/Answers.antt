@@ -1,9 +1,8 @@
 use Rattle.std.proofs.Common.{refl, ap, ◌∙◌, map, ◌∷◌}
 use Rattle.std.specs.List.{list_any}
 use Rattle.schema_model.specs.SchemaViews.{schema_data}
-use Rattle.collected_fields.specs.Views.{collected_field}
+use Rattle.collected_fields.specs.Views.{collected_field, asks_in}
 use Rattle.plan_table.specs.Tables.{setting_in}
-use Rattle.merged_selections.specs.NodeParts.{asks_in}
 use Rattle.merged_selections.proofs.BuiltNodes.{row_alike, row_pushed}
 use Rattle.merged_selections.proofs.building.Building.push_row.Goals as goal
 
