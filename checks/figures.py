@@ -268,9 +268,9 @@ def serving(program, folder, quick):
 def hostile(program, folder, quick):
     """By family and length: processor seconds, megabytes, and whether the run was stopped; behind a stopped one the next family."""
     hostile_documents.BOUND, found, own = 10, {}, tempfile.mkdtemp(dir=folder)
-    for name, (schema, build, *variables) in list(hostile_documents.FAMILIES.items())[:: 8 if quick else 1]:
+    for name in list(hostile_documents.FAMILIES)[:: 8 if quick else 1]:
         for length in (16384, 32768, 65536, 131072, 262144)[: 2 if quick else 5]:
-            seconds, megabytes, by_itself = hostile_documents.priced(program, own, schema, build(length), *(variables or ["{}"]))
+            seconds, megabytes, by_itself = hostile_documents.measured(program, own, name, length)
             found.setdefault(name, []).append((length, seconds, megabytes, not by_itself))
             if not by_itself:
                 break

@@ -1,25 +1,31 @@
 #!/usr/bin/env python3
-"""Prices documents that are made to be slow, and says how the time and memory for it grow with their length.
+"""Prices documents that are made to be slow, and says how the time and memory for it grow with the length of the body.
 
     python3 checks/hostile_documents.py [--program PROGRAM] [--longest BYTES] [NAME..]
 
-Each family of documents is built at four lengths, the longest of them the longest body that the gateway takes, and priced by the built program
-(`crates/gateway_cli/out/gateway_cli`, or the one that is named) under a bound of time and memory. A line says the processor seconds and the megabytes
-at each length, and by what factor the seconds grow from the last length but one, which is half as long. The status is 1 where a document takes more
-than 2 seconds or 200 MB, as those with calls that differ or are great and with thousands of interfaces do today
-(docs/operating.md says from which length on).
+Each family is built at four lengths of a body (document and variables together), the longest of them the longest that the gateway takes, and priced by the
+built program (`crates/gateway_cli/out/gateway_cli`, or the one that is named) under a bound of time and memory. A line says the processor seconds and
+the megabytes at each length, and by what factor the seconds grow from the last length but one, which is half as long. The seconds are those of `price` less
+those of `{ __typename }` by the same schema, which a gateway reads once; the megabytes are all, and never fewer than this script has itself.
+
+A family may take 2 seconds and 200 MB at the longest length. Those that take more are told in a table of docs/operating.md, with the length up to which
+they take less than a second and 200 MB; the table is read, and each of them is held to that. The status is 0 exactly where all families are so.
 With names, only these families are tried.
 """
 import argparse
+import itertools
 import json
 import os
+import re
 import resource
 import subprocess
 import sys
 import tempfile
 
-SECONDS, MEGABYTES = 2.0, 200
+SECONDS, MEGABYTES, TOLD_SECONDS = 2.0, 200, 1.0
 BOUND = 20
+ALONE = {}
+PAGE = os.path.join(os.path.dirname(os.path.dirname(os.path.abspath(__file__))), "docs", "operating.md")
 ONE = "type Query { n: N } type N { a: Int b(x: Int): Int n: N }"
 TWO = "type Query { n: I } interface I { a: Int } type N implements I { a: Int } type M implements I { a: Int }"
 
@@ -106,7 +112,7 @@ def two_ways(length):
 
 def by_turns(text, other):
     """Keys that make one call and another by turns."""
-    return lambda n: "query($a:[Int],$b:[Int]){%s}" % filled(n // 3 * 2, lambda i: "k%d:%s" % (i, other if i % 2 else text))
+    return lambda n: "query($a:[Int],$b:[Int]){%s}" % filled(n - 30, lambda i: "k%d:%s" % (i, other if i % 2 else text))
 
 
 def defaults(count):
@@ -133,9 +139,17 @@ def in_two_orders(i):
     return "k%d:o(i:[{z:%d f0:2}%s])k%d:o(i:[{f0:2 z:%d}%s])" % (i, i, items, i, i, items)
 
 
-def great(a, b):
-    """Two variables of as many values as an argument may have."""
-    return json.dumps({"a": [a] * 19990, "b": [b] * 19990}, separators=(",", ":"))
+def great(*values):
+    """Variables a, b.. that are lists, each of one value again and again: as many as an argument may have, or as there is room for."""
+    def build(room):
+        count = min(19990, (room - 20) // (2 * len(values)))
+        return json.dumps({name: [value] * count for name, value in zip("ab", values)}, separators=(",", ":"))
+    return build
+
+
+def scalars(room):
+    """A variable v that is as long a list."""
+    return json.dumps({"v": [1] * min(19980, (room - 20) // 2)}, separators=(",", ":"))
 
 
 def permutation(i, items):
@@ -154,7 +168,8 @@ def many_kept(sets, fragments):
     """Keys that spread F: so many sets, each of which spreads the same fragments of eight fields, in an order of its own."""
     def build(length):
         inner = "".join("fragment G%d on N{a b c d e f g h}" % i for i in range(fragments))
-        f = "fragment F on N{%s}" % "".join("n{%s}" % "".join("...G%d" % ((i + j) % fragments) for i in range(fragments)) for j in range(sets))
+        some = min(sets, max(1, length // 2 // (6 * fragments)))
+        f = "fragment F on N{%s}" % "".join("n{%s}" % "".join("...G%d" % ((i + j) % fragments) for i in range(fragments)) for j in range(some))
         rest = inner + f
         count = min(20000 // 10, max(1, (length - len(rest) - 2) // 14))
         return "{%s}%s" % ("".join("k%d:n{...F}" % i for i in range(count)), rest)
@@ -172,6 +187,16 @@ def interfaces(count):
     """An object type of as many interfaces."""
     names = ["I%d" % i for i in range(count)]
     return "type Query { n: N } %s type N implements %s { a: Int }" % (" ".join("interface %s { a: Int }" % it for it in names), " & ".join(names))
+
+
+def interfaces_of_types(count):
+    """An object type of as many interfaces, whose field has a type of its own on each of them."""
+    numbers = range(count)
+    return "type Query { n: N } %s type X implements %s { b: Int } type N implements %s { a: X }" % (
+        " ".join("interface J%d { a: X%d } interface X%d { b: Int }" % (i, i, i) for i in numbers),
+        " & ".join("X%d" % i for i in numbers),
+        " & ".join("J%d" % i for i in numbers),
+    )
 
 
 def by_interfaces(length):
@@ -200,9 +225,73 @@ def calls_by_turns(count, texts):
     def build(length):
         fields = " ".join("%s" % " ".join(text % (i, i) for text in texts) for i in range(count))
         fragment = "fragment F on N{%s}" % fields
-        places = min(20000 // (count + 1), (length // 3 * 2 - len(fragment)) // 14)
-        return "query($a:[Int],$b:[Int]){%s}%s" % ("".join("k%d:n{...F}" % i for i in range(places)), fragment)
+        places = min(20000 // (count + 1), (length - 40 - len(fragment)) // 14)
+        return "query($a:[Int]){%s}%s" % ("".join("k%d:n{...F}" % i for i in range(places)), fragment)
     return build
+
+
+def paired(length, make, room=0):
+    """As many pairs of texts as fit, and how many there are."""
+    found, used = [], 0
+    while True:
+        one = make(len(found))
+        if used + sum(map(len, one)) + room > length:
+            return ["".join(it) for it in zip(*found)], len(found)
+        used += sum(map(len, one))
+        found.append(one)
+
+
+def chain_of_calls(length):
+    """Fragments that each make a call, equal to the others and written otherwise, and spread the next one."""
+    (heads, fragments), count = paired(length, lambda i: ("$a%d:Int=1," % i, "fragment F%d on I{b(x:$a%d)...F%d}" % (i, i, i + 1)), 100)
+    return "query(%s){k0:n{...F0}k1:n{...F0}k2:n{...F0}}%sfragment F%d on I{a}" % (heads, fragments, count)
+
+
+def types_elsewhere(length):
+    """Keys that spread a fragment with conditions on seventeen types that can't stand there."""
+    fragment = "fragment F on I{%s}" % "".join("...on X%d{a}" % i for i in range(17))
+    return "{%s}%s" % (filled(length - len(fragment) - 2, key("...F")), fragment)
+
+
+def many_types_elsewhere(count):
+    types = "".join(" type T%d implements I { a: Int n: I }" % i for i in range(count))
+    return "type Query { n: I } interface I { a: Int n: I }" + types + "".join(" type X%d { a: Int }" % i for i in range(17))
+
+
+def two_interfaces(count):
+    """Two interfaces of as many types, below one another."""
+    types = "".join(" type T%d implements I { a: Int m: J } type U%d implements J { a: Int n: I }" % (i, i) for i in range(count))
+    return "type Query { n: I } interface I { a: Int m: J } interface J { a: Int n: I }" + types
+
+
+def types_by_turns(length):
+    """Keys at one interface and at another by turns, beside a chain of fragments."""
+    chain = filled(length // 2, lambda i: "fragment F%d on I{...F%d}" % (i, i + 1), 40)
+    chain += "fragment F%d on I{a}" % chain.count("fragment")
+    return "{n{...F0}%s}%s" % (filled(length - len(chain) - 12, key("...on T0{m{...on U0{a}}}")), chain)
+
+
+def pairs_of_calls(length):
+    """Keys that each make a call of their own and as many others, all equal and written otherwise."""
+    (others, calls), _ = paired(length // 2, lambda i: ("$w%d:I={}," % i, "c:o(i:$w%d)" % i))
+    (own, keys), _ = paired(length // 2 - 40, lambda i: ("$v%d:I={}," % i, "k%d:n{c:o(i:$v%d)...F}" % (i, i)))
+    return "query(%s%s){%s}fragment F on N{%s}" % (others, own, keys, calls)
+
+
+def own_variables(text):
+    """Keys that each make a call with a variable of its own, whose default fills an input object."""
+    def build(length):
+        count = (length - 20) // 32
+        head = "query(%s)" % ",".join("$v%d:I={}" % i for i in range(count))
+        return head + "{%s}" % "".join("k%d:o(i:%s)" % (i, text % i) for i in range(count))
+    return build
+
+
+def colliding(length):
+    """Two calls by turns, whose last integer took all that was written before it out of std's hash with a fixed seed."""
+    number = (0x9E3779B97F4A7C15 << 64) - (1 << 128)
+    fragment = "fragment F on N{c:b(x:[$v 0 %d])d:b(x:[$v 1 %d])}" % (number, number)
+    return "query($v:S){%s}%s" % (filled(length - len(fragment) - 20, key("...F")), fragment)
 
 
 def long_key(length):
@@ -219,56 +308,275 @@ def doubled(levels, piece, last, on="N", field="n"):
     return build
 
 
-def kinds(count):
-    """An interface of as many types, with a field that takes an argument."""
-    return "type Query { n: I } interface I { b(x: Int): Int } " + " ".join("type T%d implements I { b(x: Int): Int }" % i for i in range(count))
+def of_no_type(count):
+    """A fragment that spreads fragments on types. What these have stands under conditions on two types, behind three fragments of conditions in one another."""
+    nested = lambda inside: "...on I{" * 45 + inside + "}" * 45
+    names = ["X%d" % i for i in range(count)]
+    chain = [("Y", "...Z"), ("Z", "...W"), ("W", "...on T1{...on T2{a}}")]
+    return "fragment V on I{%s}%s%s" % (
+        "".join("..." + it for it in names),
+        "".join("fragment %s on T%d{...Y}" % (it, 100 + i) for i, it in enumerate(names)),
+        "".join("fragment %s on I{%s}" % (name, nested(inside)) for name, inside in chain),
+    )
 
 
-def chain_of_calls(length):
-    """Fragments that each make a call with a variable of its own, all of one value, and spread the next one."""
-    count = (length - 120) // 56
-    head = "query(%s)" % ",".join("$v%d:Int=1" % i for i in range(count))
-    fragments = "".join("fragment F%d on I{b(x:$v%d)...F%d}" % (i, i, i + 1) for i in range(count))
-    return head + "{k0:n{...F0}k1:n{...F0}k2:n{...F0}}" + fragments + "fragment F%d on I{b(x:1)}" % count
+def behind_fragments(length):
+    """Doubled places of a type, each with fragments on seventeen others that have no field."""
+    return doubled(12, "...on T0{a:n{...F%d}b:n{...F%d}}...V", "...on T0{a}...V", "I")(length) + of_no_type(17)
 
 
-def own_variables(text):
-    """Keys that each make a call with a variable of its own, whose default fills an input object."""
-    def build(length):
-        count = (length - 20) // 32
-        head = "query(%s)" % ",".join("$v%d:I={}" % i for i in range(count))
-        return head + "{%s}" % "".join("k%d:o(i:%s)" % (i, text % i) for i in range(count))
-    return build
+def joined(count):
+    """A field of an interface of as many types, below an object type."""
+    types = "".join(" type J%d implements J { a: Int }" % i for i in range(count))
+    return "type Query { n: N } type N { g: J n: N } interface J { a: Int }" + types
 
 
-def types_elsewhere(length):
-    """Keys that spread a fragment with conditions on seventeen types that aren't possible there."""
-    fragment = "fragment F on I{%s}" % "".join("...on X%d{a}" % i for i in range(17))
-    return "{%s}%s" % (filled(length - len(fragment) - 2, key("...F")), fragment)
-
-
-def pairs(length):
-    """Keys that each make an equal call of their own beside a fragment of as many."""
-    count = (length - 40) // 68
-    head = "query(%s)" % ",".join("$v%d:I={},$w%d:I={}" % (i, i) for i in range(count))
-    keys = "".join("k%d:n{c:o(i:[$v%d])...F}" % (i, i) for i in range(count))
-    return head + "{%s}fragment F on N{%s}" % (keys, "".join("c:o(i:[$w%d])" % i for i in range(count)))
-
-
-# The upper half of this integer is the factor of the kit's FoldHasher: whoever writes it last makes the hash of what is written 0.
-LAST = (0x9E3779B97F4A7C15 << 64) - (1 << 128)
-
-
-def one_hash(length):
-    """Keys that make two great calls by turns, whose hashes are one."""
-    fragment = "fragment F on N{c:b(x:[$v 0 %d])d:b(x:[$v 1 %d])}" % (LAST, LAST)
-    return "query($v:S){%s}%s" % (filled(length - len(fragment) - 20, key("...F")), fragment)
+def joined_sets(length):
+    """Keys that spread a fragment of thousands of sets at an interface, none of which has a field."""
+    fragment = "fragment F on N{%s}" % filled(length // 2, lambda i: "g{...on J0{...on J1{x%d:a}}}" % i)
+    places = min(9000, (length - len(fragment)) // 14)
+    return "{%s}%s" % ("".join("k%d:n{...F}" % i for i in range(places)), fragment)
 
 
 def doubled_types(count):
     return "type Query { n: I } interface I { a: Int n: I } " + " ".join("type T%d implements I { a: Int n: I }" % i for i in range(count))
 
 
+def spreads_behind_chain(length):
+    """A chain of fragments, at whose end one is spread by thousands."""
+    chain = filled(length // 2, lambda i: "fragment F%d on N{...F%d}" % (i, i + 1))
+    last = "fragment F%d on N{" % chain.count("fragment")
+    return "{n{...F0}}%s%s%s a}fragment G on N{a}" % (chain, last, filled(length - len(chain) - 60, lambda i: "...G"))
+
+
+def great_enum(count):
+    return "type Query { e(x: [E]): Int } enum E { %s }" % " ".join("V%030d" % i for i in range(count))
+
+
+def enum_lists(count):
+    """Calls with lists of the last values of an enum of so many."""
+    return lambda n: "{%s}" % filled(n - 2, lambda i: "k%d:e(x:[%s])" % (i, " ".join("V%030d" % (count - 1 - j) for j in range(100))))
+
+
+def long_types(size):
+    """An object type and an input type with names of so many bytes."""
+    name = "T" * size
+    return "type Query { n: %s } type %s { n: %s a: Int o(i: I%s): Int } input I%s { z: Int i: I%s }" % ((name,) * 6)
+
+
+def sliced(count):
+    """Lists with so many slicing arguments."""
+    numbers = range(count)
+    return 'type Query { o(%s): [N] @listSize(slicingArguments: [%s], requireOneSlicingArgument: false) } type N { a: Int }' % (
+        " ".join("a%d: Int" % i for i in numbers), " ".join('"a%d"' % i for i in numbers))
+
+
+def two_apart(one, other):
+    """An interface of types, so many of which are of a second and the others of a third one."""
+    types = ["type T%d implements I & %s { a: Int n: I }" % (i, "J" if i < one else "K") for i in range(one + other)]
+    return "type Query { n: I } interface I { a: Int n: I } interface J { a: Int } interface K { a: Int } " + " ".join(types)
+
+
+def apart(length):
+    """Keys that spread a fragment with conditions on two interfaces in one another."""
+    fragment = "fragment F on I{...on J{...on K{a}}}"
+    return "{%s}%s" % (filled(length - len(fragment) - 2, key("...F")), fragment)
+
+
+def fieldless_chain(length):
+    """A chain of fragments, none of which has a field for a type, at two keys."""
+    chain = filled(length - 100, lambda i: "fragment F%d on I{...on J{...on K{a b:a c:a d:a e:a f:a g:a}}...F%d}" % (i, i + 1))
+    return "{k0:n{...F0}k1:n{...F0}k2:n{...F0}}%sfragment F%d on I{...on J{...on K{a}}}" % (chain, chain.count("fragment"))
+
+
+def nearly_alike(kinds, types):
+    """So many interfaces, all of the same types but for one each."""
+    names = ["I%d" % i for i in range(kinds)]
+    all_of = " ".join("type T%d implements %s { a: Int }" % (i, " & ".join(names)) for i in range(types))
+    own = " ".join("type U%d implements I%d { a: Int }" % (i, i) for i in range(kinds))
+    return "type Query { %s } %s %s %s" % (" ".join("n%d: I%d" % (i, i) for i in range(kinds)), " ".join("interface %s { a: Int }" % it for it in names), all_of, own)
+
+
+def below_all(kinds, types):
+    """So many interfaces of as many types, and one of them all."""
+    numbers = range(kinds)
+    interfaces = " ".join("interface I%d { a: Int }" % i for i in numbers)
+    all_types = " ".join("type T%dx%d implements A & I%d { a: Int }" % (k, i, k) for k in numbers for i in range(types))
+    return "type Query { %s } interface A { a: Int } %s %s" % (" ".join("n%d: I%d" % (i, i) for i in numbers), interfaces, all_types)
+
+
+def kinds_beside_chain(kinds):
+    """Keys at interfaces by turns, each of which spreads a chain of fragments."""
+    def build(length):
+        chain = filled(length // 2, lambda i: "fragment F%d on A{...F%d}" % (i, i + 1), 40)
+        chain += "fragment F%d on A{...on T0x0{a}}" % chain.count("fragment")
+        return "{%s}%s" % (filled(length - len(chain) - 2, lambda i: "k%d:n%d{...F0}" % (i, i % kinds)), chain)
+    return build
+
+
+def beside_another(kinds, types):
+    """So many interfaces of fifteen types, five of which are of one of thousands of types; and an interface of its last type alone."""
+    text = ["type Query { %s } interface X { a: Int } interface B { a: Int }" % " ".join("n%d: I%d" % (i, i) for i in range(kinds))]
+    text += ["interface I%d { a: Int }" % i for i in range(kinds)]
+    for i in range(types):
+        own = " & I%d" % (i // 5) if i // 5 < kinds else ""
+        text.append("type T%d implements X%s%s { a: Int }" % (i, own, " & B" if i == types - 1 else ""))
+    text += ["type U%dx%d implements I%d { a: Int }" % (i, j, i) for i in range(kinds) for j in range(10)]
+    return " ".join(text)
+
+
+def beside_conditions(kinds):
+    """Keys at so many interfaces, each of which spreads a fragment of conditions on two others in one another."""
+    def build(length):
+        keys = "{%s}" % " ".join("n%d{...F}" % i for i in range(kinds))
+        return keys + "fragment F on X{%s}" % filled(length - len(keys) - 20, lambda i: "...on B{...on X{a%d:a}}" % i)
+    return build
+
+
+def each_beside_chain(kinds):
+    """A key at each of so many interfaces, which spreads a chain of fragments on the first of them."""
+    def build(length):
+        keys = "{%s}" % "".join("n%d{...F0}" % i for i in range(kinds))
+        chain = filled(length - len(keys) - 40, lambda i: "fragment F%d on I0{...F%d}" % (i, i + 1))
+        return "%s%sfragment F%d on I0{a}" % (keys, chain, chain.count("fragment"))
+    return build
+
+
+def last_type(count):
+    return "type Query { n: N } " + " ".join("type T%d { a: Int }" % i for i in range(count)) + " type N { a: Int n: N }"
+
+
+def bare_chain(length):
+    """A chain of fragments that three keys spread."""
+    chain = filled(length - 80, lambda i: "fragment F%d on N{...F%d}" % (i, i + 1))
+    return "{k0:n{...F0}k1:n{...F0}k2:n{...F0}}%sfragment F%d on N{a}" % (chain, chain.count("fragment"))
+
+
+def written_again(times):
+    """Doubled places, each of which spreads fragments with the same great literal: so few of them that nothing is kept."""
+    def build(length):
+        doubles = "".join("fragment P%d on N{a:n{...P%d}b:n{...P%d}}" % (i, i + 1, i + 1) for i in range(13))
+        names = "FGHIJ"[:times]
+        doubles += "fragment P13 on N{%s}" % "".join("..." + it for it in names)
+        literal = "1 " * min(19990, (length - len(doubles)) // times // 2 - 20)
+        return "{n{...P0}}" + doubles + "".join("fragment %s on N{c:b(x:[%s])}" % (it, literal) for it in names)
+    return build
+
+
+def agreeing_keys(length):
+    """Keys that spread a fragment whose response keys have 4,150 bytes in common."""
+    fragment = "fragment F on N{%s}" % filled(length // 3 * 2, lambda i: "x" * 4150 + "%d:a " % i)
+    return "{%s}%s" % (filled(length - len(fragment) - 2, key("...F")), fragment)
+
+
+def interfaces_of_interfaces(count):
+    """Interfaces that each implement all before them, and a type of them all."""
+    names = ["I%d" % i for i in range(count)]
+    chain = ["interface %s%s{n:I0 a:Int}" % (names[i], " implements " + "&".join(names[:i]) if i else "") for i in range(count)]
+    return "type Query{n:I0}" + " ".join(chain) + "".join("type T%d implements %s{n:I0 a:Int}" % (i, "&".join(names)) for i in range(2))
+
+
+def crossed(count, types):
+    """So many types, each of as many interfaces."""
+    names = ["I%d" % i for i in range(count)]
+    return "type Query{n:I0}" + " ".join("interface %s{n:I0 a:Int}" % it for it in names) + "".join("type T%d implements %s{n:I0 a:Int}" % (i, "&".join(names)) for i in range(types))
+
+
+def nested_interfaces(count):
+    """A fragment with conditions on three interfaces in one another, again and again."""
+    return lambda n: halves(n, key("...F"), lambda i: "...on I%d{...on I%d{...on I%d{a}}}" % (i % count, (i * 7 + 1) % count, (i * 13 + 2) % count), "I0")
+
+
+def unions(count, types):
+    """So many unions, each of most of the types."""
+    members = ["|".join("T%d" % j for j in range(types) if (j * 7 + i) % 11) for i in range(count)]
+    return "type Query{n:U0}" + "".join("type T%d{a:Int n:U0}" % i for i in range(types)) + "".join("union U%d=%s " % (i, it) for i, it in enumerate(members))
+
+
+def nested_unions(count):
+    return lambda n: halves(n, key("...F"), lambda i: "...on U%d{...on U%d{__typename}}" % (i % count, (i * 7 + 1) % count), "U0")
+
+
+def by_variables(length):
+    """Keys that spread a fragment whose sets differ in a condition of a variable alone."""
+    (heads, sets), _ = paired(length // 2, lambda i: ("$v%d:Boolean=true " % i, "n{a@include(if:$v%d)}" % i))
+    return "query(%s){%s}fragment F on N{%s}" % (heads, filled(length - len(heads) - len(sets) - 40, key("...F")), sets)
+
+
+def differ_in_one(i):
+    """A selection set of twenty keys, one of which is its own."""
+    names = list("abcdefghijklmnopqrst")
+    names[i % 20] = "x%d" % i
+    return "n{%s}" % " ".join(it if it == "a" else it + ":a" for it in names)
+
+
+def variables_at_places(length):
+    """Keys that spread a fragment of calls of one key, each with a variable of its own."""
+    (heads, calls), _ = paired(length // 2, lambda i: ("$v%d:Int=1 " % i, "b(x:$v%d)" % i))
+    return "query(%s){%s}fragment F on N{%s}" % (heads, filled(length - len(heads) - len(calls) - 40, key("...F")), calls)
+
+
+def variables_at_doubled_places(length):
+    """Doubled places, each of which spreads a fragment of calls of one key, each with a variable of its own."""
+    doubles = "".join("fragment P%d on N{a:n{...P%d}b:n{...P%d}}" % (i, i + 1, i + 1) for i in range(13)) + "fragment P13 on N{...F}"
+    (heads, calls), _ = paired(length - len(doubles) - 60, lambda i: ("$v%d:Int=1 " % i, "b(x:$v%d)" % i))
+    return "query(%s){n{...P0}}%sfragment F on N{%s}" % (heads, doubles, calls)
+
+
+def where_none_is_kept(length):
+    """Calls that fill what is kept; and then doubled places, each of which spreads a fragment of calls of one key that are equal and written otherwise."""
+    great = "".join("k%d:o(i:[%s{z:%d}])" % (i, "{}" * 620, i) for i in range(min(36, length // 2000)))
+    doubles = "".join("fragment P%d on N{a:n{...P%d}b:n{...P%d}}" % (i, i + 1, i + 1) for i in range(13)) + "fragment P13 on N{...F}"
+    some = itertools.chain.from_iterable(itertools.combinations(range(30), size) for size in range(1, 5))
+    rest = length - len(great) - len(doubles) - 40
+    calls = filled(rest, lambda i: "c:o(i:{%s})" % " ".join("f%d:1" % it for it in next(some)))
+    return "{%sn{...P0}}%sfragment F on N{%s}" % (great, doubles, calls)
+
+
+def deep_variables(length):
+    """Variables of lists in lists, whose values are lists of one at each level; none is used."""
+    kind = "[" * 44 + "Int" + "]" * 44
+    return "query(%s){__typename}" % filled(length - 30, lambda i: "$v%d:%s=[%s]" % (i, kind, "1 " * 440))
+
+
+def of_kinds(count):
+    return "type Query { n: I } interface I { a: Int b(x: Int): Int n: I }" + "".join(" type T%d implements I { a: Int b(x: Int): Int n: I }" % i for i in range(count))
+
+
+def variables_at_types(levels):
+    """The same at an interface: each place has the calls once for each of its types."""
+    def build(length):
+        doubles = "".join("fragment P%d on I{...on T0{a:n{...P%d}b:n{...P%d}}}" % (i, i + 1, i + 1) for i in range(levels)) + "fragment P%d on I{...F}" % levels
+        (heads, calls), _ = paired(length - len(doubles) - 60, lambda i: ("$v%d:Int=1 " % i, "b(x:$v%d)" % i))
+        return "query(%s){n{...P0}}%sfragment F on I{%s}" % (heads, doubles, calls)
+    return build
+
+
+def great_scalar(room):
+    """A variable v that is an object of objects."""
+    return json.dumps({"v": {"k%d" % i: {"a": 1} for i in range(min(9000, (room - 20) // 18))}}, separators=(",", ":"))
+
+
+def long_names(length):
+    """Keys that spread a fragment with two calls, whose variables have names of an eighth of the length."""
+    names = [it * (length // 8 - 20) for it in "ab"]
+    rest = "fragment F on N{c:b(x:$%s)d:b(x:$%s)}" % tuple(names)
+    return "query($%s:Int $%s:Int){%s}%s" % (*names, filled(length // 2 - 60, key("...F")), rest)
+
+
+def room_for_kept(length):
+    """Sets of many equal calls, until no more is kept; and then sets in orders."""
+    part = length // 4
+    (heads, calls), _ = paired(part, lambda i: ("$a%d:Int=1," % i, "b(x:$a%d)" % i))
+    twice = filled(part, lambda i: "e%d:n{n{x%d:a ...E}}f%d:n{n{x%d:a ...E}}" % (i, i, i, i))
+    fragments = "fragment E on N{%s}fragment F on N{%s}" % (calls, filled(part - 60, orders))
+    rest = length - len(heads) - len(twice) - len(fragments) - 20
+    return "query(%s){%s%s}%s" % (heads, twice, filled(rest, key("...F")), fragments)
+
+
+INPUTS = "type Query { o(i: I): Int } input I { z: Int i: I l: [I] d: Int = 1 }"
+SCALARS = "type Query { o(x: [S]): Int } scalar S"
+THIRTY = "type Query { n: N o(i: [I]): Int } type N { n: N o(i: [I]): Int } input I { z: Int %s }" % " ".join("f%d: Int = 1" % i for i in range(30))
 SEVEN = "type Query { n: N } type N { n: N o(i: I): Int } input I { %s }" % " ".join("%s: Int" % it for it in "abcdefg")
 LITERALS = "type Query { n: N } type N { b(x: [Int]): Int }"
 ONE_LIST = "type Query { o(i: [Int]): Int }"
@@ -302,27 +610,86 @@ FAMILIES = {
     "calls with defaults": (defaults(901), lambda n: "{%s}" % filled(n - 2, lambda i: "k%d:o(i:[%s])" % (i, "{}" * (20 + i % 2)))),
     "variables by turns": (ONE_LIST, by_turns("o(i:$a)", "o(i:$b)"), great(1, 2)),
     "calls that all differ": (defaults(901), own_calls("i:[{z:%%d}%s]" % ("{}" * 21))),
-    "calls with a variable": (defaults(901), own_calls("i:[{z:$v}{z:%%d}%s]" % ("{}" * 20), "query($v:Int)"), '{"v":1}'),
+    "calls with a variable": (defaults(901), own_calls("i:[{z:$v}{z:%%d}%s]" % ("{}" * 20), "query($v:Int)"), lambda room: '{"v":1}'),
     "calls of thirty kinds": (defaults(901), lambda n: "{%s}" % filled(n - 2, lambda i: "k%d:o(i:[{z:%d}%s])" % (i, i % 30, "{}" * 21))),
     "calls in two orders": (defaults(901), lambda n: "{%s}" % filled(n - 2, in_two_orders)),
     "defaults of defaults": (nested_defaults(), own_calls("i:{z:%d}")),
     "many arguments": (many_arguments(5000), own_calls("z:%d")),
-    "a great variable": (TWO_LISTS, own_calls("i:$a,j:[%d]", "query($a:[Int])"), great(1, 1)),
-    "equal variables": (ONE_LIST, lambda n: "query($a:[Int],$b:[Int]){%s}" % filled(n // 3 * 2, lambda i: "k%d:o(i:$a)k%d:o(i:$b)" % (i, i)), great(1, 1)),
+    "a great variable": (TWO_LISTS, own_calls("i:$a,j:[%d]", "query($a:[Int])"), great(1)),
+    "equal variables": (ONE_LIST, lambda n: "query($a:[Int],$b:[Int]){%s}" % filled(n - 30, lambda i: "k%d:o(i:$a)k%d:o(i:$b)" % (i, i)), great(1, 1)),
     "sets that are kept": (EIGHT, many_kept(60, 60)),
     "equal calls in orders": (SEVEN, equal_calls),
     "conditions on interfaces": (interfaces(4990), by_interfaces),
+    "interfaces of types of their own": (interfaces_of_types(2000), lambda n: halves(n, key("...F"), lambda i: "...on J%d{a{b}}" % (i % 2000))),
     "great literals by turns": (LITERALS, great_literals(3)),
-    "great calls by turns": (fields_of(70), calls_by_turns(70, ["c%d:o%d(i:$a)"]), great(1, 1)),
+    "great calls by turns": (fields_of(70), calls_by_turns(70, ["c%d:o%d(i:$a)"]), great(1)),
     "a long response key": (ONE, long_key),
     "doubled places of a type": (doubled_types(4900), doubled(13, "...on T0{a:n{...F%d}b:n{...F%d}}", "...on T0{a}", "I")),
-    "equal calls of a chain": (kinds(60), chain_of_calls),
+    "types behind fragments": (doubled_types(4900), behind_fragments),
+    "equal calls of a chain": (of_kinds(200), chain_of_calls),
     "variables with defaults": (defaults(901), own_variables("[$v%d]")),
     "variables with defaults of defaults": (nested_defaults(), own_variables("$v%d")),
-    "types elsewhere": (doubled_types(4900) + "".join(" type X%d { a: Int }" % i for i in range(17)), types_elsewhere),
-    "pairs of equal calls": ("type Query { n: N } type N { n: N o(i: [I]): Int } " + defaults(901).split("} ", 1)[1], pairs),
-    "calls of one hash": ("type Query { n: N } scalar S type N { n: N b(x: [S]): Int }", one_hash, json.dumps({"v": [1] * 19980}, separators=(",", ":"))),
+    "types elsewhere": (many_types_elsewhere(4900), types_elsewhere),
+    "types by turns": (two_interfaces(16), types_by_turns),
+    "pairs of equal calls": ("type Query { n: N } type N { n: N o(i: I): Int a: Int } input I { z: Int %s }" % " ".join("f%d: Int = 1" % i for i in range(900)), pairs_of_calls),
+    "calls that collide": ("type Query { n: N } scalar S type N { n: N b(x: [S]): Int }", colliding, scalars),
+    "joined sets of an interface": (joined(16), joined_sets),
+    "spreads behind a chain": (ONE, spreads_behind_chain),
+    "values of a great enum": (lambda: great_enum(120000), enum_lists(120000)),
+    "types with long names": (lambda: long_types(650000), lambda n: "{%s}" % filled(n - 2, lambda i: "k%d:n{o(i:{i:{z:%d}})}" % (i, i))),
+    "slicing arguments": (sliced(5000), lambda n: "{%s}" % filled(n - 2, lambda i: "k%d:o(a%d:%d){a}" % (i, 4999 - i % 10, i))),
+    "two interfaces apart": (two_apart(2450, 2450), apart),
+    "two interfaces apart, of 200 types": (two_apart(100, 100), apart),
+    "fragments without a field": (two_apart(2450, 2450), fieldless_chain),
+    "sixteen types apart": (two_apart(16, 4880), apart),
+    "interfaces nearly alike": (nearly_alike(20, 4900), lambda n: "{%s}" % filled(n - 2, lambda i: "k%d:n%d{...on T0{a}}" % (i, i % 20))),
+    "interfaces beside a chain": (below_all(100, 48), kinds_beside_chain(100)),
+    "interfaces nearly alike beside a chain": (lambda: nearly_alike(64, 4800), each_beside_chain(64)),
+    "interfaces beside conditions": (beside_another(64, 4000), beside_conditions(64)),
+    "a chain at the last type": (last_type(4990), bare_chain),
+    "great literals written again": ("type Query { n: N } type N { n: N b(x: [Int]): Int }", written_again(4)),
+    "long keys that agree": (ONE, agreeing_keys),
+    "interfaces of interfaces": (lambda: interfaces_of_interfaces(1100), nested_interfaces(1100)),
+    "types of all interfaces": (lambda: crossed(800, 900), nested_interfaces(800)),
+    "unions of all types": (lambda: unions(400, 1500), nested_unions(400)),
+    "conditions by variables": (ONE, by_variables),
+    "type names": (ONE, lambda n: halves(n, key("...F"), lambda i: "__typename ...on N{__typename}")),
+    "sets that differ in one place": (ONE, lambda n: halves(n, key("...F"), differ_in_one)),
+    "deep sets that differ": (ONE, lambda n: halves(n, key("...F"), lambda i: "n{" * 20 + "a x%d:a" % i + "}" * 20)),
+    "deep input objects": (INPUTS, lambda n: "{%s}" % filled(n - 2, lambda i: "k%d:o(i:%s{z:%d}%s)" % (i, "{i:" * 45, i, "}" * 45))),
+    "lists of one": (INPUTS, lambda n: "{%s}" % filled(n - 2, lambda i: "k%d:o(i:%s{z:%d}%s)" % (i, "{l:" * 45, i, "}" * 45))),
+    "deep lists": ("type Query { o(i: %sInt%s): Int }" % ("[" * 45, "]" * 45), own_calls("i:%d")),
+    "variables at many places": (ONE, variables_at_places),
+    "variables at doubled places": ("type Query { n: N } type N { b(x: Int): Int n: N }", variables_at_doubled_places),
+    "variables at places of fifty types": (of_kinds(50), variables_at_types(8)),
+    "equal calls where none is kept": (THIRTY, where_none_is_kept),
+    "variables of deep lists": (ONE, deep_variables),
+    "a great custom value": (SCALARS, own_calls("x:[$v %d]", "query($v:S)"), great_scalar),
+    "variables with long names": (ONE, long_names),
+    "a long string": (SCALARS, lambda n: '{%s c:o(x:["%s"])}' % (filled(n // 2, lambda i: "k%d:o(x:[%d])" % (i, i)), "x" * (n // 2 - 40))),
+    "a block string": (SCALARS, lambda n: '{o(x:["""%s"""])}' % filled(n - 40, lambda i: " " * (i % 300) + "x\n")),
+    "variables that aren't used": (ONE, lambda n: "query(%s$w:Int){n{b(x:$w)}}" % filled(n - 40, lambda i: "$v%d:Int=1" % i)),
+    "room for what is kept": (ONE, room_for_kept),
 }
+
+
+def body_length(document, variables):
+    return len(json.dumps({"query": document, "variables": "V"}, separators=(",", ":")).encode()) - 3 + len(variables)
+
+
+def texts(name, length):
+    """The schema of a family, and its document and variables for a body of at most so many bytes, of which the variables take a third at most."""
+    schema, build, *more = FAMILIES[name]
+    schema = schema if isinstance(schema, str) else schema()
+    variables = more[0](length // 3) if more else "{}"
+    room = length - body_length("", variables)
+    document = build(room)
+    while body_length(document, variables) > length:
+        room -= body_length(document, variables) - length
+        if room <= 0:
+            sys.exit("%s can't be as short as %d bytes" % (name, length))
+        document = build(room)
+    return schema, document, variables
 
 
 def bounded():
@@ -331,14 +698,50 @@ def bounded():
 
 
 def priced(program, folder, schema, document, variables):
-    """The seconds and the megabytes of pricing a document, and whether the program has ended by itself."""
+    """The seconds and the megabytes of pricing a document, and whether the program has ended by itself. A document that isn't one, or breaks a rule, would say nothing of its family."""
     for name, text in (("schema", schema), ("document", document), ("variables", variables)):
         with open(os.path.join(folder, name), "w") as file:
             file.write(text)
-    ran = subprocess.Popen([program, "price", "schema", "document", "--variables", "variables"], cwd=folder, stdout=subprocess.DEVNULL, stderr=subprocess.DEVNULL, preexec_fn=bounded)
-    _, status, used = os.wait4(ran.pid, 0)
-    ran.returncode = status
+    with open(os.path.join(folder, "told"), "w+b") as told:
+        ran = subprocess.Popen([program, "price", "schema", "document", "--variables", "variables"], cwd=folder, stdout=subprocess.DEVNULL, stderr=told, preexec_fn=bounded)
+        _, status, used = os.wait4(ran.pid, 0)
+        ran.returncode = status
+        told.seek(0)
+        line = told.read().decode(errors="replace").strip()
+    if os.WIFEXITED(status) and line and not line.startswith("plan 5 TooLarge"):
+        sys.exit("a document is refused for what it isn't made for: " + line)
     return used.ru_utime + used.ru_stime, used.ru_maxrss / 1024, os.WIFEXITED(status)
+
+
+def alone(program, folder, name, schema):
+    """The seconds for the schema of a family and a document that costs nothing."""
+    if (program, name) not in ALONE:
+        ALONE[program, name] = priced(program, folder, schema, "{__typename}", "{}")[0]
+    return ALONE[program, name]
+
+
+def told_lengths():
+    """By the families that operating.md tells: the bytes up to which each takes less than a second and 200 MB."""
+    with open(PAGE) as file:
+        rows = re.findall(r"^\| `([^`]+)` \|.*\| (\d+) kB \|", file.read(), re.M)
+    return {name: int(kilobytes) * 1024 for name, kilobytes in rows}
+
+
+def measured(program, folder, name, length):
+    """The seconds that a body of a family takes beside its schema, the megabytes, and whether the program has ended by itself."""
+    schema, document, variables = texts(name, length)
+    seconds, megabytes, ended = priced(program, folder, schema, document, variables)
+    return max(0.0, seconds - alone(program, folder, name, schema)), megabytes, ended
+
+
+def shown(run):
+    seconds, megabytes, ended = run
+    return "%.2f s %.0f MB%s" % (seconds, megabytes, "" if ended else " stopped")
+
+
+def keeps(run, most):
+    seconds, megabytes, ended = run
+    return ended and seconds <= most and megabytes <= MEGABYTES
 
 
 def main():
@@ -347,25 +750,37 @@ def main():
     words.add_argument("--longest", type=int, default=262144)
     words.add_argument("names", nargs="*")
     given = words.parse_args()
-    unknown = [it for it in given.names if it not in FAMILIES]
+    told = told_lengths()
+    unknown = [it for it in [*given.names, *told] if it not in FAMILIES]
     if unknown:
         sys.exit("there is no family " + ", ".join(unknown))
-    late = []
+    program, late, broken, cured = os.path.abspath(given.program), [], [], []
     with tempfile.TemporaryDirectory() as folder:
         for name in given.names or FAMILIES:
-            schema, build, *variables = FAMILIES[name]
-            found = []
+            runs = []
             for part in (8, 4, 2, 1):
-                found.append(priced(os.path.abspath(given.program), folder, schema, build(given.longest // part), *(variables or ["{}"])))
-                if not found[-1][2]:
+                runs.append(measured(program, folder, name, given.longest // part))
+                if not runs[-1][2]:
                     break
-            growth = "   grows by %.1f" % (found[-1][0] / max(found[-2][0], 0.001)) if len(found) > 1 else ""
-            print("%-32s %s%s" % (name, "  ".join("%.2f s %.0f MB%s" % (s, m, "" if ended else " stopped") for s, m, ended in found), growth), flush=True)
-            if len(found) < 4 or found[-1][0] > SECONDS or found[-1][1] > MEGABYTES:
+            line = "%-36s %s" % (name, "  ".join(map(shown, runs)))
+            if len(runs) > 1:
+                line += "   grows by %.1f" % (runs[-1][0] / max(runs[-2][0], 0.001))
+            good = len(runs) == 4 and keeps(runs[-1], SECONDS)
+            if name in told:
+                run = measured(program, folder, name, told[name])
+                line += "   told: %s at %d kB" % (shown(run), told[name] // 1024)
+                (broken if not keeps(run, TOLD_SECONDS) else cured if good else []).append(name)
+            elif not good:
                 late.append(name)
-    if late:
-        print("above %.0f s or %d MB: %s" % (SECONDS, MEGABYTES, ", ".join(late)))
-    return 1 if late else 0
+            print(line, flush=True)
+    for names, what in (
+        (cured, "told in operating.md, and within %.0f s and %d MB" % (SECONDS, MEGABYTES)),
+        (broken, "above %.0f s or %d MB at the length that operating.md tells" % (TOLD_SECONDS, MEGABYTES)),
+        (late, "above %.0f s or %d MB, and not told in operating.md" % (SECONDS, MEGABYTES)),
+    ):
+        if names:
+            print("%s: %s" % (what, ", ".join(names)))
+    return 1 if late or broken else 0
 
 
 if __name__ == "__main__":

@@ -175,7 +175,7 @@ Measured on {about_serving}.
 
 Measured on {about_hostile}.
 
-`checks/hostile_documents.py` makes {families} families of documents that cost much for their length, up to the longest body that the gateway takes, 262,144 bytes. Told are processor seconds of `price`, of one run. A run is stopped
+`checks/hostile_documents.py` makes {families} families of documents that cost much for their length, up to the longest body that the gateway takes, 262,144 bytes. Told are processor seconds of `price`, of one run, less those of a document that costs nothing by the same schema. A run is stopped
 after 10 seconds, and where one was stopped no longer one was tried; in the plot an open mark is such a run. Lines at 0.01 seconds are at or below it. Limits for those who run a gateway are in [operating.md](operating.md#behind-a-proxy).
 
 {hostile}
