@@ -83,7 +83,7 @@ fn one_of(
     if count > u64::from(limit) {
         return Ok(None);
     }
-    let mut items = Vec::new(alloc);
+    let mut items = Vec::with_capacity(alloc, 1)?;
     items.push(item)?;
     Ok(Some(made::list(items)))
 }
