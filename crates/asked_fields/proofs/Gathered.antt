@@ -15,7 +15,7 @@ use Rattle.plan_model.specs.Likeness.{Thins, LooksLike, AreLike}
 use Rattle.plan_model.specs.Plans.{with_capped}
 use Rattle.plan_model.proofs.Thinning.{thinned_map, thinned_filter}
 use Rattle.plan_model.proofs.MarkedNodes.{same_first}
-use Rattle.plan_model.proofs.LikeNodes.{like_selected, like_place, like_hands}
+use Rattle.plan_model.proofs.LikeNodes.{like_selected, like_place, like_hands, like_same}
 use Rattle.plan_model.proofs.SameNodes.{same_keys, same_first_call, same_selected}
 use Rattle.collected_fields.specs.Gathering.{Gathers}
 use Rattle.collected_fields.specs.Groups.{GroupData, IsGroupOf, AreGroupsOf}
@@ -47,7 +47,7 @@ module _ (e : Setting) (T : ℕ) where
   -- the first of them are given the same
   like_arguments : (xs ys : List CollectedField) → AreLike e.schema xs ys → arguments_at e T (first_call xs) ≡ arguments_at e T (first_call ys)
   like_arguments xs ys like =
-      (same_first e T (λ f. f) (LooksLike e.schema) (λ f g r. r) xs ys like).arguments ∙ sym (same_first e T (λ f. f) (LooksLike e.schema) (λ f g r. r) ys ys (all_stay [] ys)).arguments
+      (same_first e T (λ f. f) (LooksLike e.schema) (like_same e) xs ys like).arguments ∙ sym (same_first e T (λ f. f) (LooksLike e.schema) (like_same e) ys ys (all_stay [] ys)).arguments
 
 module _ (e : Setting) (deeper : Place → Position → AskedBelow) (alike : IsAlike deeper) (T : ℕ) (p : Position) where
   abbrev node_with : Selected → Result (List ArgData) Refusal → Place → Position → Asked → Asked

@@ -40,7 +40,7 @@ module _ (values : Environment) where
   mutual
     pub alike_serves : (s t u : SelectionTree) → Shortens values s t → IsAlike t u → Shortens values s u
     alike_serves (field_selection n a d b) (field_selection n' a' d' b') (field_selection m c e i) h k =
-        (((h.0.0.0 ∙ k.0.0.0, h.0.0.1 ∙ k.0.0.1), λ values. h.0.1 values ∙ k.0.1 values), (k.1.0, alike_kept no_selection no_selection b b' i tt k.1.1 h.1.1))
+        (((h.0.0.0 ∙ k.0.0.0, h.0.0.1 ∙ k.0.0.1), h.0.1 ∙ k.0.1 values), (k.1.0, alike_kept no_selection no_selection b b' i tt k.1.1 h.1.1))
     alike_serves (field_selection n a d b) (field_selection n' a' d' b') (fragment_spread m e) h k = absurd k
     alike_serves (field_selection n a d b) (field_selection n' a' d' b') (inline_fragment m e i) h k = absurd k
     alike_serves (field_selection n a d b) (fragment_spread n' d') u h k = absurd h

@@ -5,3 +5,5 @@ pub mod WrittenAlike
 pub mod AddingSteps
 pub mod AlikeSteps
 pub mod ShorteningSteps
+pub mod HeldParts
+pub mod SideBySide

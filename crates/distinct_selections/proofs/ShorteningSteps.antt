@@ -16,7 +16,7 @@ use Rattle.document_reader.proofs.PrintingSteps.{tree_of_spread, open_field}
 use Rattle.document_rules.specs.Parts.{fragment_data}
 use Rattle.input_values.specs.coercion.Literals.{Environment}
 use Rattle.plan_model.specs.Shortening.{IsSameType, Shortens, AreShortened, IsShortenedFragment}
-use Rattle.distinct_selections.specs.Adding.{KeepsOne, AddsIncluded, AddsInline}
+use Rattle.distinct_selections.specs.Adding.{IsFieldWith, KeepsOne, AddsIncluded, AddsInline}
 use Rattle.distinct_selections.proofs.AddingSteps.{one_added}
 
 same_type_itself : (on other : Option Name) → other ≡ on → IsSameType (maybe_identifier on) (maybe_identifier other)
@@ -27,15 +27,15 @@ same_type_itself on other is = subst (λ (o : Option Name). IsSameType (maybe_id
     itself (Some n) = refl
 
 module _ (values : Environment) where
-  field_short : (f : Field) (t : SelectionTree) (given kept : List Selection) → t ≡ field_selection (names_of f.alias f.name) (map named_value f.arguments.items) [] (set_tree kept) → given ≡ f.selections.items → AreShortened values (set_tree given) (set_tree kept) → Shortens values (field_tree f) t
+  field_short : (f : Field) (t : SelectionTree) (given kept : List Selection) → IsFieldWith values f (set_tree kept) t → given ≡ f.selections.items → AreShortened values (set_tree given) (set_tree kept) → Shortens values (field_tree f) t
   field_short f t given kept is same h =
       subst (λ (s : SelectionTree). Shortens values s t) (sym (open_field f))
-      (subst (λ (u : SelectionTree). Shortens values (field_selection (names_of f.alias f.name) (map named_value f.arguments.items) (map directive_tree f.directives.items) (set_tree f.selections.items)) u) (sym is)
-      (((refl, refl), λ values. refl), (refl, subst (λ (ss : List Selection). AreShortened values (set_tree ss) (set_tree kept)) same h)))
+      (subst (λ (u : SelectionTree). Shortens values (field_selection (names_of f.alias f.name) (map named_value f.arguments.items) (map directive_tree f.directives.items) (set_tree f.selections.items)) u) (sym is.is)
+      (((refl, refl), is.given), (refl, subst (λ (ss : List Selection). AreShortened values (set_tree ss) (set_tree kept)) same h)))
 
-  pub field_added : (f g : Field) (given kept : List Selection) (old new : List SelectionTree) → field_tree g ≡ field_selection (names_of f.alias f.name) (map named_value f.arguments.items) [] (set_tree kept) → given ≡ f.selections.items → AreShortened values (set_tree given) (set_tree kept)
+  pub field_added : (f g : Field) (given kept : List Selection) (old new : List SelectionTree) → IsFieldWith values f (set_tree kept) (field_tree g) → given ≡ f.selections.items → AreShortened values (set_tree given) (set_tree kept)
       → KeepsOne (selection_tree (FieldSelection g)) old new → AddsIncluded values (field_tree f) old new
-  field_added f g given kept old new is same h keeps stays = one_added values (field_tree f) (selection_tree (FieldSelection g)) old new (field_short f (selection_tree (FieldSelection g)) given kept (tree_of_field g ∙ is) same h) keeps stays
+  field_added f g given kept old new is same h keeps stays = one_added values (field_tree f) (selection_tree (FieldSelection g)) old new (field_short f (selection_tree (FieldSelection g)) given kept (record { arguments = is.arguments; given = is.given; is = tree_of_field g ∙ is.is }) same h) keeps stays
 
   pub spread_added : (name copy : Name) (ds : Vec Directive Global) (old new : List SelectionTree) → copy ≡ name → ds.items ≡ [] → KeepsOne (selection_tree (SpreadSelection copy ds)) old new → (directives : List DirectiveTree) → AddsIncluded values (fragment_spread (identifier_of name) directives) old new
   spread_added name copy ds old new same none keeps directives stays = one_added values (fragment_spread (identifier_of name) directives) (selection_tree (SpreadSelection copy ds)) old new

@@ -18,7 +18,7 @@ use Rattle.input_values.specs.coercion.Given.{Given, GivenItems, no_given, given
 use Rattle.input_values.specs.coercion.Literals.{Environment, literal_given, literal_items, literal_fields, variable_given}
 use Rattle.plan_model.specs.SameArguments.{same_truth}
 use Rattle.distinct_selections.specs.Alike.{is_the_integer}
-use Rattle.plan_model.specs.GivenAlike.{GivesAlike, GiveAlike, given_argument, IsGivenAlike, AreGivenAlike}
+use Rattle.plan_model.specs.GivenAlike.{GivesAlike, GiveAlike, given_argument, IsGivenAlike, AreGivenSame, AreGivenAlike}
 
 abbrev items_from : List Given → GivenItems
 items_from [] = no_given
@@ -36,11 +36,17 @@ fields_of : (values : Environment) (fs : List NamedValue) → literal_fields val
 fields_of values [] = refl
 fields_of values (f ∷ fs) = ap (λ gs. given_field_then f.0.0 (literal_given values f.1) gs) (fields_of values fs)
 
+pub lists_given : (values : Environment) (vs ws : List ValueTree) → map (literal_given values) vs ≡ map (literal_given values) ws → literal_given values (list_value (values_from vs)) ≡ literal_given values (list_value (values_from ws))
+lists_given values vs ws same = ap given_list (items_of values vs ∙ (ap items_from same ∙ sym (items_of values ws)))
+
+pub objects_given : (values : Environment) (fs gs : List NamedValue) → AreGivenSame values fs gs → literal_given values (object_value (fields_from fs)) ≡ literal_given values (object_value (fields_from gs))
+objects_given values fs gs same = ap (given_object false) (fields_of values fs ∙ (ap given_fields_from same ∙ sym (fields_of values gs)))
+
 pub lists_alike : (vs ws : List ValueTree) → GiveAlike vs ws → GivesAlike (list_value (values_from vs)) (list_value (values_from ws))
-lists_alike vs ws alike values = ap given_list (items_of values vs ∙ (ap items_from (alike values) ∙ sym (items_of values ws)))
+lists_alike vs ws alike values = lists_given values vs ws (alike values)
 
 pub objects_alike : (fs gs : List NamedValue) → AreGivenAlike fs gs → GivesAlike (object_value (fields_from fs)) (object_value (fields_from gs))
-objects_alike fs gs alike values = ap (given_object false) (fields_of values fs ∙ (ap given_fields_from (alike values) ∙ sym (fields_of values gs)))
+objects_alike fs gs alike values = objects_given values fs gs (alike values)
 
 pub same_tree : (v t w : ValueTree) → t ≡ w → GivesAlike v w → GivesAlike v t
 same_tree v t w is alike values = alike values ∙ ap (literal_given values) (sym is)
@@ -115,12 +121,43 @@ module _ {A B C : Type 0} (g : A → B) (f : B → C) where
   pub both_whole : (xs ys : List A) (at : ℕ) → length xs ≤ at → length ys ≤ at → map f (map g (take at xs)) ≡ map f (map g (take at ys)) → map f (map g xs) ≡ map f (map g ys)
   both_whole xs ys at all_xs all_ys before = ap (λ l. map f (map g l)) (sym (take_all at xs all_xs)) ∙ (before ∙ ap (λ l. map f (map g l)) (take_all at ys all_ys))
 
+  -- one more that is copied
+  pub copied_more : (xs : List A) (at : ℕ) (x : A) (ys zs : List A) (y : A) → at < length xs → x ≡ get_or xs at x → zs ≡ ys ++ (y ∷ []) → map f (map g (take at xs)) ≡ map f (map g ys) → f (g x) ≡ f (g y) → map f (map g (take (at + 1) xs)) ≡ map f (map g zs)
+  copied_more xs at x ys zs y within is pushed before here =
+      grown xs at x within is ∙ (ap (λ l. l ++ (f (g x) ∷ [])) before ∙ (ap (λ z. map f (map g ys) ++ (z ∷ [])) here ∙ (sym (map-append f (map g ys) (g y ∷ [])) ∙ ap (map f) (sym (ap (map g) pushed ∙ map-append g ys (y ∷ []))))))
+
+  pub copied_whole : (xs ys : List A) (at : ℕ) → length xs ≤ at → map f (map g (take at xs)) ≡ map f (map g ys) → map f (map g xs) ≡ map f (map g ys)
+  copied_whole xs ys at past before = ap (λ l. map f (map g l)) (sym (take_all at xs past)) ∙ before
+
 -- of two lists of one length both are passed where one is
 pub all_passed : (n m at : ℕ) → nat_eq n m ≡ true → n ≤ at → m ≤ at
 all_passed n m at same h = omega (arith, eqb-true n m same)
 
 pub all_passed_by : (n m at : ℕ) → nat_eq n m ≡ true → m ≤ at → n ≤ at
 all_passed_by n m at same h = omega (arith, eqb-true n m same)
+
+-- ---- copies
+
+pub variable_copied : (values : Environment) (value copy : Value) (n m : Name) → value ≡ VarValue n → copy ≡ VarValue m → values m.text ≡ values n.text → literal_given values (value_tree value) ≡ literal_given values (value_tree copy)
+variable_copied values value copy n m is made same =
+    ap (literal_given values) (ap value_tree is ∙ variable_tree n) ∙ (ap variable_given (sym same) ∙ sym (ap (literal_given values) (ap value_tree made ∙ variable_tree m)))
+
+pub list_copied : (values : Environment) (value copy : Value) (vs us : Vec Value Global) (given : List Value) → value ≡ ListValue vs → copy ≡ ListValue us → given ≡ vs.items → map (literal_given values) (map value_tree given) ≡ map (literal_given values) (map value_tree us.items)
+    → literal_given values (value_tree value) ≡ literal_given values (value_tree copy)
+list_copied values value copy vs us given is made same copied =
+    ap (literal_given values) (ap value_tree is ∙ list_tree vs)
+    ∙ (lists_given values (map value_tree vs.items) (map value_tree us.items) (ap (λ l. map (literal_given values) (map value_tree l)) (sym same) ∙ copied) ∙ sym (ap (literal_given values) (ap value_tree made ∙ list_tree us)))
+
+pub object_copied : (values : Environment) (value copy : Value) (hs gs : Vec Argument Global) (given : List Argument) → value ≡ ObjectValue hs → copy ≡ ObjectValue gs → given ≡ hs.items → AreGivenSame values (map named_value given) (map named_value gs.items)
+    → literal_given values (value_tree value) ≡ literal_given values (value_tree copy)
+object_copied values value copy hs gs given is made same copied =
+    ap (literal_given values) (ap value_tree is ∙ object_tree hs)
+    ∙ (objects_given values (map named_value hs.items) (map named_value gs.items) (ap (λ l. map (given_argument values) (map named_value l)) (sym same) ∙ copied) ∙ sym (ap (literal_given values) (ap value_tree made ∙ object_tree gs)))
+
+pub argument_copied : (values : Environment) (a b : Argument) → b.name ≡ a.name → literal_given values (value_tree a.value) ≡ literal_given values (value_tree b.value) → given_argument values (named_value a) ≡ given_argument values (named_value b)
+argument_copied values a b name same =
+    ap (given_argument values) (open_argument a) ∙ (ap (λ (n : Name). (n.text, literal_given values (value_tree a.value))) (sym name)
+    ∙ (ap (λ g. (b.name.text, g)) same ∙ sym (ap (given_argument values) (open_argument b))))
 
 pub argument_alike : (a b : Argument) → bytes_eq a.name.text b.name.text ≡ true → GivesAlike (value_tree a.value) (value_tree b.value) → IsGivenAlike (named_value a) (named_value b)
 argument_alike a b names alike values =

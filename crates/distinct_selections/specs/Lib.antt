@@ -1,4 +1,6 @@
 -- Selections that are written alike.
 pub mod Alike
+-- Coerced values that are compared.
+pub mod ComparedValues
 -- Selections that are put behind others, one after the other.
 pub mod Adding

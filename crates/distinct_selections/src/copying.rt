@@ -2,7 +2,11 @@
 
 ghost use Rattle.std.specs.Prelude.{◌≡◌, map, IfOk};
 ghost use Rattle.gql_base.specs.parts.Trees.{value_tree, named_value};
+ghost use Rattle.input_values.specs.coercion.Literals.{literal_given};
+ghost use Rattle.variable_coercion.specs.Calls.{environment};
+ghost use Rattle.plan_model.specs.GivenAlike.{given_argument, AreGivenSame};
 
+use crate::stand_ins::StandIns;
 use gql_base::{Argument, Name, Text, Value};
 use std::alloc::{AllocError, Global};
 
@@ -11,6 +15,22 @@ pub fn copy_name(alloc: Global, name: &Name) -> Result<Name, AllocError>
 {
     Ok(Name {
         text: Text::copy_of(alloc, name.text.as_str())?,
+        at: name.at,
+    })
+}
+
+/// A copy of a variable, or of one that has the same value.
+fn copy_variable<'a>(
+    alloc: Global,
+    stand_ins: &StandIns<'a>,
+    name: &'a Name,
+) -> Result<Name, AllocError>
+    ensures { IfOk result (λ copy. environment stand_ins.now.variables.now copy.text ≡ environment stand_ins.now.variables.now name.now.text) }
+{
+    let own = name.text.as_str();
+    let text = stand_ins.name_for(own);
+    Ok(Name {
+        text: Text::copy_of(alloc, text)?,
         at: name.at,
     })
 }
@@ -26,50 +46,68 @@ pub fn copy_maybe_name(alloc: Global, name: &Option<Name>) -> Result<Option<Name
 
 #[cycle(copy)]
 #[tactic(auto, using(crate::proofs::Opened::value_parts))]
-fn copy_value(alloc: Global, value: &Value) -> Result<Value, AllocError>
-    ensures { IfOk result (λ copy. value_tree copy ≡ value_tree value.now) }
+fn copy_value<'a>(
+    alloc: Global,
+    stand_ins: &StandIns<'a>,
+    value: &'a Value,
+) -> Result<Value, AllocError>
+    ensures { IfOk result (λ copy. literal_given (environment stand_ins.now.variables.now) (value_tree value.now) ≡ literal_given (environment stand_ins.now.variables.now) (value_tree copy)) }
 {
     match value {
-        Value::Var(name) => Ok(Value::Var(copy_name(alloc, name)?)),
+        Value::Var(name) => Ok(Value::Var(copy_variable(alloc, stand_ins, name)?)),
         Value::Int(number) => Ok(Value::Int(*number)),
         Value::Str(text) => Ok(Value::Str(Text::copy_of(alloc, text.as_str())?)),
         Value::Bool(truth) => Ok(Value::Bool(*truth)),
         Value::Null => Ok(Value::Null),
         Value::EnumName(name) => Ok(Value::EnumName(copy_name(alloc, name)?)),
-        Value::List(items) => Ok(Value::List(copy_items(alloc, items.as_slice())?)),
-        Value::Object(fields) => Ok(Value::Object(copy_arguments(alloc, fields.as_slice())?)),
+        Value::List(items) => Ok(Value::List(copy_items(alloc, stand_ins, items.as_slice())?)),
+        Value::Object(fields) => {
+            Ok(Value::Object(copy_arguments(alloc, stand_ins, fields.as_slice())?))
+        }
     }
 }
 
 #[cycle(copy)]
-fn copy_items(alloc: Global, items: &[Value]) -> Result<Vec<Value>, AllocError>
-    ensures { IfOk result (λ copies. map value_tree copies.items ≡ map value_tree items.now) }
+fn copy_items<'a>(
+    alloc: Global,
+    stand_ins: &StandIns<'a>,
+    items: &'a [Value],
+) -> Result<Vec<Value>, AllocError>
+    ensures { IfOk result (λ copies. map (literal_given (environment stand_ins.now.variables.now)) (map value_tree items.now) ≡ map (literal_given (environment stand_ins.now.variables.now)) (map value_tree copies.items)) }
 {
     let mut copies = Vec::new(alloc);
     'items: for item in items {
-        copies.push(copy_value(alloc, item)?)?;
+        copies.push(copy_value(alloc, stand_ins, item)?)?;
     }
     Ok(copies)
 }
 
 #[cycle(copy)]
 #[tactic(auto, using(crate::proofs::Opened::opened_argument))]
-fn copy_argument(alloc: Global, argument: &Argument) -> Result<Argument, AllocError>
-    ensures { IfOk result (λ copy. named_value copy ≡ named_value argument.now) }
+fn copy_argument<'a>(
+    alloc: Global,
+    stand_ins: &StandIns<'a>,
+    argument: &'a Argument,
+) -> Result<Argument, AllocError>
+    ensures { IfOk result (λ copy. given_argument (environment stand_ins.now.variables.now) (named_value argument.now) ≡ given_argument (environment stand_ins.now.variables.now) (named_value copy)) }
 {
     Ok(Argument {
         name: copy_name(alloc, &argument.name)?,
-        value: copy_value(alloc, &argument.value)?,
+        value: copy_value(alloc, stand_ins, &argument.value)?,
     })
 }
 
 #[cycle(copy)]
-pub fn copy_arguments(alloc: Global, arguments: &[Argument]) -> Result<Vec<Argument>, AllocError>
-    ensures { IfOk result (λ copies. map named_value copies.items ≡ map named_value arguments.now) }
+pub fn copy_arguments<'a>(
+    alloc: Global,
+    stand_ins: &StandIns<'a>,
+    arguments: &'a [Argument],
+) -> Result<Vec<Argument>, AllocError>
+    ensures { IfOk result (λ copies. AreGivenSame (environment stand_ins.now.variables.now) (map named_value arguments.now) (map named_value copies.items)) }
 {
     let mut copies = Vec::new(alloc);
     'arguments: for argument in arguments {
-        copies.push(copy_argument(alloc, argument)?)?;
+        copies.push(copy_argument(alloc, stand_ins, argument)?)?;
     }
     Ok(copies)
 }

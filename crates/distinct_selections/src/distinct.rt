@@ -2,17 +2,17 @@
 
 ghost use Rattle.std.specs.Prelude.{◌≡◌, [], IfOk, OnOk, map};
 ghost use Rattle.gql_base.specs.parts.Trees.{identifier_of, named_value};
-ghost use Rattle.document_reader.specs.Documents.{field_selection};
 ghost use Rattle.document_reader.specs.Trees.{names_of, maybe_identifier, selection_tree, field_tree, set_tree};
 ghost use Rattle.document_rules.specs.Parts.{fragment_data};
 ghost use Rattle.variable_coercion.specs.Calls.{environment};
 ghost use Rattle.plan_model.specs.Shortening.{AreShortened, IsShortenedFragment, AreShortenedFragments};
-ghost use Rattle.distinct_selections.specs.Adding.{fragment_seen, AddsOne, AddsIncluded, AddsSpread, AddsInline};
+ghost use Rattle.distinct_selections.specs.Adding.{fragment_seen, IsFieldWith, AddsOne, AddsIncluded, AddsSpread, AddsInline};
 
 use crate::copying::{copy_arguments, copy_maybe_name, copy_name};
 use crate::included::is_included;
 use crate::kept::Kept;
 use crate::numbers::Numbers;
+use crate::stand_ins::StandIns;
 use document_reader::{Field, Fragment, Selection};
 use gql_base::Name;
 use std::alloc::{AllocError, Global};
@@ -35,15 +35,15 @@ struct Shortened {
 #[cycle(shorten)]
 fn shorten_set<'a>(
     alloc: Global,
-    variables: &Variables,
+    stand_ins: &StandIns<'a>,
     selections: &'a [Selection],
     numbers: &mut Numbers<'a>,
 ) -> Result<Shortened, AllocError>
-    ensures { IfOk result (λ set. AreShortened (environment variables.now) (set_tree selections.now) (set_tree set.selections.items)) }
+    ensures { IfOk result (λ set. AreShortened (environment stand_ins.now.variables.now) (set_tree selections.now) (set_tree set.selections.items)) }
 {
     let mut kept = Kept::new(alloc);
     'set: for selection in selections {
-        add_selection(alloc, variables, selection, numbers, &mut kept)?;
+        add_selection(alloc, stand_ins, selection, numbers, &mut kept)?;
     }
     let Kept {
         selections: shortened,
@@ -60,23 +60,23 @@ fn shorten_set<'a>(
 #[cycle(shorten)]
 fn add_selection<'a>(
     alloc: Global,
-    variables: &Variables,
+    stand_ins: &StandIns<'a>,
     selection: &'a Selection,
     numbers: &mut Numbers<'a>,
     kept: &mut Kept,
 ) -> Result<(), AllocError>
-    ensures { OnOk result (AddsOne (environment variables.now) (selection_tree selection.now) (map selection_tree kept.old.selections.items) (map selection_tree kept.new.selections.items)) }
+    ensures { OnOk result (AddsOne (environment stand_ins.now.variables.now) (selection_tree selection.now) (map selection_tree kept.old.selections.items) (map selection_tree kept.new.selections.items)) }
 {
     match selection {
         Selection::Field(field) => {
-            if is_included(variables, field.directives.as_slice()) {
-                add_field(alloc, variables, field, numbers, kept)
+            if is_included(stand_ins.variables, field.directives.as_slice()) {
+                add_field(alloc, stand_ins, field, numbers, kept)
             } else {
                 Ok(())
             }
         }
         Selection::Spread { name, directives } => {
-            if is_included(variables, directives.as_slice()) {
+            if is_included(stand_ins.variables, directives.as_slice()) {
                 add_spread(alloc, name, numbers, kept)
             } else {
                 Ok(())
@@ -87,8 +87,8 @@ fn add_selection<'a>(
             directives,
             selections,
         } => {
-            if is_included(variables, directives.as_slice()) {
-                add_inline(alloc, variables, on, selections.as_slice(), numbers, kept)
+            if is_included(stand_ins.variables, directives.as_slice()) {
+                add_inline(alloc, stand_ins, on, selections.as_slice(), numbers, kept)
             } else {
                 Ok(())
             }
@@ -98,13 +98,18 @@ fn add_selection<'a>(
 
 /// A field without directives, with these selections.
 #[tactic(auto, using(crate::proofs::Opened::selection_parts))]
-fn field_with(alloc: Global, field: &Field, selections: Vec<Selection>) -> Result<Field, AllocError>
-    ensures { IfOk result (λ f. field_tree f ≡ field_selection (names_of field.now.alias field.now.name) (map named_value field.now.arguments.items) [] (set_tree selections.items)) }
+fn field_with<'a>(
+    alloc: Global,
+    stand_ins: &StandIns<'a>,
+    field: &'a Field,
+    selections: Vec<Selection>,
+) -> Result<Field, AllocError>
+    ensures { IfOk result (λ f. IsFieldWith (environment stand_ins.now.variables.now) field.now (set_tree selections.items) (field_tree f)) }
 {
     Ok(Field {
         alias: copy_maybe_name(alloc, &field.alias)?,
         name: copy_name(alloc, &field.name)?,
-        arguments: copy_arguments(alloc, field.arguments.as_slice())?,
+        arguments: copy_arguments(alloc, stand_ins, field.arguments.as_slice())?,
         directives: Vec::new(alloc),
         selections,
     })
@@ -113,19 +118,19 @@ fn field_with(alloc: Global, field: &Field, selections: Vec<Selection>) -> Resul
 #[cycle(shorten)]
 fn add_field<'a>(
     alloc: Global,
-    variables: &Variables,
+    stand_ins: &StandIns<'a>,
     field: &'a Field,
     numbers: &mut Numbers<'a>,
     kept: &mut Kept,
 ) -> Result<(), AllocError>
-    ensures { OnOk result (AddsIncluded (environment variables.now) (field_tree field.now) (map selection_tree kept.old.selections.items) (map selection_tree kept.new.selections.items)) }
+    ensures { OnOk result (AddsIncluded (environment stand_ins.now.variables.now) (field_tree field.now) (map selection_tree kept.old.selections.items) (map selection_tree kept.new.selections.items)) }
 {
-    let below = shorten_set(alloc, variables, field.selections.as_slice(), numbers)?;
-    let number = numbers.of_field(alloc, field, below.number)?;
+    let below = shorten_set(alloc, stand_ins, field.selections.as_slice(), numbers)?;
+    let number = numbers.of_field(alloc, stand_ins, field, below.number)?;
     let Shortened { selections, .. } = below;
     kept.keep(
         number,
-        Selection::Field(field_with(alloc, field, selections)?),
+        Selection::Field(field_with(alloc, stand_ins, field, selections)?),
     )
 }
 
@@ -150,15 +155,15 @@ fn add_spread<'a>(
 #[cycle(shorten)]
 fn add_inline<'a>(
     alloc: Global,
-    variables: &Variables,
+    stand_ins: &StandIns<'a>,
     on: &'a Option<Name>,
     selections: &'a [Selection],
     numbers: &mut Numbers<'a>,
     kept: &mut Kept,
 ) -> Result<(), AllocError>
-    ensures { OnOk result (AddsInline (environment variables.now) (maybe_identifier on.now) (set_tree selections.now) (map selection_tree kept.old.selections.items) (map selection_tree kept.new.selections.items)) }
+    ensures { OnOk result (AddsInline (environment stand_ins.now.variables.now) (maybe_identifier on.now) (set_tree selections.now) (map selection_tree kept.old.selections.items) (map selection_tree kept.new.selections.items)) }
 {
-    let below = shorten_set(alloc, variables, selections, numbers)?;
+    let below = shorten_set(alloc, stand_ins, selections, numbers)?;
     let number = numbers.of_inline(alloc, on, below.number)?;
     let Shortened {
         selections: shortened,
@@ -176,13 +181,13 @@ fn add_inline<'a>(
 
 fn shorten_fragment<'a>(
     alloc: Global,
-    variables: &Variables,
+    stand_ins: &StandIns<'a>,
     fragment: &'a Fragment,
     numbers: &mut Numbers<'a>,
 ) -> Result<Fragment, AllocError>
-    ensures { IfOk result (λ f. IsShortenedFragment (environment variables.now) (fragment_data fragment.now) (fragment_data f)) }
+    ensures { IfOk result (λ f. IsShortenedFragment (environment stand_ins.now.variables.now) (fragment_data fragment.now) (fragment_data f)) }
 {
-    let below = shorten_set(alloc, variables, fragment.selections.as_slice(), numbers)?;
+    let below = shorten_set(alloc, stand_ins, fragment.selections.as_slice(), numbers)?;
     let Shortened { selections, .. } = below;
     Ok(Fragment {
         name: copy_name(alloc, &fragment.name)?,
@@ -194,33 +199,35 @@ fn shorten_fragment<'a>(
 
 fn shorten_fragments<'a>(
     alloc: Global,
-    variables: &Variables,
+    stand_ins: &StandIns<'a>,
     fragments: &[&'a Fragment],
     numbers: &mut Numbers<'a>,
 ) -> Result<Vec<Fragment>, AllocError>
-    ensures { IfOk result (λ fs. AreShortenedFragments (environment variables.now) (map fragment_seen fragments.now) (map fragment_data fs.items)) }
+    ensures { IfOk result (λ fs. AreShortenedFragments (environment stand_ins.now.variables.now) (map fragment_seen fragments.now) (map fragment_data fs.items)) }
 {
     let mut shortened = Vec::new(alloc);
     for fragment in fragments {
-        shortened.push(shorten_fragment(alloc, variables, fragment, numbers)?)?;
+        shortened.push(shorten_fragment(alloc, stand_ins, fragment, numbers)?)?;
     }
     Ok(shortened)
 }
 
 /// The selections of an operation and the fragments that it reaches, without repeats and without what these values of variables
-/// leave out. It fails for want of memory alone.
+/// leave out. Of variables that have the same value one stands in the place of all, so that calls that are given them are written alike.
+/// It fails for want of memory alone.
 pub fn distinct_of<'a>(
     alloc: Global,
-    variables: &Variables,
+    variables: &'a Variables,
     selections: &'a [Selection],
     fragments: &[&'a Fragment],
 ) -> Result<Distinct, AllocError>
     ensures selections { IfOk result (λ d. AreShortened (environment variables.now) (set_tree selections.now) (set_tree d.selections.items)) }
     ensures fragments { IfOk result (λ d. AreShortenedFragments (environment variables.now) (map fragment_seen fragments.now) (map fragment_data d.fragments.items)) }
 {
+    let stand_ins = StandIns::of(alloc, variables)?;
     let mut numbers = Numbers::new(alloc);
-    let shortened = shorten_fragments(alloc, variables, fragments, &mut numbers)?;
-    let set = shorten_set(alloc, variables, selections, &mut numbers)?;
+    let shortened = shorten_fragments(alloc, &stand_ins, fragments, &mut numbers)?;
+    let set = shorten_set(alloc, &stand_ins, selections, &mut numbers)?;
     let Shortened {
         selections: kept,
         ..

@@ -1,5 +1,6 @@
 //! Numbers of what is written alike. They say where to look for a selection that is repeated, and nothing rests on them.
 
+use crate::stand_ins::StandIns;
 use document_reader::Field;
 use gql_base::{Argument, Name, Value};
 use std::alloc::{AllocError, Global};
@@ -68,9 +69,14 @@ impl<'a> Numbers<'a> {
     }
 
     #[cycle(words)]
-    fn put_value(&mut self, value: &'a Value, words: &mut Vec<usize>) -> Result<(), AllocError> {
+    fn put_value(
+        &mut self,
+        stand_ins: &StandIns<'a>,
+        value: &'a Value,
+        words: &mut Vec<usize>,
+    ) -> Result<(), AllocError> {
         match value {
-            Value::Var(name) => self.put_name(1, name.text.as_str(), words),
+            Value::Var(name) => self.put_name(1, stand_ins.name_for(name.text.as_str()), words),
             Value::Int(number) => {
                 words.push(2)?;
                 words.push(self.integer(*number)?)?;
@@ -86,17 +92,22 @@ impl<'a> Numbers<'a> {
                 Ok(())
             }
             Value::EnumName(name) => self.put_name(7, name.text.as_str(), words),
-            Value::List(items) => self.put_items(items.as_slice(), words),
-            Value::Object(fields) => self.put_arguments(fields.as_slice(), words),
+            Value::List(items) => self.put_items(stand_ins, items.as_slice(), words),
+            Value::Object(fields) => self.put_arguments(stand_ins, fields.as_slice(), words),
         }
     }
 
     #[cycle(words)]
-    fn put_items(&mut self, items: &'a [Value], words: &mut Vec<usize>) -> Result<(), AllocError> {
+    fn put_items(
+        &mut self,
+        stand_ins: &StandIns<'a>,
+        items: &'a [Value],
+        words: &mut Vec<usize>,
+    ) -> Result<(), AllocError> {
         words.push(8)?;
         words.push(items.len())?;
         'items: for item in items {
-            self.put_value(item, words)?;
+            self.put_value(stand_ins, item, words)?;
         }
         Ok(())
     }
@@ -104,6 +115,7 @@ impl<'a> Numbers<'a> {
     #[cycle(words)]
     fn put_arguments(
         &mut self,
+        stand_ins: &StandIns<'a>,
         arguments: &'a [Argument],
         words: &mut Vec<usize>,
     ) -> Result<(), AllocError> {
@@ -111,7 +123,7 @@ impl<'a> Numbers<'a> {
         words.push(arguments.len())?;
         'arguments: for argument in arguments {
             words.push(self.name(argument.name.text.as_str())?)?;
-            self.put_value(&argument.value, words)?;
+            self.put_value(stand_ins, &argument.value, words)?;
         }
         Ok(())
     }
@@ -120,6 +132,7 @@ impl<'a> Numbers<'a> {
     pub(crate) fn of_field(
         &mut self,
         alloc: Global,
+        stand_ins: &StandIns<'a>,
         field: &'a Field,
         below: usize,
     ) -> Result<usize, AllocError> {
@@ -130,7 +143,7 @@ impl<'a> Numbers<'a> {
         }
         words.push(self.name(field.name.text.as_str())?)?;
         words.push(below)?;
-        self.put_arguments(field.arguments.as_slice(), &mut words)?;
+        self.put_arguments(stand_ins, field.arguments.as_slice(), &mut words)?;
         self.of_words(words)
     }
 

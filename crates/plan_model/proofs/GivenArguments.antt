@@ -13,7 +13,7 @@ use Rattle.schema_model.specs.InputForms.{input_forms}
 use Rattle.variable_coercion.specs.Refusals.{Refusal, and_then, all_in_order}
 use Rattle.variable_coercion.specs.Arguments.{argument_given, argument_answer, arguments_answer}
 use Rattle.plan_model.specs.SelectedFields.{given_under, coerced_arguments}
-use Rattle.plan_model.specs.GivenAlike.{given_argument, AreGivenAlike}
+use Rattle.plan_model.specs.GivenAlike.{given_argument, AreGivenSame, AreGivenAlike}
 
 same_given : (values : Environment) (name : List ℕ) (written : List Argument) → given_under values (map named_value written) name ≡ argument_given values written name
 same_given values name [] = refl
@@ -44,7 +44,10 @@ under_given values name (a ∷ written) = ⊎_elim
     (λ (is : bytes_eq a.0.0 name ≡ false). rw (is) (under_given values name written))
     (cases_Bool (bytes_eq a.0.0 name))
 
-pub coerced_alike : (s : SchemaData) (field : ℕ) (values : Environment) (written other : List NamedValue) → AreGivenAlike written other → coerced_arguments s field written values ≡ coerced_arguments s field other values
+pub coerced_same : (s : SchemaData) (field : ℕ) (values : Environment) (written other : List NamedValue) → AreGivenSame values written other → coerced_arguments s field written values ≡ coerced_arguments s field other values
 unfolding coerced_arguments
-coerced_alike s field values written other alike = same_in_order (λ i. argument_answer (input_forms s) i (given_under values written i.name)) (λ i. argument_answer (input_forms s) i (given_under values other i.name)) (field_at s field).arguments
-    (λ i. ap (λ o. argument_answer (input_forms s) i o) (under_given values i.name written ∙ (ap (λ g. value_under g i.name) (alike values) ∙ sym (under_given values i.name other))))
+coerced_same s field values written other same = same_in_order (λ i. argument_answer (input_forms s) i (given_under values written i.name)) (λ i. argument_answer (input_forms s) i (given_under values other i.name)) (field_at s field).arguments
+    (λ i. ap (λ o. argument_answer (input_forms s) i o) (under_given values i.name written ∙ (ap (λ g. value_under g i.name) same ∙ sym (under_given values i.name other))))
+
+pub coerced_alike : (s : SchemaData) (field : ℕ) (values : Environment) (written other : List NamedValue) → AreGivenAlike written other → coerced_arguments s field written values ≡ coerced_arguments s field other values
+coerced_alike s field values written other alike = coerced_same s field values written other (alike values)

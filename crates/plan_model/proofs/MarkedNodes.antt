@@ -1,5 +1,5 @@
 -- Positions whose selections have the same marks have the same nodes, the same faults and the same plan.
-use Rattle.std.proofs.Common.{◌≡◌, ◌⊎◌, inl, inr, ⊎_elim, ℕ, zero, suc, List, [], ◌∷◌, ◌++◌, map, filter, flat_map, Bool, true, false, not, bytes_eq, Option, Some, None, refl, sym, ap, ◌∙◌, subst}
+use Rattle.std.proofs.Common.{◌≡◌, inl, inr, ⊎_elim, ℕ, zero, suc, List, [], ◌∷◌, ◌++◌, map, filter, flat_map, Bool, true, false, not, bytes_eq, Option, Some, None, refl, sym, ap, ◌∙◌}
 use Rattle.std.proofs.lemmas.Bool.{cases_Bool}
 use Rattle.std.proofs.lemmas.Slice.Eq.{bytes_eq-Decides}
 use Rattle.std.specs.List.{list_any}
@@ -12,14 +12,14 @@ use Rattle.document_rules.specs.Sites.{Meaning, no_position, no_such_field, name
 use Rattle.plan_model.specs.SelectedFields.{Setting, FieldCall, HandedSize, Place, leaf_place, object_place, types_of, place_at, arguments_at, arguments_of, if_coerced, refusal_of, form_at, size_at, size_answer_at, weight_at, cost_at, hands_at}
 use Rattle.plan_model.specs.Collecting.{CollectedField, WrittenSelections, fields_written, fields_spread, collected, nesting}
 use Rattle.plan_model.specs.SameArguments.{same_arguments}
-use Rattle.plan_model.specs.Merging.{Position, keys_from, keys_of, has_key, first_call, selections_below, asks, selected_by, keys_at, call_under, selected_under, below_key}
+use Rattle.plan_model.specs.Merging.{Position, keys_from, keys_of, has_key, first_call, selections_below, asks, selected_by, call_under, below_key}
 use Rattle.plan_model.specs.Plans.{with_capped, type_weight}
-use Rattle.plan_model.specs.Visits.{NodeFault, refused_argument, argument_fault, fault_of, Visit, visits_of, visits_of_key, visits_of_type, too_deep_at, deepest_visits, visits, planned_nodes, planned_types, planned_at, nothing_planned, planned}
-use Rattle.plan_model.specs.GivenAlike.{AreGivenAlike}
-use Rattle.plan_model.specs.Likeness.{HasLike, Thins, LooksLike}
+use Rattle.plan_model.specs.Visits.{refused_argument, argument_fault, fault_of, Visit, visits_of, visits_of_key, visits_of_type, too_deep_at, deepest_visits, visits, planned_nodes, planned_types, planned_at, nothing_planned, planned}
+use Rattle.plan_model.specs.GivenAlike.{AreGivenSame}
+use Rattle.plan_model.specs.Likeness.{HasLike, Thins, LooksSame}
 use Rattle.plan_model.specs.Numberings.{HasMark, IsItem, HaveMarks}
 use Rattle.plan_model.specs.Shortening.{with_fragments}
-use Rattle.plan_model.proofs.GivenArguments.{coerced_alike}
+use Rattle.plan_model.proofs.GivenArguments.{coerced_same}
 use Rattle.plan_model.proofs.LikeLists.{same_any_like, same_first_like, filtered_like, mapped_like, flattened_like}
 
 -- Of what is collected it doesn't matter which fragments there are.
@@ -29,8 +29,8 @@ bare e = with_fragments e []
 -- ---- a field of the same name that is given the same
 
 module _ (e : Setting) (T : ℕ) where
-  same_by_meaning : (m : Meaning) (written other : List NamedValue) → AreGivenAlike written other → arguments_of e m written ≡ arguments_of (bare e) m other
-  same_by_meaning (known_field field) written other given = coerced_alike e.schema field e.values written other given
+  same_by_meaning : (m : Meaning) (written other : List NamedValue) → AreGivenSame e.values written other → arguments_of e m written ≡ arguments_of (bare e) m other
+  same_by_meaning (known_field field) written other given = coerced_same e.schema field e.values written other given
   same_by_meaning name_of_type written other given = refl
   same_by_meaning no_such_field written other given = refl
   same_by_meaning no_position written other given = refl
@@ -40,11 +40,11 @@ module _ (e : Setting) (T : ℕ) where
     pub name : c.name ≡ d.name
     pub arguments : arguments_at e T c ≡ arguments_at (bare e) T d
 
-  arguments_alike : (c d : FieldCall) → c.name ≡ d.name → AreGivenAlike c.arguments d.arguments → arguments_at e T c ≡ arguments_at (bare e) T d
+  arguments_alike : (c d : FieldCall) → c.name ≡ d.name → AreGivenSame e.values c.arguments d.arguments → arguments_at e T c ≡ arguments_at (bare e) T d
   unfolding arguments_at
   arguments_alike c d name given = ap (λ (n : List ℕ). arguments_of e (meaning_on e.schema (Some T) n) c.arguments) name ∙ same_by_meaning (meaning_on e.schema (Some T) d.name) c.arguments d.arguments given
 
-  same_call : (f g : CollectedField) → LooksLike e.schema f g → IsSameCall f.call g.call
+  same_call : (f g : CollectedField) → LooksSame e f g → IsSameCall f.call g.call
   same_call f g like = record { name = like.name; arguments = arguments_alike f.call g.call like.name like.given }
 
   module _ (c d : FieldCall) (same : IsSameCall c d) where
@@ -118,13 +118,13 @@ first_mapped f test (x ∷ xs) = ap (λ o. or_else (test (f x)) o) (first_mapped
 
 -- ---- the fields of one key, and what is listed for them
 
-module _ {I : Type 0} (e : Setting) (T : ℕ) (field : I → CollectedField) (R : CollectedField → I → Type 0) (like : (f : CollectedField) (i : I) → R f i → LooksLike e.schema f (field i)) (xs : List CollectedField) (is : List I) (t : Thins R [] xs is) where
+module _ {I : Type 0} (e : Setting) (T : ℕ) (field : I → CollectedField) (R : CollectedField → I → Type 0) (like : (f : CollectedField) (i : I) → R f i → LooksSame e f (field i)) (xs : List CollectedField) (is : List I) (t : Thins R [] xs is) where
   abbrev listed : List CollectedField
   listed = map field is
 
   first_same_call : (xs : List CollectedField) (is : List I) → Thins R [] xs is → IsSameCall e T (first_call xs) (first_call (map field is))
   unfolding arguments_at
-  first_same_call [] [] t = record { name = refl; arguments = same_by_meaning e T (meaning_on e.schema (Some T) []) [] [] (λ values. refl) }
+  first_same_call [] [] t = record { name = refl; arguments = same_by_meaning e T (meaning_on e.schema (Some T) []) [] [] refl }
   first_same_call [] (i ∷ is) t = absurd t
   first_same_call (x ∷ xs) [] t = absurd t.0
   first_same_call (x ∷ xs) (i ∷ is) (inl stays) = same_call e T x (field i) (like x i stays.0)
@@ -133,7 +133,7 @@ module _ {I : Type 0} (e : Setting) (T : ℕ) (field : I → CollectedField) (R 
   pub same_first : IsSameCall e T (first_call xs) (first_call listed)
   same_first = first_same_call xs is t
 
-  any_same : (test other : CollectedField → Bool) → ((f g : CollectedField) → LooksLike e.schema f g → test f ≡ other g) → list_any test xs ≡ list_any other listed
+  any_same : (test other : CollectedField → Bool) → ((f g : CollectedField) → LooksSame e f g → test f ≡ other g) → list_any test xs ≡ list_any other listed
   any_same test other alike = same_any_like R test (λ i. other (field i)) (λ f i r. alike f (field i) (like f i r)) xs is t ∙ sym (any_mapped field other is)
 
   pub same_selected_by : (key : List ℕ) (handed : HandedSize) → selected_by e T key handed xs ≡ selected_by (bare e) T key handed listed

@@ -25,7 +25,7 @@ field_equal n m t u fs gs a b c = cc
 mutual
   unfolding same_value same_items same_fields
 
-  value_equal : (t u : CoercedTree) → same_value t u ≡ true → t ≡ u
+  pub value_equal : (t u : CoercedTree) → same_value t u ≡ true → t ≡ u
   value_equal coerced_null coerced_null h = refl
   value_equal coerced_null (coerced_integer y) h = absurd (cc)
   value_equal coerced_null (coerced_string y) h = absurd (cc)

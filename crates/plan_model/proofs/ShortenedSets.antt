@@ -1,5 +1,5 @@
 -- Shortened selections come to the same nodes, the same faults and the same plan, and are acyclic where the others are.
-use Rattle.std.proofs.Common.{◌≡◌, ◌⊎◌, inl, inr, ⊎_elim, ℕ, zero, suc, ◌+◌, ◌<◌, List, [], ◌∷◌, ◌++◌, map, length, find, Bool, true, false, not, bytes_eq, Option, Some, None, refl, sym, ap, ◌∙◌, subst, if◌then◌else◌}
+use Rattle.std.proofs.Common.{◌≡◌, inl, inr, ⊎_elim, ℕ, zero, suc, ◌+◌, ◌<◌, List, [], ◌∷◌, ◌++◌, map, length, Bool, true, false, bytes_eq, Option, Some, None, refl, sym, ap, ◌∙◌, subst, if◌then◌else◌}
 use Rattle.std.proofs.lemmas.Bool.{cases_Bool}
 use Rattle.std.proofs.lemmas.Option.{none-some, same_Some}
 use Rattle.gql_base.specs.ways.Reading.{Identifier}
@@ -10,13 +10,13 @@ use Rattle.schema_model.specs.SchemaData.{SchemaData}
 use Rattle.document_rules.specs.Parts.{FragmentData, fragment_name}
 use Rattle.document_rules.specs.Sites.{name_of_field, below_inline, composite_named, below_field, meaning_on}
 use Rattle.plan_model.specs.SelectedFields.{Setting, FieldCall, Place, written_below, is_asked}
-use Rattle.plan_model.specs.Collecting.{is_included, applies_by_name, applies_if_named, fragment_named, CollectedField, WrittenSelections, written_in, fields_of, fields_in, fields_written, fields_entered, fields_spread, nesting}
-use Rattle.plan_model.specs.Merging.{Position, selections_below}
-use Rattle.plan_model.specs.MergingWalk.{OneRanked, AreRanked, AllRanked, FragmentsRanked, IsAcyclic}
+use Rattle.plan_model.specs.Collecting.{is_included, applies_by_name, applies_if_named, fragment_named, CollectedField, WrittenSelections, fields_of, fields_in, fields_written, fields_entered, fields_spread, nesting}
+use Rattle.plan_model.specs.Merging.{selections_below}
+use Rattle.plan_model.specs.MergingWalk.{OneRanked, AreRanked, AllRanked, IsAcyclic}
 use Rattle.plan_model.specs.Visits.{visits, planned}
-use Rattle.plan_model.specs.Likeness.{HasLike, Thins, LooksLike}
-use Rattle.plan_model.specs.Numberings.{HasMark, IsItem, HaveMarks}
-use Rattle.plan_model.specs.Shortening.{IsSameName, IsSameType, HasSelection, Shortens, GoesBeside, Keeps, AreShortened, IsShortenedFragment, AreShortenedFragments, with_fragments, position_on, IsShorter}
+use Rattle.plan_model.specs.Likeness.{HasLike, Thins, LooksSame}
+use Rattle.plan_model.specs.Numberings.{HasMark, IsItem}
+use Rattle.plan_model.specs.Shortening.{IsSameType, HasSelection, Shortens, GoesBeside, Keeps, AreShortened, IsShortenedFragment, AreShortenedFragments, with_fragments, position_on, IsShorter}
 use Rattle.plan_model.proofs.Thinning.{Each}
 use Rattle.plan_model.proofs.LikeLists.{like_in_front, like_behind, each_in_more, each_has_like, leave_first, stay_first, seen_like, all_like}
 use Rattle.plan_model.proofs.MarkedNodes.{same_visits_marked, same_plan_marked}
@@ -67,7 +67,7 @@ module _ (e : Setting) (fragments : List FragmentData) (T : ℕ) (P : WrittenSel
   d = with_fragments e fragments
 
   abbrev IsLike : CollectedField → CollectedField → Type 0
-  IsLike f g = LooksLike e.schema f g × P (selections_below e f) (selections_below e g)
+  IsLike f g = LooksSame e f g × P (selections_below e f) (selections_below e g)
 
   where_both : (b : Bool) (xs ys : List CollectedField) → Thins IsLike [] xs ys → Thins IsLike [] (if b then xs else []) (if b then ys else [])
   where_both true xs ys t = t
@@ -217,8 +217,8 @@ module _ (e : Setting) (fragments : List FragmentData) (shorter : AreShortenedFr
       seen_like R (IsItem e short_items n) with_below (λ f g r. r) xs (fields_written short T (fields_spread short T (nesting short)) (parent, ts))
       (subst (λ (m : ℕ). Thins R [] xs (fields_written short T (fields_spread short T m) (parent, ts))) (sym nests_as_deep) (written_like T (HasMark e short_items n) (whole_marked n) (nesting e) parent ss ts h))
 
-  like_itself : (g : CollectedField) → LooksLike e.schema g g
-  like_itself g = record { key = refl; name = refl; given = λ values. refl; asked = refl }
+  like_itself : (g : CollectedField) → LooksSame short g g
+  like_itself g = record { key = refl; name = refl; given = refl; asked = refl }
 
   short_marked : (n : ℕ) (w : WrittenSelections) → HasMark short short_items n w w
   short_marked zero w = tt

@@ -19,5 +19,9 @@ GiveAlike vs ws = (values : Environment) → map (literal_given values) vs ≡ m
 abbrev pub IsGivenAlike : NamedValue → NamedValue → Type 0
 IsGivenAlike a b = (values : Environment) → given_argument values a ≡ given_argument values b
 
+-- the same beside these values of variables
+abbrev pub AreGivenSame : Environment → List NamedValue → List NamedValue → Type 0
+AreGivenSame values written other = map (given_argument values) written ≡ map (given_argument values) other
+
 abbrev pub AreGivenAlike : List NamedValue → List NamedValue → Type 0
-AreGivenAlike written other = (values : Environment) → map (given_argument values) written ≡ map (given_argument values) other
+AreGivenAlike written other = (values : Environment) → AreGivenSame values written other

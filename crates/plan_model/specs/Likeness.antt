@@ -1,10 +1,9 @@
 -- Lists where elements are left out that are like one before, and fields that are like one another wherever they stand.
-use Rattle.std.specs.Prelude.{◌≡◌, ◌⊎◌, ℕ, List, [], ◌∷◌}
-use Rattle.input_values.specs.coercion.Literals.{Environment}
+use Rattle.std.specs.Prelude.{◌≡◌, ◌⊎◌, List, [], ◌∷◌}
 use Rattle.schema_model.specs.SchemaData.{SchemaData}
-use Rattle.plan_model.specs.SelectedFields.{is_asked}
+use Rattle.plan_model.specs.SelectedFields.{Setting, is_asked}
 use Rattle.plan_model.specs.Collecting.{CollectedField}
-use Rattle.plan_model.specs.GivenAlike.{AreGivenAlike}
+use Rattle.plan_model.specs.GivenAlike.{AreGivenAlike, AreGivenSame}
 
 module _ {A B : Type 0} (R : A → B → Type 0) where
   -- The element is like one of the list.
@@ -26,6 +25,13 @@ pub record LooksLike (s : SchemaData) (f g : CollectedField) : Type 0 where
   pub name : f.call.name ≡ g.call.name
   pub given : AreGivenAlike f.call.arguments g.call.arguments
   pub asked : is_asked s f.parent f.call ≡ is_asked s g.parent g.call
+
+-- The same, where the same is given beside the variables of a setting.
+pub record LooksSame (e : Setting) (f g : CollectedField) : Type 0 where
+  pub key : f.key ≡ g.key
+  pub name : f.call.name ≡ g.call.name
+  pub given : AreGivenSame e.values f.call.arguments g.call.arguments
+  pub asked : is_asked e.schema f.parent f.call ≡ is_asked e.schema g.parent g.call
 
 -- Fields that are like those of another list, where later ones may be left out.
 abbrev pub AreLike : SchemaData → List CollectedField → List CollectedField → Type 0

@@ -4,18 +4,18 @@ use Rattle.std.specs.Prelude.{◌≡◌, ℕ, zero, suc, List, []}
 use Rattle.plan_model.specs.SelectedFields.{Setting}
 use Rattle.plan_model.specs.Collecting.{CollectedField, WrittenSelections, fields_written, fields_spread, nesting}
 use Rattle.plan_model.specs.Merging.{Position, selections_below}
-use Rattle.plan_model.specs.Likeness.{LooksLike, Thins}
+use Rattle.plan_model.specs.Likeness.{LooksSame, Thins}
 
 -- `items` are the fields that are listed for a mark and a type.
 module _ {K : Type 0} (e : Setting) (items : K → ℕ → List (CollectedField × K)) where
   -- To so many levels the selections come to what is listed for the mark.
   abbrev pub HasMark : ℕ → WrittenSelections → K → Type 0
   HasMark zero w k = Unit {0}
-  HasMark (suc n) w k = (T : ℕ) → Thins (λ (f : CollectedField) (i : CollectedField × K). LooksLike e.schema f i.0 × HasMark n (selections_below e f) i.1) [] (fields_written e T (fields_spread e T (nesting e)) w) (items k T)
+  HasMark (suc n) w k = (T : ℕ) → Thins (λ (f : CollectedField) (i : CollectedField × K). LooksSame e f i.0 × HasMark n (selections_below e f) i.1) [] (fields_written e T (fields_spread e T (nesting e)) w) (items k T)
 
   -- the field is like the one that is listed, and its selections come to what is listed for the mark of these
   abbrev pub IsItem : ℕ → CollectedField → CollectedField × K → Type 0
-  IsItem n f i = LooksLike e.schema f i.0 × HasMark n (selections_below e f) i.1
+  IsItem n f i = LooksSame e f i.0 × HasMark n (selections_below e f) i.1
 
   -- The selections of a position have these marks, of which repeats may be left out.
   abbrev pub HaveMarks : ℕ → List WrittenSelections → List K → Type 0

@@ -1,14 +1,15 @@
--- Selections without directives, without those that are left out, and without those that are written like one before.
-use Rattle.std.specs.Prelude.{◌≡◌, ◌⊎◌, ℕ, Bool, true, false, List, [], ◌∷◌, Option, None, Some}
+-- Selections without directives, without those that are left out, and without those that are written like one before, where the values
+-- of variables are these.
+use Rattle.std.specs.Prelude.{◌≡◌, ◌⊎◌, ℕ, true, false, List, [], ◌∷◌, Option, None, Some}
 use Rattle.gql_base.specs.ways.Reading.{Identifier}
 use Rattle.document_reader.specs.Documents.{FieldNames, SelectionTree, field_selection, fragment_spread, inline_fragment, SelectionTrees, no_selection, selection_then}
 use Rattle.input_values.specs.coercion.Literals.{Environment}
-use Rattle.document_rules.specs.Parts.{FragmentData, fragment_name}
+use Rattle.document_rules.specs.Parts.{FragmentData}
 use Rattle.document_rules.specs.Sites.{name_of_field}
 use Rattle.plan_model.specs.SelectedFields.{Setting}
 use Rattle.plan_model.specs.Collecting.{is_included}
 use Rattle.plan_model.specs.Merging.{Position}
-use Rattle.plan_model.specs.GivenAlike.{AreGivenAlike}
+use Rattle.plan_model.specs.GivenAlike.{AreGivenSame}
 
 -- ---- names, wherever they stand
 
@@ -39,7 +40,7 @@ module _ (values : Environment) where
   abbrev mutual
     -- The second selection is the first without directives, where what stands below it is shortened.
     pub Shortens : SelectionTree → SelectionTree → Type 0
-    Shortens (field_selection names arguments directives below) (field_selection others given marks inside) = (AreSameNames names others × AreGivenAlike arguments given) × ((marks ≡ []) × Keeps no_selection below inside)
+    Shortens (field_selection names arguments directives below) (field_selection others given marks inside) = (AreSameNames names others × AreGivenSame values arguments given) × ((marks ≡ []) × Keeps no_selection below inside)
     Shortens (field_selection names arguments directives below) (fragment_spread other marks) = ⊥
     Shortens (field_selection names arguments directives below) (inline_fragment other marks inside) = ⊥
     Shortens (fragment_spread name directives) (field_selection others given marks inside) = ⊥

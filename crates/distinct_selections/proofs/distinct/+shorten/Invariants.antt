@@ -5,4 +5,4 @@ use Rattle.plan_model.specs.Shortening.{AreShortened}
 use Rattle.distinct_selections.proofs.distinct.+shorten.Given as goal
 
 abbrev pub invariant-shorten_set-set : goal.invariant-shorten_set-set
-invariant-shorten_set-set l = AreShortened (environment l.variables) (set_tree (take l.selection-index l.selections)) (set_tree l.kept.selections.items)
+invariant-shorten_set-set l = AreShortened (environment l.stand_ins.variables.now) (set_tree (take l.selection-index l.selections)) (set_tree l.kept.selections.items)

@@ -6,4 +6,4 @@ use Rattle.plan_model.specs.Shortening.{AreShortenedFragments}
 use Rattle.distinct_selections.proofs.distinct.shorten_fragments.Given as goal
 
 abbrev pub invariant-loop-fragment : goal.invariant-loop-fragment
-invariant-loop-fragment l = AreShortenedFragments (environment l.variables) (map fragment_seen (take l.fragment-index l.fragments)) (map fragment_data l.shortened.items)
+invariant-loop-fragment l = AreShortenedFragments (environment l.stand_ins.variables.now) (map fragment_seen (take l.fragment-index l.fragments)) (map fragment_data l.shortened.items)
