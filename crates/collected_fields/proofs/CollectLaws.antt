@@ -1,8 +1,7 @@
 -- What is collected from prepared selection sets.
-use Rattle.std.proofs.Common.{◌≡◌, ◌+◌, ℕ, zero, suc, ◌<◌, List, [], ◌∷◌, ◌++◌, map, filter, flat_map, length, get_or, slice_get, None, Some, refl, sym, ap, ◌∙◌, subst, append-nil, if◌then◌else◌, Bool, true, false, not, ◌||◌, nat_eq, true≢false, arith}
+use Rattle.std.proofs.Common.{◌≡◌, ◌+◌, ℕ, zero, suc, ◌<◌, List, [], ◌∷◌, ◌++◌, map, filter, flat_map, length, get_or, slice_get, None, Some, refl, sym, ap, ◌∙◌, subst, append-nil, if◌then◌else◌, Bool, true, false, arith}
 use Rattle.std.specs.Prelude.{All}
-use Rattle.std.specs.List.{list_any}
-use Rattle.std.proofs.lemmas.Bool.{lt-ltb, eq-eqb}
+use Rattle.std.proofs.lemmas.Bool.{lt-ltb}
 use Rattle.std.proofs.lemmas.List.{length-map}
 use Rattle.std.proofs.lemmas.List.Elements.{All-head, All-tail, All-cons}
 use Rattle.std.proofs.lemmas.Option.{get_or_from_slice_get, none-some}
@@ -19,9 +18,8 @@ use Rattle.collected_fields.specs.Gathering.{IsReady, setting_at, written_at, se
 use Rattle.collected_fields.specs.Prepared.{ListData, EntryData, list_data, entry_data, written_of, IsListed, AreSound}
 use Rattle.collected_fields.specs.Lists.{lists_of_joins}
 use Rattle.collected_fields.specs.declared.reach.Reach.{Reach}
-use Rattle.collected_fields.specs.declared.looked.LookedAt.{LookedAt}
-use Rattle.collected_fields.specs.Reached.{reaches, AreMarked}
-use Rattle.collected_fields.specs.Reaching.{SetsCollectNothing, AreFoundFor, AreAllFoundFor, ReachesNumbers}
+use Rattle.collected_fields.specs.Reached.{reaches}
+use Rattle.collected_fields.specs.Reaching.{SetsCollectNothing, AreAllReached, ReachesNumbers}
 use Rattle.collected_fields.specs.Serving.{sets_of, Serve}
 use Rattle.collected_fields.specs.Walks.{NumberedField, WalkData, IsBlank, numbered_by_key, found_in, known_for, steps_at, walk_numbers}
 use Rattle.collected_fields.proofs.WalkLaws.{walked_numbers}
@@ -192,7 +190,7 @@ found_at c T numbers w v of_keys blank walks grouped = record {
     deep : length c.tables.planning.fragments.now + 2 ≡ nesting (setting_at c)
     deep = ap (λ n. n + 2) (sym (length-map c.tables.planning.fragments.now fragment_seen))
 
-pub ready_made : (c : Collector) → AreSound (setting_at c) (lists_of c) (entries_of c) → c.joins.count ≡ length c.tables.lists.items → lists_of_joins c.joins ≡ [] ∷ [] → ((T number : ℕ) → found_in c.kept T number ≡ None) → AreAllFoundFor c.tables c.joins c.reaches → IsReady c
+pub ready_made : (c : Collector) → AreSound (setting_at c) (lists_of c) (entries_of c) → c.joins.count ≡ length c.tables.lists.items → lists_of_joins c.joins ≡ [] ∷ [] → ((T number : ℕ) → found_in c.kept T number ≡ None) → AreAllReached c.tables c.joins c.reaches → IsReady c
 ready_made c sound counted one unkept found = is_ready c (record {
   sound = sound;
   counted = counted;
@@ -215,33 +213,10 @@ one_listed c written number ready h = (number_of_listed c (of_ready c ready) num
 
 -- ---- types that are left out
 
-either_false : (a b : Bool) → (a || not b) ≡ false → (a ≡ false) × (b ≡ true)
-either_false true b h = absurd (true≢false h)
-either_false false true h = (refl, refl)
-either_false false false h = absurd (true≢false h)
-
-or_false : (a : Bool) → (a || false) ≡ a
-or_false true = refl
-or_false false = refl
-
-filtered_alike : (f g : ℕ → Bool) (xs : List ℕ) → ((T : ℕ) → list_any (nat_eq T) xs ≡ true → f T ≡ g T) → filter f xs ≡ filter g xs
-filtered_alike f g [] alike = refl
-filtered_alike f g (x ∷ xs) alike =
-    let here : f x ≡ g x = alike x (ap (λ b. b || list_any (nat_eq x) xs) (eq-eqb x x refl)) in
-    let rest : filter f xs ≡ filter g xs = filtered_alike f g xs (λ T h. alike T (behind_too (nat_eq T x) (list_any (nat_eq T) xs) h)) in
-    ap (λ b. if b then x ∷ filter f xs else filter f xs) here ∙ ap (λ ys. if g x then x ∷ ys else ys) rest
-  where
-    behind_too : (a b : Bool) → b ≡ true → (a || b) ≡ true
-    behind_too true b h = refl
-    behind_too false b h = h
-
--- the types that are left out, where others are reached
-pub leaves_out : (c : Collector) (numbers types left : List ℕ) (looked : LookedAt) (reach : Reach) → left ≡ filter (reaches reach) types → AreMarked looked.current.marks.items types → (AreAllFoundFor c.tables c.joins c.reaches → AreAllFoundFor c.tables c.joins looked)
-    → (AreFoundFor c.tables c.joins looked.current → ReachesNumbers c.tables looked.current.marks.items c.joins numbers reach) → LeavesOutFieldless c numbers types left
-leaves_out c numbers types left looked reach is marked turned reached = record {
-  passes = λ T. reaches reach T || not (list_any (nat_eq T) types);
-  left_over = is ∙ sym (filtered_alike (λ T. reaches reach T || not (list_any (nat_eq T) types)) (reaches reach) types (λ T h. ap (λ b. reaches reach T || not b) h ∙ or_false (reaches reach T)));
-  fieldless = λ T missed ready acyclic object.
-      let parts = either_false (reaches reach T) (list_any (nat_eq T) types) missed in
-      no_fields c T (of_ready c ready) numbers (reached (turned (of_ready c ready).reached).0 T (record { type = object; marked = marked T parts.1 }) parts.0) acyclic;
+-- where others are reached
+pub leaves_out : (c : Collector) (numbers types left : List ℕ) (reach : Reach) → left ≡ filter (reaches reach) types → (AreAllReached c.tables c.joins c.reaches → ReachesNumbers c.tables c.joins numbers reach) → LeavesOutFieldless c numbers types left
+leaves_out c numbers types left reach is reached = record {
+  passes = reaches reach;
+  left_over = is;
+  fieldless = λ T missed ready acyclic object. no_fields c T (of_ready c ready) numbers (reached (of_ready c ready).reached T object missed) acyclic;
 }

@@ -14,18 +14,18 @@ use Rattle.collected_fields.specs.declared.collected.Group.{Group}
 use Rattle.collected_fields.specs.declared.collector.Collector.{Collector}
 use Rattle.collected_fields.specs.declared.findings.Findings.{Findings}
 use Rattle.collected_fields.specs.declared.joins.Joins.{Joins}
-use Rattle.collected_fields.specs.declared.looked.LookedAt.{LookedAt}
+use Rattle.collected_fields.specs.declared.reaching.AllReaches.{AllReaches}
 use Rattle.collected_fields.specs.declared.tables.Tables.{Tables}
 use Rattle.collected_fields.specs.Groups.{AreGroupsOf}
 use Rattle.collected_fields.specs.Gathering.{IsReady, setting_at, written_at, sets_at, meaning_at, IsNumber, position_at, ComesTo, ComesToAt, IsReadyCollector, Grows, groups_seen, IsGroupAt, AreFoundAt, GivesGroups}
 use Rattle.collected_fields.specs.Lists.{HasMore, AllFinish, HasNothing, AllShorten}
-use Rattle.collected_fields.specs.Reaching.{AreAllFoundFor}
+use Rattle.collected_fields.specs.Reaching.{AreAllReached}
 use Rattle.collected_fields.specs.Serving.{number_alone, Serve, ComeTo}
 use Rattle.collected_fields.specs.Views.{collected_field}
 use Rattle.collected_fields.specs.Walks.{NumberedField, field_alone, numbered_of_key, numbered_by_key, found_in, KeepsOne}
 use Rattle.collected_fields.proofs.CollectLaws.{of_ready, is_ready}
 use Rattle.collected_fields.proofs.KeyLaws.{AreFilledFor, all_filled_for}
-use Rattle.collected_fields.proofs.ReachingLaws.{all_found_still}
+use Rattle.collected_fields.proofs.ReachingLaws.{reached_still}
 use Rattle.collected_fields.proofs.ListLaws.{more_itself, more_again, still_numbers, still_nothing, all_finish_still}
 use Rattle.collected_fields.proofs.ServingLaws.{serve_still, filled_too, AreFinished, groups_finished, AllShorter, all_shorter}
 
@@ -37,10 +37,10 @@ same_written c d same = ap (λ (t : Tables). written_at (record { tables = t; jo
 
 -- What was found of selection sets and lists stays right.
 abbrev pub StayRight : Collector → Collector → Type 0
-StayRight c d = AreAllFoundFor c.tables c.joins c.reaches → AreAllFoundFor c.tables c.joins d.reaches
+StayRight c d = AreAllReached c.tables c.joins c.reaches → AreAllReached c.tables c.joins d.reaches
 
 pub same_reached : (c d : Collector) → d.reaches ≡ c.reaches → StayRight c d
-same_reached c d same right = subst (λ (r : LookedAt). AreAllFoundFor c.tables c.joins r) (sym same) right
+same_reached c d same right = subst (λ (r : AllReaches). AreAllReached c.tables c.joins r) (sym same) right
 
 pub ready_same : (c d : Collector) → d.tables ≡ c.tables → d.joins ≡ c.joins → d.kept ≡ c.kept → StayRight c d → IsReadyCollector c → IsReadyCollector d
 unfolding written_at
@@ -119,7 +119,7 @@ ready_more c d tables kept reaches count more ready = record {
   kept = λ T number fields found.
       let here = ready.kept T number fields (ap (λ (k : Findings). found_in k T number) (sym kept) ∙ found) in
       ((more number here.0).0, comes_still c d tables more T (number ∷ []) fields (one_number c number here.0) here.1);
-  reached = all_found_still d.tables c.joins d.joins d.reaches more same_sound.reached;
+  reached = reached_still d.tables c.joins d.joins d.reaches more same_sound.reached;
 }
   where
     same_sound : IsReadyCollector (record { tables = d.tables; joins = c.joins; kept = c.kept; walk = c.walk; met = c.met; reaches = d.reaches })
@@ -141,7 +141,7 @@ ready_kept c d T number new tables joins reaches adds there comes ready = record
       subst (λ (p : ℕ). IsNumber d p × ComesToAt d U (p ∷ []) found) (sym is.1) (subst (λ (V : ℕ). IsNumber d number × ComesToAt d V (number ∷ []) found) (sym is.0)
       (subst (λ (ns : List NumberedField). IsNumber d number × ComesToAt d T (number ∷ []) ns) (sym is.2) ((more number there).0, comes_still c d tables more T (number ∷ []) new (one_number c number there) comes))))
       (adds U place found h);
-  reached = subst (λ (j : Joins). AreAllFoundFor d.tables j d.reaches) (sym joins) same.reached;
+  reached = subst (λ (j : Joins). AreAllReached d.tables j d.reaches) (sym joins) same.reached;
 }
   where
     more : HasMore c.joins d.joins

@@ -15,3 +15,4 @@ pub mod MissedTypes
 pub mod ReachingLaws
 pub mod AlikeLaws
 pub mod JoinLaws
+pub mod SpreadLaws

@@ -1,15 +1,15 @@
 -- Types that are missed, and those that are among others.
-use Rattle.std.proofs.Common.{◌≡◌, ◌⊎◌, inl, inr, ⊎_elim, ◌<◌, ◌≤◌, ◌+◌, ℕ, zero, suc, List, [], ◌∷◌, ◌++◌, map, filter, drop, length, get_or, slice_set, Bool, true, false, true≢false, ◌||◌, nat_eq, Option, Some, None, refl, sym, ap, ◌∙◌, subst, append_assoc, append-nil}
+use Rattle.std.proofs.Common.{◌≡◌, ◌⊎◌, inl, inr, ⊎_elim, ◌<◌, ◌≤◌, ◌+◌, ℕ, zero, suc, List, [], ◌∷◌, ◌++◌, map, filter, drop, length, get_or, slice_set, Bool, true, false, true≢false, ◌&&◌, ◌||◌, nat_eq, Option, Some, None, refl, sym, ap, ◌∙◌, subst, append_assoc, append-nil, arith}
 use Rattle.std.specs.List.{list_any}
-use Rattle.std.proofs.lemmas.Bool.{eq-eqb, eqb-true}
-use Rattle.std.proofs.lemmas.List.{drop_all, drop_more}
+use Rattle.std.proofs.lemmas.Bool.{cases_lt, eq-eqb, ne_eqb}
+use Rattle.std.proofs.lemmas.List.{drop_all, get_or_past}
 use Rattle.std.proofs.lemmas.Option.{same_Some}
 use Rattle.gql_base.proofs.Lists.{at_front}
 use Rattle.input_values.specs.declared.inputs.shape.TypeId.{TypeId}
 use Rattle.schema_model.specs.Numbers.{type_number}
 use Rattle.schema_model.specs.SchemaData.{SchemaData, applies, possible, IsPossibleType}
 use Rattle.schema_model.proofs.PossibleLaws.{possible_iff}
-use Rattle.collected_fields.specs.Reached.{IsObjectType, is_marked_in, AreMarked}
+use Rattle.collected_fields.specs.Reached.{IsObjectType, is_marked_in}
 
 -- ---- types to which a condition applies
 
@@ -20,7 +20,7 @@ module _ (s : SchemaData) (on : ℕ) where
       let there : IsPossibleType s on x.number = (possible_iff s on x.number).0 (subst (λ (ns : List ℕ). list_any (nat_eq x.number) ns ≡ true) is (ap (λ b. b || list_any (nat_eq x.number) (map type_number types)) (eq-eqb x.number x.number refl))) in
       there.condition
 
-  pub not_possible : (types : List TypeId) (T : ℕ) → map type_number types ≡ possible s on → (length types ≡ 0 → ⊥) → IsObjectType s T → list_any (nat_eq T) (map type_number types) ≡ false → applies s on T ≡ false
+  not_possible : (types : List TypeId) (T : ℕ) → map type_number types ≡ possible s on → (length types ≡ 0 → ⊥) → IsObjectType s T → list_any (nat_eq T) (map type_number types) ≡ false → applies s on T ≡ false
   not_possible types T is some object missing = unless (applies s on T) refl
     where
       unless : (b : Bool) → applies s on T ≡ b → applies s on T ≡ false
@@ -28,6 +28,17 @@ module _ (s : SchemaData) (on : ℕ) where
           let there : IsPossibleType s on T = record { condition = some_possible types is some; type = object.there; object = object.object; applies_there = h } in
           absurd (true≢false (sym ((possible_iff s on T).1 there) ∙ (ap (list_any (nat_eq T)) (sym is) ∙ missing)))
       unless false h = h
+
+  pub missed_where : (types : List TypeId) (T : ℕ) (b : Bool) → map type_number types ≡ possible s on → (length types ≡ 0 → ⊥) → IsObjectType s T → (b && list_any (nat_eq T) (map type_number types)) ≡ false → applies s on T ≡ true → b ≡ false
+  missed_where types T b is some object missing applied = unless (list_any (nat_eq T) (map type_number types)) refl
+    where
+      both : (a : Bool) → (a && true) ≡ false → a ≡ false
+      both true h = h
+      both false h = refl
+
+      unless : (x : Bool) → list_any (nat_eq T) (map type_number types) ≡ x → b ≡ false
+      unless true h = both b (ap (λ x. b && x) (sym h) ∙ missing)
+      unless false h = absurd (true≢false (sym applied ∙ not_possible types T is some object h))
 
 -- ---- types among others
 
@@ -58,26 +69,27 @@ module _ (passes : ℕ → Bool) (types : List TypeId) where
 
 -- ---- types that are marked
 
-module _ (marks : List Bool) (types : List TypeId) where
-  -- It is marked, or among those that are left.
-  abbrev pub IsMarkedOrLeft : ℕ → ℕ → Type 0
-  IsMarkedOrLeft at T = (is_marked_in marks T ≡ true) ⊎ (list_any (nat_eq T) (map type_number (drop at types)) ≡ true)
+pub unmarked_pushed : (marks : List Bool) (T : ℕ) → is_marked_in (marks ++ (false ∷ [])) T ≡ is_marked_in marks T
+unmarked_pushed [] zero = refl
+unmarked_pushed [] (suc T) = refl
+unmarked_pushed (m ∷ marks) zero = refl
+unmarked_pushed (m ∷ marks) (suc T) = unmarked_pushed marks T
 
-  pub marked_next : (at : ℕ) (d : TypeId) (T : ℕ) → at < length types → is_marked_in marks (get_or types at d).number ≡ true → IsMarkedOrLeft at T → IsMarkedOrLeft (at + 1) T
-  marked_next at d T here marked before = ⊎_elim
-      (λ (done : is_marked_in marks T ≡ true). inl done)
-      (λ (left : list_any (nat_eq T) (map type_number (drop at types)) ≡ true). first (nat_eq T (get_or types at d).number) refl (ap (λ (ts : List TypeId). list_any (nat_eq T) (map type_number ts)) (sym (drop_more types at d here)) ∙ left))
-      before
-    where
-      first : (b : Bool) → nat_eq T (get_or types at d).number ≡ b → list_any (nat_eq T) ((get_or types at d).number ∷ map type_number (drop (at + 1) types)) ≡ true → IsMarkedOrLeft (at + 1) T
-      first true same h = inl (subst (λ n. is_marked_in marks n ≡ true) (sym (eqb-true T (get_or types at d).number same)) marked)
-      first false other h = inr (ap (λ b. b || list_any (nat_eq T) (map type_number (drop (at + 1) types))) (sym other) ∙ h)
+pub one_marked : (marks : List Bool) (number T : ℕ) → number < length marks → is_marked_in (slice_set marks number true) T ≡ false → (is_marked_in marks T ≡ false) × (nat_eq T number ≡ false)
+one_marked marks number T less h = let found = unmarked marks number T less h in (found.0, ne_eqb T number found.1)
+  where
+    unmarked : (marks : List Bool) (number T : ℕ) → number < length marks → is_marked_in (slice_set marks number true) T ≡ false → (is_marked_in marks T ≡ false) × (T ≡ number → ⊥)
+    unmarked [] number T less h = absurd (omega (arith, less))
+    unmarked (m ∷ marks) zero zero less h = absurd (true≢false h)
+    unmarked (m ∷ marks) zero (suc T) less h = (h, λ same. omega (arith, same))
+    unmarked (m ∷ marks) (suc number) zero less h = (h, λ same. omega (arith, same))
+    unmarked (m ∷ marks) (suc number) (suc T) less h = let found = unmarked marks number T (omega (arith, less)) h in (found.0, λ same. found.1 (omega (arith, same)))
 
-  pub all_marked : (at : ℕ) → length types ≤ at → ((T : ℕ) → list_any (nat_eq T) (map type_number types) ≡ true → IsMarkedOrLeft at T) → AreMarked marks (map type_number types)
-  all_marked at past so_far T h = ⊎_elim
-      (λ (done : is_marked_in marks T ≡ true). done)
-      (λ (left : list_any (nat_eq T) (map type_number (drop at types)) ≡ true). absurd (true≢false (sym left ∙ ap (λ ts. list_any (nat_eq T) (map type_number ts)) (drop_all at types past))))
-      (so_far T h)
+pub unmarked_so_far : (marks : List Bool) (at T : ℕ) → length marks ≤ at → (T < at → is_marked_in marks T ≡ false) → is_marked_in marks T ≡ false
+unmarked_so_far marks at T past so_far = ⊎_elim
+    (λ (less : T < at). so_far less)
+    (λ (behind : at ≤ T). get_or_past marks T false (omega (arith, past, behind)))
+    (cases_lt T at)
 
 -- ---- what is kept at places
 

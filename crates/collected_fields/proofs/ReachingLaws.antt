@@ -9,14 +9,12 @@ use Rattle.schema_model.specs.SchemaViews.{schema_data}
 use Rattle.plan_model.specs.Collecting.{applies_where}
 use Rattle.collected_fields.specs.declared.joins.Joins.{Joins}
 use Rattle.collected_fields.specs.declared.reach.Reach.{Reach}
-use Rattle.collected_fields.specs.declared.looked.LookedAt.{LookedAt}
-use Rattle.collected_fields.specs.declared.looked.LookedFor.{LookedFor}
 use Rattle.collected_fields.specs.declared.reaching.AllReaches.{AllReaches}
 use Rattle.collected_fields.specs.declared.reaching.Reaches.{Reaches}
 use Rattle.collected_fields.specs.declared.tables.Tables.{Tables}
 use Rattle.collected_fields.specs.Prepared.{EntryData, list_data, entry_data}
-use Rattle.collected_fields.specs.Reached.{IsLookedFor, reaches, Misses, MissesMore, MissesWhere}
-use Rattle.collected_fields.specs.Reaching.{steps_listed, enter_plain, CollectNothing, FragmentCollectsNothing, SetsCollectNothing, Passes, Reaching, ReachesSteps, ReachesStep, ReachesFragment, ReachesWhere, ReachesSets, found_of, AreReached, AreListsReached, AreAllReached, AreAllFoundFor, FindsOne}
+use Rattle.collected_fields.specs.Reached.{IsObjectType, reaches, Misses, MissesMore, MissesWhere}
+use Rattle.collected_fields.specs.Reaching.{steps_listed, enter_plain, CollectNothing, FragmentCollectsNothing, SetsCollectNothing, Passes, Reaching, ReachesSteps, ReachesStep, ReachesFragment, ReachesWhere, ReachesSets, found_of, AreReached, AreListsReached, AreAllReached, FindsOne}
 use Rattle.collected_fields.specs.Lists.{lists_of_joins, sets_in_joins, IsNumberIn, HasMore}
 use Rattle.collected_fields.specs.Serving.{sets_of}
 use Rattle.collected_fields.specs.declared.steps.Step.{Step}
@@ -110,19 +108,19 @@ module _ (t : Tables) (T : ℕ) where
 
 -- ---- what is missed
 
-module _ (t : Tables) (marks : List Bool) where
+module _ (t : Tables) where
   -- nothing more
-  pub still_missed : (r : Reach) (Nothing : ℕ → Type 0) → ((T : ℕ) → Nothing T) → Reaching t marks r r Nothing
+  pub still_missed : (r : Reach) (Nothing : ℕ → Type 0) → ((T : ℕ) → Nothing T) → Reaching t r r Nothing
   still_missed r Nothing all T object misses = (misses, all T)
 
   -- where no type is missed
-  pub none_missed : (old new : Reach) (Nothing : ℕ → Type 0) → ((T : ℕ) → reaches new T ≡ true) → Reaching t marks old new Nothing
+  pub none_missed : (old new : Reach) (Nothing : ℕ → Type 0) → ((T : ℕ) → reaches new T ≡ true) → Reaching t old new Nothing
   none_missed old new Nothing every T object misses = absurd (true≢false (sym (every T) ∙ misses))
 
-  pub spread_reached : (old new : Reach) (number : ℕ) (rest : List StepData) → ReachesFragment t marks old new number → ReachesStep t marks old new (spread_step number) rest 0
+  pub spread_reached : (old new : Reach) (number : ℕ) (rest : List StepData) → ReachesFragment t old new number → ReachesStep t old new (spread_step number) rest 0
   spread_reached old new number rest h T object misses = let here = h T object misses in (here.0, spread_passes t T number rest here.1)
 
-  pub inline_reached : (old new none under : Reach) (on count : ℕ) (rest : List Step) → count ≤ length rest → ReachesSteps t marks none under (map step_data (take count rest)) → MissesWhere (schema_data t.planning.schema.now) marks on old new under → ReachesStep t marks old new (inline_step on count) (map step_data rest) count
+  pub inline_reached : (old new none under : Reach) (on count : ℕ) (rest : List Step) → count ≤ length rest → ReachesSteps t none under (map step_data (take count rest)) → MissesWhere (schema_data t.planning.schema.now) on old new under → ReachesStep t old new (inline_step on count) (map step_data rest) count
   inline_reached old new none under on count rest within inside h T object misses =
       let here = h T object misses in (
         here.0,
@@ -135,44 +133,44 @@ module _ (t : Tables) (marks : List Bool) where
       taken (suc n) [] = refl
       taken (suc n) (x ∷ xs) = ap (λ ys. step_data x ∷ ys) (taken n xs)
 
-  pub fragment_reached : (old new : Reach) (number on set : ℕ) → slice_get (map entry_data t.entries.items) number ≡ Some (Some on, set) → ReachesWhere t marks old new on set → ReachesFragment t marks old new number
+  pub fragment_reached : (old new : Reach) (number on set : ℕ) → slice_get (map entry_data t.entries.items) number ≡ Some (Some on, set) → ReachesWhere t old new on set → ReachesFragment t old new number
   fragment_reached old new number on set there h T object misses = let here = h T object misses in (here.0, fragment_nothing t T number (Some on, set) there here.1)
 
   pub fragment_on_none : (number set : ℕ) → slice_get (map entry_data t.entries.items) number ≡ Some (None, set) → (T : ℕ) → FragmentCollectsNothing t T number
   fragment_on_none number set there T = fragment_nothing t T number (None, set) there (λ applied. absurd (true≢false (sym applied)))
 
-  pub where_reached : (old new other : Reach) (on set : ℕ) (found : Reaches) → AreReached t marks found → found_of found set ≡ Some other → MissesWhere (schema_data t.planning.schema.now) marks on old new other → ReachesWhere t marks old new on set
+  pub where_reached : (old new other : Reach) (on set : ℕ) (found : Reaches) → AreReached t found → found_of found set ≡ Some other → MissesWhere (schema_data t.planning.schema.now) on old new other → ReachesWhere t old new on set
   where_reached old new other on set found right is h T object misses = let here = h T object misses in (here.0, λ applied. right set other is T object (here.1 applied))
 
-  pub set_reached : (old new other : Reach) (set : ℕ) (found : Reaches) → AreReached t marks found → found_of found set ≡ Some other → MissesMore old new (reaches other) → ReachesSets t marks old new (set ∷ [])
+  pub set_reached : (old new other : Reach) (set : ℕ) (found : Reaches) → AreReached t found → found_of found set ≡ Some other → MissesMore old new (reaches other) → ReachesSets t old new (set ∷ [])
   set_reached old new other set found right is h T object misses = let here = h T misses in (here.0, (right set other is T object here.1, tt))
 
   -- what was found of a selection set is right
-  pub found_right : (old new : Reaches) (none reach : Reach) (set : ℕ) → AreReached t marks old → FindsOne old new set reach → ReachesSets t marks none reach (set ∷ []) → AreReached t marks new
+  pub found_right : (old new : Reaches) (none reach : Reach) (set : ℕ) → AreReached t old → FindsOne old new set reach → ReachesSets t none reach (set ∷ []) → AreReached t new
   found_right old new none reach set right one reached place r h T object misses = ⊎_elim
       (λ (before : found_of old place ≡ Some r). right place r before T object misses)
       (λ (is : (place ≡ set) × (r ≡ reach)). subst (λ (p : ℕ). CollectNothing t T (steps_listed t T p)) (sym is.0) (reached T object (subst (λ (x : Reach). Misses x T) is.1 misses)).1.0)
       (one place r h)
 
   -- what was found of lists
-  pub lists_right : (j : Joins) (old new : Reaches) (none reach : Reach) (number : ℕ) (sets : List ℕ) → AreListsReached t marks j old → FindsOne old new number reach → IsNumberIn j number → sets ≡ sets_in_joins j number → ReachesSets t marks none reach sets → AreListsReached t marks j new
+  pub lists_right : (j : Joins) (old new : Reaches) (none reach : Reach) (number : ℕ) (sets : List ℕ) → AreListsReached t j old → FindsOne old new number reach → IsNumberIn j number → sets ≡ sets_in_joins j number → ReachesSets t none reach sets → AreListsReached t j new
   lists_right j old new none reach number sets right one there is reached place r h = ⊎_elim
       (λ (before : found_of old place ≡ Some r). right place r before)
-      (λ (new_one : (place ≡ number) × (r ≡ reach)). subst (λ (p : ℕ). IsNumberIn j p × ((T : ℕ) → IsLookedFor (schema_data t.planning.schema.now) marks T → Misses r T → SetsCollectNothing t T (sets_in_joins j p))) (sym new_one.0)
+      (λ (new_one : (place ≡ number) × (r ≡ reach)). subst (λ (p : ℕ). IsNumberIn j p × ((T : ℕ) → IsObjectType (schema_data t.planning.schema.now) T → Misses r T → SetsCollectNothing t T (sets_in_joins j p))) (sym new_one.0)
       (there, λ T object misses. subst (λ (xs : List ℕ). SetsCollectNothing t T xs) is (reached T object (subst (λ (x : Reach). Misses x T) new_one.1 misses)).1))
       (one place r h)
 
-  pub list_reached : (j : Joins) (old new other : Reach) (number : ℕ) (found : Reaches) → AreListsReached t marks j found → found_of found number ≡ Some other → MissesMore old new (reaches other) → ReachesSets t marks old new (sets_in_joins j number)
+  pub list_reached : (j : Joins) (old new other : Reach) (number : ℕ) (found : Reaches) → AreListsReached t j found → found_of found number ≡ Some other → MissesMore old new (reaches other) → ReachesSets t old new (sets_in_joins j number)
   list_reached j old new other number found right is h T object misses = let here = h T misses in (here.0, (right number other is).1 T object here.1)
 
   -- nothing was found
-  pub none_found : (j : Joins) (all : AllReaches) → ((set : ℕ) → found_of all.sets set ≡ None) → ((number : ℕ) → found_of all.lists number ≡ None) → AreAllReached t marks j all
+  pub none_found : (j : Joins) (all : AllReaches) → ((set : ℕ) → found_of all.sets set ≡ None) → ((number : ℕ) → found_of all.lists number ≡ None) → AreAllReached t j all
   none_found j all no_sets no_lists = record {
     sets = λ set reach h. absurd (none-some reach (sym (no_sets set) ∙ h));
     lists = λ number reach h. absurd (none-some reach (sym (no_lists number) ∙ h));
   }
 
-  pub reached_still : (a b : Joins) (all : AllReaches) → HasMore a b → AreAllReached t marks a all → AreAllReached t marks b all
+  pub reached_still : (a b : Joins) (all : AllReaches) → HasMore a b → AreAllReached t a all → AreAllReached t b all
   reached_still a b all more right = record {
     sets = right.sets;
     lists = λ number reach h.
@@ -182,31 +180,31 @@ module _ (t : Tables) (marks : List Bool) where
   }
 
   -- of sets alone more was found
-  pub more_sets : (j : Joins) (old new : AllReaches) → new.lists ≡ old.lists → (AreReached t marks old.sets → AreReached t marks new.sets) → AreAllReached t marks j old → AreAllReached t marks j new
-  more_sets j old new same still right = record { sets = still right.sets; lists = subst (λ (r : Reaches). AreListsReached t marks j r) (sym same) right.lists }
+  pub more_sets : (j : Joins) (old new : AllReaches) → new.lists ≡ old.lists → (AreReached t old.sets → AreReached t new.sets) → AreAllReached t j old → AreAllReached t j new
+  more_sets j old new same still right = record { sets = still right.sets; lists = subst (λ (r : Reaches). AreListsReached t j r) (sym same) right.lists }
 
   -- of sets more was found, and then of a list
-  pub list_more : (j : Joins) (old new : AllReaches) (none reach : Reach) (number : ℕ) (sets : List ℕ) → (AreReached t marks old.sets → AreReached t marks new.sets) → FindsOne old.lists new.lists number reach → IsNumberIn j number → sets ≡ sets_in_joins j number → (AreReached t marks old.sets → ReachesSets t marks none reach sets)
-      → AreAllReached t marks j old → AreAllReached t marks j new
+  pub list_more : (j : Joins) (old new : AllReaches) (none reach : Reach) (number : ℕ) (sets : List ℕ) → (AreReached t old.sets → AreReached t new.sets) → FindsOne old.lists new.lists number reach → IsNumberIn j number → sets ≡ sets_in_joins j number → (AreReached t old.sets → ReachesSets t none reach sets)
+      → AreAllReached t j old → AreAllReached t j new
   list_more j old new none reach number sets still one there is adds right = record {
     sets = still right.sets;
     lists = lists_right j old.lists new.lists none reach number sets right.lists one there is (adds right.sets);
   }
 
   -- the set of a number that is that of a set
-  pub own_set : (j : Joins) (old new : Reach) (number : ℕ) → number < j.count → ReachesSets t marks old new (number ∷ []) → ReachesSets t marks old new (sets_in_joins j number)
-  own_set j old new number less h = subst (λ (xs : List ℕ). ReachesSets t marks old new xs) (sym (alone j.count (lists_of_joins j) number less)) h
+  pub own_set : (j : Joins) (old new : Reach) (number : ℕ) → number < j.count → ReachesSets t old new (number ∷ []) → ReachesSets t old new (sets_in_joins j number)
+  own_set j old new number less h = subst (λ (xs : List ℕ). ReachesSets t old new xs) (sym (alone j.count (lists_of_joins j) number less)) h
     where
       alone : (count : ℕ) (lists : List (List ℕ)) (n : ℕ) → n < count → sets_of count lists n ≡ n ∷ []
       alone count lists n below = rw (lt-ltb n count below) refl
 
   -- ---- steps one after another
 
-  pub begun : (xs : List StepData) (r : Reach) → Reaching t marks r r (λ T. Passes t T xs xs)
+  pub begun : (xs : List StepData) (r : Reach) → Reaching t r r (λ T. Passes t T xs xs)
   begun xs r T object misses = (misses, λ others h. h)
 
   pub next_reached : (steps : List Step) (at skip place : ℕ) (x : Step) (rest : List Step) (first old new : Reach) → at < length steps → x ≡ get_or steps at x → rest ≡ drop (at + 1) steps → (skip < length steps - at → place ≡ at + 1 + skip) → (length steps ≤ at + skip → place ≡ length steps)
-      → Reaching t marks first old (λ T. Passes t T (map step_data steps) (map step_data (drop at steps))) → ReachesStep t marks old new (step_data x) (map step_data rest) skip → Reaching t marks first new (λ T. Passes t T (map step_data steps) (map step_data (drop place steps)))
+      → Reaching t first old (λ T. Passes t T (map step_data steps) (map step_data (drop at steps))) → ReachesStep t old new (step_data x) (map step_data rest) skip → Reaching t first new (λ T. Passes t T (map step_data steps) (map step_data (drop place steps)))
   next_reached steps at skip place x rest first old new here is rest_is some all before step T object misses =
       let now = step T object misses in
       let so_far = before T object now.0 in (
@@ -220,11 +218,11 @@ module _ (t : Tables) (marks : List Bool) where
       dropped (suc n) [] = refl
       dropped (suc n) (y ∷ xs) = dropped n xs
 
-  pub steps_reached : (steps : List Step) (at : ℕ) (first now : Reach) → length steps ≤ at → Reaching t marks first now (λ T. Passes t T (map step_data steps) (map step_data (drop at steps))) → ReachesSteps t marks first now (map step_data steps)
+  pub steps_reached : (steps : List Step) (at : ℕ) (first now : Reach) → length steps ≤ at → Reaching t first now (λ T. Passes t T (map step_data steps) (map step_data (drop at steps))) → ReachesSteps t first now (map step_data steps)
   steps_reached steps at first now past so_far T object misses = let all = so_far T object misses in (all.0, subst (λ xs. Passes t T (map step_data steps) (map step_data xs)) (drop_all at steps past) all.1)
 
   -- the steps of a selection set
-  pub listed_reached : (old new : Reach) (set : ℕ) (steps : List StepData) → steps_at (map list_data t.lists.items) set ≡ steps → ReachesSteps t marks old new steps → ReachesSets t marks old new (set ∷ [])
+  pub listed_reached : (old new : Reach) (set : ℕ) (steps : List StepData) → steps_at (map list_data t.lists.items) set ≡ steps → ReachesSteps t old new steps → ReachesSets t old new (set ∷ [])
   listed_reached old new set steps is h T object misses =
       let here = h T object misses in
       (here.0, (subst (λ xs. CollectNothing t T xs) (sym is) (subst (λ xs. CollectNothing t T xs) (append-nil steps) (here.1 [] (none_at_end t T))), tt))
@@ -248,38 +246,31 @@ module _ (t : Tables) (marks : List Bool) where
       at_place (l ∷ lists) zero less here = ap (λ (x : SelectionList). map step_data x.steps.items) (sym here)
       at_place (l ∷ lists) (suc n) less here = at_place lists n (omega (arith, less)) here
 
-  pub none_listed : (r : Reach) (seen : List SelectionList) (set : ℕ) → seen ≡ t.lists.items → length seen ≤ set → ReachesSets t marks r r (set ∷ [])
+  pub none_listed : (r : Reach) (seen : List SelectionList) (set : ℕ) → seen ≡ t.lists.items → length seen ≤ set → ReachesSets t r r (set ∷ [])
   none_listed r seen set same past = listed_reached r r set [] (subst (λ (ls : List SelectionList). steps_at (map list_data ls) set ≡ []) same (steps_past seen set past)) (λ T object misses. (misses, λ others h. h))
 
   -- ---- sets one after another
 
-  pub next_set : (first old new : Reach) (sets : List ℕ) (at d : ℕ) → at < length sets → Reaching t marks first old (λ T. SetsCollectNothing t T (drop at sets) → SetsCollectNothing t T sets) → ReachesSets t marks old new (get_or sets at d ∷ []) → Reaching t marks first new (λ T. SetsCollectNothing t T (drop (at + 1) sets) → SetsCollectNothing t T sets)
+  pub next_set : (first old new : Reach) (sets : List ℕ) (at d : ℕ) → at < length sets → Reaching t first old (λ T. SetsCollectNothing t T (drop at sets) → SetsCollectNothing t T sets) → ReachesSets t old new (get_or sets at d ∷ []) → Reaching t first new (λ T. SetsCollectNothing t T (drop (at + 1) sets) → SetsCollectNothing t T sets)
   next_set first old new sets at d here before one T object misses =
       let now = one T object misses in
       let so_far = before T object now.0 in
       (so_far.0, λ others. so_far.1 (subst (λ xs. SetsCollectNothing t T xs) (sym (drop_more sets at d here)) (now.1.0, others)))
 
-  pub all_sets : (first now : Reach) (sets : List ℕ) (at : ℕ) → length sets ≤ at → Reaching t marks first now (λ T. SetsCollectNothing t T (drop at sets) → SetsCollectNothing t T sets) → ReachesSets t marks first now sets
+  pub all_sets : (first now : Reach) (sets : List ℕ) (at : ℕ) → length sets ≤ at → Reaching t first now (λ T. SetsCollectNothing t T (drop at sets) → SetsCollectNothing t T sets) → ReachesSets t first now sets
   all_sets first now sets at past so_far T object misses =
       let all = so_far T object misses in
       (all.0, all.1 (subst (λ xs. SetsCollectNothing t T xs) (sym (drop_all at sets past)) tt))
 
   module _ (of_number : ℕ → List ℕ) where
-    pub next_number : (first old new : Reach) (numbers : List ℕ) (at d : ℕ) → at < length numbers → Reaching t marks first old (λ T. SetsCollectNothing t T (flat_map of_number (drop at numbers)) → SetsCollectNothing t T (flat_map of_number numbers)) → ReachesSets t marks old new (of_number (get_or numbers at d))
-        → Reaching t marks first new (λ T. SetsCollectNothing t T (flat_map of_number (drop (at + 1) numbers)) → SetsCollectNothing t T (flat_map of_number numbers))
+    pub next_number : (first old new : Reach) (numbers : List ℕ) (at d : ℕ) → at < length numbers → Reaching t first old (λ T. SetsCollectNothing t T (flat_map of_number (drop at numbers)) → SetsCollectNothing t T (flat_map of_number numbers)) → ReachesSets t old new (of_number (get_or numbers at d))
+        → Reaching t first new (λ T. SetsCollectNothing t T (flat_map of_number (drop (at + 1) numbers)) → SetsCollectNothing t T (flat_map of_number numbers))
     next_number first old new numbers at d here before more T object misses =
         let now = more T object misses in
         let so_far = before T object now.0 in
         (so_far.0, λ others. so_far.1 (subst (λ xs. SetsCollectNothing t T (flat_map of_number xs)) (sym (drop_more numbers at d here)) (both_nothing t T (of_number (get_or numbers at d)) (flat_map of_number (drop (at + 1) numbers)) now.1 others)))
 
-    pub all_numbers : (first now : Reach) (numbers : List ℕ) (at : ℕ) → length numbers ≤ at → Reaching t marks first now (λ T. SetsCollectNothing t T (flat_map of_number (drop at numbers)) → SetsCollectNothing t T (flat_map of_number numbers)) → ReachesSets t marks first now (flat_map of_number numbers)
+    pub all_numbers : (first now : Reach) (numbers : List ℕ) (at : ℕ) → length numbers ≤ at → Reaching t first now (λ T. SetsCollectNothing t T (flat_map of_number (drop at numbers)) → SetsCollectNothing t T (flat_map of_number numbers)) → ReachesSets t first now (flat_map of_number numbers)
     all_numbers first now numbers at past so_far T object misses =
         let all = so_far T object misses in
         (all.0, all.1 (subst (λ xs. SetsCollectNothing t T (flat_map of_number xs)) (sym (drop_all at numbers past)) tt))
-
--- what was found of all types, where there are more lists
-pub all_found_still : (t : Tables) (a b : Joins) (looked : LookedAt) → HasMore a b → AreAllFoundFor t a looked → AreAllFoundFor t b looked
-all_found_still t a b looked more found = (
-  reached_still t looked.current.marks.items a b looked.current.all more found.0,
-  λ k d less. let one : LookedFor = get_or looked.others.items k d in reached_still t one.marks.items a b one.all more (found.1 k d less),
-)

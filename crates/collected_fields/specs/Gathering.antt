@@ -19,7 +19,7 @@ use Rattle.collected_fields.specs.Views.{setting_of_planning, collected_field}
 use Rattle.collected_fields.specs.Walks.{NumberedField, numbered_by_key, found_in}
 use Rattle.collected_fields.specs.Serving.{ComeTo}
 use Rattle.collected_fields.specs.Reached.{IsObjectType}
-use Rattle.collected_fields.specs.Reaching.{AreAllFoundFor}
+use Rattle.collected_fields.specs.Reaching.{AreAllReached}
 use Rattle.collected_fields.specs.Lists.{sets_in_joins, IsNumberIn, HasMore, HasNothing}
 use Rattle.collected_fields.specs.Groups.{GroupData, AreGroupsOf}
 
@@ -78,7 +78,7 @@ pub record IsReadyCollector (c : Collector) : Type 0 where
   pub counted : c.joins.count ≡ length c.tables.lists.items
   pub nothing : HasNothing c.joins
   pub kept : IsKeptRightly c
-  pub reached : AreAllFoundFor c.tables c.joins c.reaches
+  pub reached : AreAllReached c.tables c.joins c.reaches
 
 unfoldable pub IsReady : Collector → Type 0
 IsReady c = IsReadyCollector c

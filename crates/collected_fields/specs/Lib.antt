@@ -2,6 +2,7 @@
 pub mod Views
 pub mod Groups
 pub mod Gathering
+pub mod Alone
 -- The steps of a walk over a selection set, and what they stand for.
 pub mod Steps
 pub mod Prepared

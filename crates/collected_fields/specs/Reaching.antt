@@ -1,17 +1,15 @@
 -- Types of objects for which walks over steps collect nothing.
-use Rattle.std.specs.Prelude.{◌≡◌, ◌⊎◌, ℕ, true, Bool, List, [], ◌∷◌, ◌++◌, map, flat_map, drop, get_or, All, Option, None, Some}
+use Rattle.std.specs.Prelude.{◌≡◌, ◌⊎◌, ℕ, true, List, [], ◌∷◌, ◌++◌, map, flat_map, drop, get_or, Option, None, Some}
 use Rattle.schema_model.specs.SchemaData.{applies}
 use Rattle.schema_model.specs.SchemaViews.{schema_data}
 use Rattle.collected_fields.specs.declared.joins.Joins.{Joins}
 use Rattle.collected_fields.specs.declared.reach.Reach.{Reach}
 use Rattle.collected_fields.specs.declared.reaching.AllReaches.{AllReaches}
-use Rattle.collected_fields.specs.declared.looked.LookedFor.{LookedFor}
-use Rattle.collected_fields.specs.declared.looked.LookedAt.{LookedAt}
 use Rattle.collected_fields.specs.declared.reaching.Reaches.{Reaches}
 use Rattle.collected_fields.specs.declared.tables.Tables.{Tables}
 use Rattle.collected_fields.specs.Lists.{sets_in_joins, IsNumberIn}
 use Rattle.collected_fields.specs.Prepared.{list_data, entry_data}
-use Rattle.collected_fields.specs.Reached.{Misses, IsLookedFor}
+use Rattle.collected_fields.specs.Reached.{Misses, IsObjectType}
 use Rattle.collected_fields.specs.Steps.{StepData}
 use Rattle.collected_fields.specs.Walks.{WalkData, steps_at, walk_steps, walk_fragment}
 
@@ -40,10 +38,10 @@ module _ (t : Tables) (T : ℕ) where
   abbrev pub Passes : List StepData → List StepData → Type 0
   Passes xs ys = (others : List StepData) → CollectNothing (ys ++ others) → CollectNothing (xs ++ others)
 
--- What the new one misses of the types that are looked for, the old one missed, and there is nothing for objects of such a type.
-module _ (t : Tables) (marks : List Bool) (old new : Reach) where
+-- What the new one misses of types of objects, the old one missed, and there is nothing for objects of such a type.
+module _ (t : Tables) (old new : Reach) where
   abbrev pub Reaching : (ℕ → Type 0) → Type 0
-  Reaching Nothing = (T : ℕ) → IsLookedFor (schema_data t.planning.schema.now) marks T → Misses new T → Misses old T × Nothing T
+  Reaching Nothing = (T : ℕ) → IsObjectType (schema_data t.planning.schema.now) T → Misses new T → Misses old T × Nothing T
 
   -- in steps
   abbrev pub ReachesSteps : List StepData → Type 0
@@ -68,23 +66,16 @@ module _ (t : Tables) (marks : List Bool) (old new : Reach) where
 abbrev pub found_of : Reaches → ℕ → Option Reach
 found_of found set = get_or found.sets.items set None
 
-abbrev pub AreReached : Tables → List Bool → Reaches → Type 0
-AreReached t marks found = (set : ℕ) (reach : Reach) → found_of found set ≡ Some reach → (T : ℕ) → IsLookedFor (schema_data t.planning.schema.now) marks T → Misses reach T → CollectNothing t T (steps_listed t T set)
+abbrev pub AreReached : Tables → Reaches → Type 0
+AreReached t found = (set : ℕ) (reach : Reach) → found_of found set ≡ Some reach → (T : ℕ) → IsObjectType (schema_data t.planning.schema.now) T → Misses reach T → CollectNothing t T (steps_listed t T set)
 
 -- the same of lists of selection sets, by their numbers
-abbrev pub AreListsReached : Tables → List Bool → Joins → Reaches → Type 0
-AreListsReached t marks j found = (number : ℕ) (reach : Reach) → found_of found number ≡ Some reach → IsNumberIn j number × ((T : ℕ) → IsLookedFor (schema_data t.planning.schema.now) marks T → Misses reach T → SetsCollectNothing t T (sets_in_joins j number))
+abbrev pub AreListsReached : Tables → Joins → Reaches → Type 0
+AreListsReached t j found = (number : ℕ) (reach : Reach) → found_of found number ≡ Some reach → IsNumberIn j number × ((T : ℕ) → IsObjectType (schema_data t.planning.schema.now) T → Misses reach T → SetsCollectNothing t T (sets_in_joins j number))
 
-pub record AreAllReached (t : Tables) (marks : List Bool) (j : Joins) (all : AllReaches) : Type 0 where
-  pub sets : AreReached t marks all.sets
-  pub lists : AreListsReached t marks j all.lists
-
--- What was found was found of the types that are looked for.
-abbrev pub AreFoundFor : Tables → Joins → LookedFor → Type 0
-AreFoundFor t j looked = AreAllReached t looked.marks.items j looked.all
-
-abbrev pub AreAllFoundFor : Tables → Joins → LookedAt → Type 0
-AreAllFoundFor t j looked = AreFoundFor t j looked.current × All (AreFoundFor t j) looked.others.items
+pub record AreAllReached (t : Tables) (j : Joins) (all : AllReaches) : Type 0 where
+  pub sets : AreReached t all.sets
+  pub lists : AreListsReached t j all.lists
 
 -- What was found was found before, or is this of this number.
 abbrev pub FindsOne : Reaches → Reaches → ℕ → Reach → Type 0
@@ -95,5 +86,5 @@ abbrev pub sets_of_numbers : Joins → List ℕ → List ℕ
 sets_of_numbers j numbers = flat_map (sets_in_joins j) numbers
 
 -- It has the types of their selection sets.
-abbrev pub ReachesNumbers : Tables → List Bool → Joins → List ℕ → Reach → Type 0
-ReachesNumbers t marks j numbers reach = (T : ℕ) → IsLookedFor (schema_data t.planning.schema.now) marks T → Misses reach T → SetsCollectNothing t T (sets_of_numbers j numbers)
+abbrev pub ReachesNumbers : Tables → Joins → List ℕ → Reach → Type 0
+ReachesNumbers t j numbers reach = (T : ℕ) → IsObjectType (schema_data t.planning.schema.now) T → Misses reach T → SetsCollectNothing t T (sets_of_numbers j numbers)

@@ -8,7 +8,7 @@ use input_values::TypeId;
 use std::alloc::{AllocError, Global};
 use std::collections::BTreeMap;
 
-/// All that is kept has no more fields than this.
+/// So many fields and entries together are kept at most.
 const ROOM: usize = 1000000;
 
 /// The fields to which selection sets come, without those that change nothing, by the numbers of the sets and of the types.
@@ -72,10 +72,11 @@ impl<'a> Findings<'a> {
     ) -> Result<(), AllocError>
         ensures { KeepsOne self.old self.new of.number number (numbered_group fields.entry) }
     {
-        if self.room < fields.len() {
+        let size = fields.len().saturating_add(1);
+        if self.room < size {
             return Ok(());
         }
-        self.room -= fields.len();
+        self.room -= size;
         self.fields.insert((number, of.number), fields)?;
         self.know(number)
     }

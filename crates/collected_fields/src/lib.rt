@@ -2,6 +2,7 @@
 #![tactic(auto)]
 
 mod alike;
+mod alone;
 mod collected;
 mod collector;
 mod findings;
@@ -10,7 +11,6 @@ mod group;
 mod hashes;
 mod joins;
 mod key_hashing;
-mod looked;
 mod lookups;
 mod met;
 mod order;
@@ -18,6 +18,7 @@ mod planning;
 mod prepare;
 mod reach;
 mod reaching;
+mod room;
 mod source;
 mod state;
 mod steps;

@@ -5,13 +5,13 @@ ghost use Rattle.std.specs.List.{list_any};
 ghost use Rattle.schema_model.specs.Numbers.{type_number};
 ghost use Rattle.schema_model.specs.SchemaViews.{schema_data};
 ghost use Rattle.schema_model.specs.SchemaData.{applies};
-ghost use Rattle.collected_fields.specs.Reached.{reaches, Misses, is_marked_in, MissesMore, MissesApplied, MissesWhere};
+ghost use Rattle.collected_fields.specs.Reached.{reaches, Misses, is_marked_in, MissesMore, MissesPossible, MissesWhere};
 
 use input_values::TypeId;
 use schema_model::Schema;
 use std::alloc::{AllocError, Global};
 
-/// More types than these aren't told apart.
+/// So many types are listed, and more are marked.
 const FEW: usize = 16;
 
 /// The types of objects for which selections may have fields.
@@ -19,8 +19,8 @@ const FEW: usize = 16;
 pub enum Reach {
     /// All types.
     Every,
-    /// Few types.
-    These(Vec<TypeId>),
+    /// Few types that are listed, and others that are marked by their numbers.
+    These(Vec<TypeId>, Vec<bool>),
 }
 
 /// Whether a type is among others.
@@ -36,7 +36,7 @@ fn is_among(of: TypeId, types: &[TypeId]) -> bool
 }
 
 /// Whether a type is marked.
-pub fn is_marked_in(marks: &[bool], of: TypeId) -> bool
+fn is_marked_in(marks: &[bool], of: TypeId) -> bool
     ensures { result ≡ is_marked_in marks.now of.number }
 {
     match marks.get(of.number) {
@@ -45,21 +45,48 @@ pub fn is_marked_in(marks: &[bool], of: TypeId) -> bool
     }
 }
 
+/// Marks a type.
+fn mark(marks: &mut Vec<bool>, number: usize) -> Result<(), AllocError>
+    ensures { OnOk result ((T : ℕ) → is_marked_in marks.new.items T ≡ false → (is_marked_in marks.old.items T ≡ false) × (nat_eq T number ≡ false)) }
+{
+    while marks.len() <= number {
+        marks.push(false)?;
+    }
+    marks[number] = true;
+    Ok(())
+}
+
+/// Marks those that others mark.
+fn mark_all(marks: &mut Vec<bool>, others: &[bool]) -> Result<(), AllocError>
+    ensures { OnOk result ((T : ℕ) → is_marked_in marks.new.items T ≡ false → (is_marked_in marks.old.items T ≡ false) × (is_marked_in others.now T ≡ false)) }
+{
+    let mut at = 0;
+    while at < others.len() {
+        if others[at] {
+            mark(marks, at)?;
+        }
+        at += 1;
+    }
+    Ok(())
+}
+
 impl Reach {
     /// No types.
     pub fn none(alloc: Global) -> Reach
         ensures { (T : ℕ) → Misses result T }
     {
-        Reach::These(Vec::new(alloc))
+        Reach::These(Vec::new(alloc), Vec::new(alloc))
     }
 
     /// Whether a type is among them.
-    pub fn has(&self, of: TypeId) -> bool
+    fn has(&self, of: TypeId) -> bool
         ensures { result ≡ reaches self.now of.number }
     {
         match self {
             Reach::Every => true,
-            Reach::These(types) => is_among(of, types.as_slice()),
+            Reach::These(few, marks) => {
+                is_marked_in(marks.as_slice(), of) || is_among(of, few.as_slice())
+            }
         }
     }
 
@@ -69,15 +96,29 @@ impl Reach {
     {
         match self {
             Reach::Every => true,
-            Reach::These(_) => false,
+            Reach::These(_, _) => false,
         }
     }
 
-    /// Whether there is no room for a type more.
-    fn is_full(&self) -> bool {
+    /// How many steps it takes to add them to others, beside the few that are listed.
+    pub(crate) fn steps(&self) -> usize {
         match self {
-            Reach::Every => true,
-            Reach::These(types) => types.len() >= FEW,
+            Reach::Every => 0,
+            Reach::These(_, marks) => marks.len(),
+        }
+    }
+
+    /// The same where a condition applies.
+    pub(crate) fn steps_where(&self, schema: &Schema, on: TypeId) -> usize {
+        match self {
+            Reach::Every => schema.possible(on).len(),
+            Reach::These(_, marks) => {
+                if marks.is_empty() {
+                    0
+                } else {
+                    schema.possible(on).len()
+                }
+            }
         }
     }
 
@@ -88,38 +129,42 @@ impl Reach {
         *self = Reach::Every;
     }
 
-    /// Adds a type where there is room, or else all.
-    pub fn add(&mut self, of: TypeId) -> Result<(), AllocError>
+    /// Adds a type.
+    fn add(&mut self, of: TypeId) -> Result<(), AllocError>
         ensures { OnOk result (MissesMore self.old self.new (λ T. nat_eq T of.number)) }
     {
-        if self.has(of) {
-            return Ok(());
-        }
-        if self.is_full() {
-            self.widen();
-            return Ok(());
-        }
         match self {
             Reach::Every => Ok(()),
-            Reach::These(types) => {
-                types.push(of)?;
+            Reach::These(few, marks) => {
+                if few.len() >= FEW {
+                    return mark(marks, of.number);
+                }
+                if !is_among(of, few.as_slice()) {
+                    few.push(of)?;
+                }
                 Ok(())
             }
         }
     }
 
-    /// Adds some types where there is room, or else all.
+    /// Adds some types.
     fn add_all(&mut self, types: &[TypeId]) -> Result<(), AllocError>
         ensures { OnOk result (MissesMore self.old self.new (λ T. list_any (nat_eq T) (map type_number types.now))) }
     {
-        if types.len() > FEW {
-            self.widen();
-            return Ok(());
-        }
         for of in types {
             self.add(*of)?;
         }
         Ok(())
+    }
+
+    /// Adds the types that are marked.
+    fn add_marked(&mut self, others: &[bool]) -> Result<(), AllocError>
+        ensures { OnOk result (MissesMore self.old self.new (is_marked_in others.now)) }
+    {
+        match self {
+            Reach::Every => Ok(()),
+            Reach::These(_, marks) => mark_all(marks, others),
+        }
     }
 
     /// Adds the types of another.
@@ -131,7 +176,10 @@ impl Reach {
                 self.widen();
                 Ok(())
             }
-            Reach::These(types) => self.add_all(types.as_slice()),
+            Reach::These(few, marks) => {
+                self.add_all(few.as_slice())?;
+                self.add_marked(marks.as_slice())
+            }
         }
     }
 
@@ -147,14 +195,11 @@ impl Reach {
         Ok(())
     }
 
-    /// Adds those of some types that are marked, where there is room, or else all.
-    fn add_marked(&mut self, marks: &[bool], types: &[TypeId]) -> Result<(), AllocError>
+    /// Adds those of some types that are marked.
+    fn add_those(&mut self, types: &[TypeId], marks: &[bool]) -> Result<(), AllocError>
         ensures { OnOk result (MissesMore self.old self.new (λ T. is_marked_in marks.now T && list_any (nat_eq T) (map type_number types.now))) }
     {
         for of in types {
-            if self.is_every() {
-                return Ok(());
-            }
             if is_marked_in(marks, *of) {
                 self.add(*of)?;
             }
@@ -162,41 +207,58 @@ impl Reach {
         Ok(())
     }
 
-    /// Adds the types of objects to which a condition applies, those that are looked for, where there are some.
-    fn add_possible(
-        &mut self,
-        schema: &Schema,
-        marks: &[bool],
-        on: TypeId,
-    ) -> Result<(), AllocError>
-        ensures { OnOk result (MissesApplied (schema_data schema.now) marks.now on.number self.old self.new) }
+    /// Adds all objects to which a condition applies, or all types where it applies to none.
+    fn add_possible(&mut self, schema: &Schema, on: TypeId) -> Result<(), AllocError>
+        ensures { OnOk result (MissesPossible (schema_data schema.now) on.number self.old self.new (λ T. true)) }
     {
         let types = schema.possible(on);
         if types.is_empty() {
             self.widen();
             return Ok(());
         }
-        self.add_marked(marks, types)
+        self.add_all(types)
     }
 
-    /// Adds those types of another to which a condition applies, and that are looked for.
+    /// The same of those that are marked.
+    fn add_marked_where(
+        &mut self,
+        schema: &Schema,
+        on: TypeId,
+        marks: &[bool],
+    ) -> Result<(), AllocError>
+        ensures { OnOk result (MissesPossible (schema_data schema.now) on.number self.old self.new (is_marked_in marks.now)) }
+    {
+        let types = schema.possible(on);
+        if marks.is_empty() {
+            return Ok(());
+        }
+        if types.is_empty() {
+            self.widen();
+            return Ok(());
+        }
+        self.add_those(types, marks)
+    }
+
+    /// Adds those types of another to which a condition applies.
     pub fn join_where(
         &mut self,
         schema: &Schema,
-        marks: &[bool],
         on: TypeId,
         other: &Reach,
     ) -> Result<(), AllocError>
-        ensures { OnOk result (MissesWhere (schema_data schema.now) marks.now on.number self.old self.new other.now) }
+        ensures { OnOk result (MissesWhere (schema_data schema.now) on.number self.old self.new other.now) }
     {
         match other {
-            Reach::Every => self.add_possible(schema, marks, on),
-            Reach::These(types) => self.add_where(schema, on, types.as_slice()),
+            Reach::Every => self.add_possible(schema, on),
+            Reach::These(few, marks) => {
+                self.add_where(schema, on, few.as_slice())?;
+                self.add_marked_where(schema, on, marks.as_slice())
+            }
         }
     }
 }
 
-/// Those of some types that are among others.
+/// Those of some types that are among the types of a reach.
 pub fn those_among(
     alloc: Global,
     types: &[TypeId],

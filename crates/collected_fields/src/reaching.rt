@@ -1,6 +1,8 @@
 //! For objects of which types selection sets may have fields, found once for each of them.
 
 ghost use Rattle.std.specs.Prelude.{◌≡◌, ◌∷◌, [], ℕ, map, option_map, None, IfOk, OnOk};
+ghost use Rattle.collected_fields.specs.declared.joins.Joins.{Joins as JoinsData};
+ghost use Rattle.collected_fields.specs.declared.tables.Tables.{Tables as TablesData};
 ghost use Rattle.collected_fields.specs.Steps.{step_data, inline_step};
 ghost use Rattle.collected_fields.specs.Lists.{sets_in_joins};
 ghost use Rattle.collected_fields.specs.Reaching.{ReachesSteps, ReachesStep, ReachesFragment, ReachesWhere, ReachesSets, found_of, AreReached, AreAllReached, FindsOne, ReachesNumbers};
@@ -8,6 +10,7 @@ ghost use Rattle.collected_fields.specs.Reaching.{ReachesSteps, ReachesStep, Rea
 use crate::joins::Joins;
 use crate::order::order_of;
 use crate::reach::Reach;
+use crate::room::Room;
 use crate::steps::Step;
 use crate::tables::Tables;
 use crate::walk::{entry_at, place_behind};
@@ -63,18 +66,21 @@ pub struct AllReaches {
     pub lists: Reaches,
     /// Whether all fragments were looked into.
     fragments: bool,
+    room: Room,
 }
 
 impl AllReaches {
     /// Nothing was found yet.
     pub fn new(alloc: Global) -> AllReaches
-        ensures sets { (set : ℕ) → found_of result.sets set ≡ None }
-        ensures lists { (number : ℕ) → found_of result.lists number ≡ None }
+        ensures { (t : TablesData) (j : JoinsData) → AreAllReached t j result }
     {
+        let sets = Reaches::new(alloc);
+        let lists = Reaches::new(alloc);
         AllReaches {
-            sets: Reaches::new(alloc),
-            lists: Reaches::new(alloc),
+            sets,
+            lists,
             fragments: false,
+            room: Room::new(),
         }
     }
 }
@@ -84,15 +90,15 @@ impl AllReaches {
 fn add_step(
     alloc: Global,
     tables: &Tables<'_>,
-    marks: &[bool],
     depth: usize,
     step: &Step<'_>,
     rest: &[Step<'_>],
     found: &mut Reaches,
+    room: &mut Room,
     reach: &mut Reach,
 ) -> Result<usize, AllocError>
-    ensures still { AreReached tables.now marks.now found.old → AreReached tables.now marks.now found.new }
-    ensures adds { IfOk result (λ passed. AreReached tables.now marks.now found.old → ReachesStep tables.now marks.now reach.old reach.new (step_data step.now) (map step_data rest.now) passed) }
+    ensures still { AreReached tables.now found.old → AreReached tables.now found.new }
+    ensures adds { IfOk result (λ passed. AreReached tables.now found.old → ReachesStep tables.now reach.old reach.new (step_data step.now) (map step_data rest.now) passed) }
 {
     match step {
         Step::Field(_) => {
@@ -100,11 +106,11 @@ fn add_step(
             Ok(0)
         }
         Step::Spread(number) => {
-            add_fragment(alloc, tables, marks, depth, *number, found, reach)?;
+            add_fragment(alloc, tables, depth, *number, found, room, reach)?;
             Ok(0)
         }
         Step::Inline { on, count } => {
-            add_inline(alloc, tables, marks, depth, *on, *count, rest, found, reach)?;
+            add_inline(alloc, tables, depth, *on, *count, rest, found, room, reach)?;
             Ok(*count)
         }
     }
@@ -115,16 +121,16 @@ fn add_step(
 fn add_inline(
     alloc: Global,
     tables: &Tables<'_>,
-    marks: &[bool],
     depth: usize,
     on: TypeId,
     count: usize,
     rest: &[Step<'_>],
     found: &mut Reaches,
+    room: &mut Room,
     reach: &mut Reach,
 ) -> Result<(), AllocError>
-    ensures still { AreReached tables.now marks.now found.old → AreReached tables.now marks.now found.new }
-    ensures adds { OnOk result (AreReached tables.now marks.now found.old → ReachesStep tables.now marks.now reach.old reach.new (inline_step on.number count) (map step_data rest.now) count) }
+    ensures still { AreReached tables.now found.old → AreReached tables.now found.new }
+    ensures adds { OnOk result (AreReached tables.now found.old → ReachesStep tables.now reach.old reach.new (inline_step on.number count) (map step_data rest.now) count) }
 {
     if depth == 0 || rest.len() < count {
         reach.widen();
@@ -134,13 +140,13 @@ fn add_inline(
     add_steps(
         alloc,
         tables,
-        marks,
         depth - 1,
         &rest[..count],
         found,
+        room,
         &mut under,
     )?;
-    reach.join_where(tables.planning.schema, marks, on, &under)
+    room.join_where(reach, tables.planning.schema, on, &under)
 }
 
 /// The same of steps, as long as types are told apart.
@@ -148,19 +154,19 @@ fn add_inline(
 fn add_steps(
     alloc: Global,
     tables: &Tables<'_>,
-    marks: &[bool],
     depth: usize,
     steps: &[Step<'_>],
     found: &mut Reaches,
+    room: &mut Room,
     reach: &mut Reach,
 ) -> Result<(), AllocError>
-    ensures still { AreReached tables.now marks.now found.old → AreReached tables.now marks.now found.new }
-    ensures adds { OnOk result (AreReached tables.now marks.now found.old → ReachesSteps tables.now marks.now reach.old reach.new (map step_data steps.now)) }
+    ensures still { AreReached tables.now found.old → AreReached tables.now found.new }
+    ensures adds { OnOk result (AreReached tables.now found.old → ReachesSteps tables.now reach.old reach.new (map step_data steps.now)) }
 {
     let mut at = 0;
     'steps: while at < steps.len() && !reach.is_every() {
         let rest = &steps[at + 1..];
-        let passed = add_step(alloc, tables, marks, depth, &steps[at], rest, found, reach)?;
+        let passed = add_step(alloc, tables, depth, &steps[at], rest, found, room, reach)?;
         at = place_behind(at, passed, steps.len());
     }
     Ok(())
@@ -171,18 +177,18 @@ fn add_steps(
 fn add_fragment(
     alloc: Global,
     tables: &Tables<'_>,
-    marks: &[bool],
     depth: usize,
     number: usize,
     found: &mut Reaches,
+    room: &mut Room,
     reach: &mut Reach,
 ) -> Result<(), AllocError>
-    ensures still { AreReached tables.now marks.now found.old → AreReached tables.now marks.now found.new }
-    ensures adds { OnOk result (AreReached tables.now marks.now found.old → ReachesFragment tables.now marks.now reach.old reach.new number) }
+    ensures still { AreReached tables.now found.old → AreReached tables.now found.new }
+    ensures adds { OnOk result (AreReached tables.now found.old → ReachesFragment tables.now reach.old reach.new number) }
 {
     match entry_at(tables, number) {
         Some(entry) => match entry.on {
-            Some(on) => add_where(alloc, tables, marks, depth, on, entry.list, found, reach),
+            Some(on) => add_where(alloc, tables, depth, on, entry.list, found, room, reach),
             None => Ok(()),
         },
         None => Ok(()),
@@ -194,23 +200,23 @@ fn add_fragment(
 fn add_where(
     alloc: Global,
     tables: &Tables<'_>,
-    marks: &[bool],
     depth: usize,
     on: TypeId,
     set: usize,
     found: &mut Reaches,
+    room: &mut Room,
     reach: &mut Reach,
 ) -> Result<(), AllocError>
-    ensures still { AreReached tables.now marks.now found.old → AreReached tables.now marks.now found.new }
-    ensures adds { OnOk result (AreReached tables.now marks.now found.old → ReachesWhere tables.now marks.now reach.old reach.new on.number set) }
+    ensures still { AreReached tables.now found.old → AreReached tables.now found.new }
+    ensures adds { OnOk result (AreReached tables.now found.old → ReachesWhere tables.now reach.old reach.new on.number set) }
 {
     if depth == 0 {
         reach.widen();
         return Ok(());
     }
-    find(alloc, tables, marks, depth - 1, set, found)?;
+    find(alloc, tables, depth - 1, set, found, room)?;
     match found.of(set) {
-        Some(other) => reach.join_where(tables.planning.schema, marks, on, other),
+        Some(other) => room.join_where(reach, tables.planning.schema, on, other),
         None => {
             reach.widen();
             Ok(())
@@ -223,18 +229,19 @@ fn add_where(
 fn find(
     alloc: Global,
     tables: &Tables<'_>,
-    marks: &[bool],
     depth: usize,
     set: usize,
     found: &mut Reaches,
+    room: &mut Room,
 ) -> Result<(), AllocError>
-    ensures still { AreReached tables.now marks.now found.old → AreReached tables.now marks.now found.new }
+    ensures still { AreReached tables.now found.old → AreReached tables.now found.new }
 {
     if found.of(set).is_some() {
         return Ok(());
     }
     let mut reach = Reach::none(alloc);
-    add_listed(alloc, tables, marks, depth, set, found, &mut reach)?;
+    add_listed(alloc, tables, depth, set, found, room, &mut reach)?;
+    room.fit(&mut reach);
     found.keep(set, reach)
 }
 
@@ -243,23 +250,23 @@ fn find(
 fn add_listed(
     alloc: Global,
     tables: &Tables<'_>,
-    marks: &[bool],
     depth: usize,
     set: usize,
     found: &mut Reaches,
+    room: &mut Room,
     reach: &mut Reach,
 ) -> Result<(), AllocError>
-    ensures still { AreReached tables.now marks.now found.old → AreReached tables.now marks.now found.new }
-    ensures adds { OnOk result (AreReached tables.now marks.now found.old → ReachesSets tables.now marks.now reach.old reach.new (set ∷ [])) }
+    ensures still { AreReached tables.now found.old → AreReached tables.now found.new }
+    ensures adds { OnOk result (AreReached tables.now found.old → ReachesSets tables.now reach.old reach.new (set ∷ [])) }
 {
     match tables.lists.get(set) {
         Some(list) => add_steps(
             alloc,
             tables,
-            marks,
             depth,
             list.steps.as_slice(),
             found,
+            room,
             reach,
         ),
         None => Ok(()),
@@ -270,14 +277,14 @@ fn add_listed(
 fn find_fragment(
     alloc: Global,
     tables: &Tables<'_>,
-    marks: &[bool],
     number: usize,
     found: &mut Reaches,
+    room: &mut Room,
 ) -> Result<(), AllocError>
-    ensures still { AreReached tables.now marks.now found.old → AreReached tables.now marks.now found.new }
+    ensures still { AreReached tables.now found.old → AreReached tables.now found.new }
 {
     match entry_at(tables, number) {
-        Some(entry) => find(alloc, tables, marks, NESTED, entry.list, found),
+        Some(entry) => find(alloc, tables, NESTED, entry.list, found, room),
         None => Ok(()),
     }
 }
@@ -286,34 +293,35 @@ fn find_fragment(
 fn find_fragments(
     alloc: Global,
     tables: &Tables<'_>,
-    marks: &[bool],
     numbers: &[usize],
     found: &mut Reaches,
+    room: &mut Room,
 ) -> Result<(), AllocError>
-    ensures still { AreReached tables.now marks.now found.old → AreReached tables.now marks.now found.new }
+    ensures still { AreReached tables.now found.old → AreReached tables.now found.new }
 {
     for number in numbers {
-        find_fragment(alloc, tables, marks, *number, found)?;
+        find_fragment(alloc, tables, *number, found, room)?;
     }
     Ok(())
 }
 
 /// Looks into all fragments, where that wasn't done yet: into one behind those that it spreads, so that what is found of it
 /// takes no calls in one another for fragments.
-fn begin(
-    alloc: Global,
-    tables: &Tables<'_>,
-    marks: &[bool],
-    all: &mut AllReaches,
-) -> Result<(), AllocError>
+fn begin(alloc: Global, tables: &Tables<'_>, all: &mut AllReaches) -> Result<(), AllocError>
     ensures lists { all.new.lists ≡ all.old.lists }
-    ensures still { AreReached tables.now marks.now all.old.sets → AreReached tables.now marks.now all.new.sets }
+    ensures still { AreReached tables.now all.old.sets → AreReached tables.now all.new.sets }
 {
     if all.fragments {
         return Ok(());
     }
     let order = order_of(alloc, tables)?;
-    find_fragments(alloc, tables, marks, order.as_slice(), &mut all.sets)?;
+    find_fragments(
+        alloc,
+        tables,
+        order.as_slice(),
+        &mut all.sets,
+        &mut all.room,
+    )?;
     all.fragments = true;
     Ok(())
 }
@@ -322,17 +330,17 @@ fn begin(
 fn add_set(
     alloc: Global,
     tables: &Tables<'_>,
-    marks: &[bool],
     set: usize,
     found: &mut Reaches,
+    room: &mut Room,
     reach: &mut Reach,
 ) -> Result<(), AllocError>
-    ensures still { AreReached tables.now marks.now found.old → AreReached tables.now marks.now found.new }
-    ensures adds { OnOk result (AreReached tables.now marks.now found.old → ReachesSets tables.now marks.now reach.old reach.new (set ∷ [])) }
+    ensures still { AreReached tables.now found.old → AreReached tables.now found.new }
+    ensures adds { OnOk result (AreReached tables.now found.old → ReachesSets tables.now reach.old reach.new (set ∷ [])) }
 {
-    find(alloc, tables, marks, NESTED, set, found)?;
+    find(alloc, tables, NESTED, set, found, room)?;
     match found.of(set) {
-        Some(other) => reach.join(other),
+        Some(other) => room.join(reach, other),
         None => {
             reach.widen();
             Ok(())
@@ -344,16 +352,16 @@ fn add_set(
 fn add_sets(
     alloc: Global,
     tables: &Tables<'_>,
-    marks: &[bool],
     sets: &[usize],
     found: &mut Reaches,
+    room: &mut Room,
     reach: &mut Reach,
 ) -> Result<(), AllocError>
-    ensures still { AreReached tables.now marks.now found.old → AreReached tables.now marks.now found.new }
-    ensures adds { OnOk result (AreReached tables.now marks.now found.old → ReachesSets tables.now marks.now reach.old reach.new sets.now) }
+    ensures still { AreReached tables.now found.old → AreReached tables.now found.new }
+    ensures adds { OnOk result (AreReached tables.now found.old → ReachesSets tables.now reach.old reach.new sets.now) }
 {
     for set in sets {
-        add_set(alloc, tables, marks, *set, found, reach)?;
+        add_set(alloc, tables, *set, found, room, reach)?;
     }
     Ok(())
 }
@@ -362,12 +370,11 @@ fn add_sets(
 fn find_list(
     alloc: Global,
     tables: &Tables<'_>,
-    marks: &[bool],
     joins: &Joins,
     number: usize,
     all: &mut AllReaches,
 ) -> Result<(), AllocError>
-    ensures still { AreAllReached tables.now marks.now joins.now all.old → AreAllReached tables.now marks.now joins.now all.new }
+    ensures still { AreAllReached tables.now joins.now all.old → AreAllReached tables.now joins.now all.new }
 {
     if all.lists.of(number).is_some() {
         return Ok(());
@@ -375,7 +382,15 @@ fn find_list(
     match joins.list_at(number) {
         Some(sets) => {
             let mut reach = Reach::none(alloc);
-            add_sets(alloc, tables, marks, sets, &mut all.sets, &mut reach)?;
+            add_sets(
+                alloc,
+                tables,
+                sets,
+                &mut all.sets,
+                &mut all.room,
+                &mut reach,
+            )?;
+            all.room.fit(&mut reach);
             all.lists.keep(number, reach)
         }
         None => Ok(()),
@@ -386,21 +401,20 @@ fn find_list(
 fn add_number(
     alloc: Global,
     tables: &Tables<'_>,
-    marks: &[bool],
     joins: &Joins,
     number: usize,
     all: &mut AllReaches,
     reach: &mut Reach,
 ) -> Result<(), AllocError>
-    ensures still { AreAllReached tables.now marks.now joins.now all.old → AreAllReached tables.now marks.now joins.now all.new }
-    ensures adds { OnOk result (AreAllReached tables.now marks.now joins.now all.old → ReachesSets tables.now marks.now reach.old reach.new (sets_in_joins joins.now number)) }
+    ensures still { AreAllReached tables.now joins.now all.old → AreAllReached tables.now joins.now all.new }
+    ensures adds { OnOk result (AreAllReached tables.now joins.now all.old → ReachesSets tables.now reach.old reach.new (sets_in_joins joins.now number)) }
 {
     if number < joins.count {
-        return add_set(alloc, tables, marks, number, &mut all.sets, reach);
+        return add_set(alloc, tables, number, &mut all.sets, &mut all.room, reach);
     }
-    find_list(alloc, tables, marks, joins, number, all)?;
+    find_list(alloc, tables, joins, number, all)?;
     match all.lists.of(number) {
-        Some(other) => reach.join(other),
+        Some(other) => all.room.join(reach, other),
         None => {
             reach.widen();
             Ok(())
@@ -412,18 +426,17 @@ fn add_number(
 pub fn reach_of(
     alloc: Global,
     tables: &Tables<'_>,
-    marks: &[bool],
     joins: &Joins,
     numbers: &[usize],
     all: &mut AllReaches,
 ) -> Result<Reach, AllocError>
-    ensures still { AreAllReached tables.now marks.now joins.now all.old → AreAllReached tables.now marks.now joins.now all.new }
-    ensures reach { IfOk result (λ reach. AreAllReached tables.now marks.now joins.now all.old → ReachesNumbers tables.now marks.now joins.now numbers.now reach) }
+    ensures still { AreAllReached tables.now joins.now all.old → AreAllReached tables.now joins.now all.new }
+    ensures reach { IfOk result (λ reach. AreAllReached tables.now joins.now all.old → ReachesNumbers tables.now joins.now numbers.now reach) }
 {
-    begin(alloc, tables, marks, all)?;
+    begin(alloc, tables, all)?;
     let mut reach = Reach::none(alloc);
     for number in numbers {
-        add_number(alloc, tables, marks, joins, *number, all, &mut reach)?;
+        add_number(alloc, tables, joins, *number, all, &mut reach)?;
     }
     Ok(reach)
 }

@@ -27,8 +27,8 @@ decreases-find l = 6 * l.depth + 5
 -- What is missed collects nothing in the steps so far.
 abbrev pub invariant-add_steps-steps : goal.invariant-add_steps-steps
 invariant-add_steps-steps l =
-    (AreReached l.tables l.marks l.fn.found → AreReached l.tables l.marks l.found)
-    × (AreReached l.tables l.marks l.fn.found → Reaching l.tables l.marks l.fn.reach l.reach (λ T. Passes l.tables T (map step_data l.steps) (map step_data (drop l.at l.steps))))
+    (AreReached l.tables l.fn.found → AreReached l.tables l.found)
+    × (AreReached l.tables l.fn.found → Reaching l.tables l.fn.reach l.reach (λ T. Passes l.tables T (map step_data l.steps) (map step_data (drop l.at l.steps))))
 
 abbrev pub decreases-add_steps-steps : goal.decreases-add_steps-steps
 decreases-add_steps-steps l = length l.steps - l.at

@@ -7,24 +7,17 @@ use Rattle.collected_fields.proofs.collector.Collector.types_with_fields.Goals a
 pub returns-then-types-lt-MANY-clause-grows : goal.returns-then-types-lt-MANY-clause-grows
 returns-then-types-lt-MANY-clause-grows c = grows_itself c.args.self.now
 
-pub returns-in_err-turned-clause-grows : goal.returns-in_err-turned-clause-grows
-returns-in_err-turned-clause-grows c = grows_same c.args.self.now _ refl refl refl (c.turn_to.ensures.right c.args.self.now.tables c.args.self.now.joins)
-
-pub returns-then-not-turned-clause-grows : goal.returns-then-not-turned-clause-grows
-returns-then-not-turned-clause-grows c = grows_same c.args.self.now _ refl refl refl (c.turn_to.ensures.right c.args.self.now.tables c.args.self.now.joins)
-
 pub returns-in_err-reach-clause-grows : goal.returns-in_err-reach-clause-grows
-returns-in_err-reach-clause-grows c = grows_same c.args.self.now _ refl refl refl (λ right. let found = c.turn_to.ensures.right c.args.self.now.tables c.args.self.now.joins right in (c.look.ensures.right found.0, found.1))
+returns-in_err-reach-clause-grows c = grows_same c.args.self.now _ refl refl refl c.reach_of.ensures.still
 
 pub returns-then-is_every-clause-grows : goal.returns-then-is_every-clause-grows
-returns-then-is_every-clause-grows c = grows_same c.args.self.now _ refl refl refl (λ right. let found = c.turn_to.ensures.right c.args.self.now.tables c.args.self.now.joins right in (c.look.ensures.right found.0, found.1))
+returns-then-is_every-clause-grows c = grows_same c.args.self.now _ refl refl refl c.reach_of.ensures.still
 
 pub returns-in_err-left-clause-grows : goal.returns-in_err-left-clause-grows
-returns-in_err-left-clause-grows c = grows_same c.args.self.now _ refl refl refl (λ right. let found = c.turn_to.ensures.right c.args.self.now.tables c.args.self.now.joins right in (c.look.ensures.right found.0, found.1))
+returns-in_err-left-clause-grows c = grows_same c.args.self.now _ refl refl refl c.reach_of.ensures.still
 
 pub returns-clause-grows : goal.returns-clause-grows
-returns-clause-grows c = grows_same c.args.self.now _ refl refl refl (λ right. let found = c.turn_to.ensures.right c.args.self.now.tables c.args.self.now.joins right in (c.look.ensures.right found.0, found.1))
+returns-clause-grows c = grows_same c.args.self.now _ refl refl refl c.reach_of.ensures.still
 
 pub returns-clause-left : goal.returns-clause-left
-returns-clause-left c = leaves_out c.args.self.now c.args.numbers.now (map type_number c.args.types.now) (map type_number c.in_ok-left.left.items) c.turn_to.new.self c.in_ok-reach.reach c.in_ok-left.ensures
-    (c.in_ok-turned.ensures.told c.if-not-turned.false) (c.turn_to.ensures.right c.args.self.now.tables c.args.self.now.joins) c.in_ok-reach.ensures.reach
+returns-clause-left c = leaves_out c.args.self.now c.args.numbers.now (map type_number c.args.types.now) (map type_number c.in_ok-left.left.items) c.in_ok-reach.reach c.in_ok-left.ensures c.in_ok-reach.ensures.reach
