@@ -24,6 +24,7 @@ use Rattle.collected_fields.specs.declared.collected.Collected.{Collected}
 use Rattle.collected_fields.specs.declared.collector.Collector.{Collector}
 use Rattle.collected_fields.specs.Views.{setting_of_planning, collected_field}
 use Rattle.collected_fields.specs.Groups.{GroupData}
+use Rattle.collected_fields.specs.Lists.{HasMore}
 use Rattle.collected_fields.specs.Gathering.{IsReady, planning_of, setting_at, written_at, meaning_at as selections_at, IsNumber}
 use Rattle.merged_selections.specs.declared.stop.Stop.{Stop}
 use Rattle.merged_selections.specs.declared.node.Looked.{Looked}
@@ -35,6 +36,7 @@ use Rattle.merged_selections.specs.Outcomes.{Outcome, has_left, used_up, unless_
 use Rattle.merged_selections.specs.Stages.{levels_from, key_seen, types_rows, node_visits, node_row, node_rows, frame, setting_built, position_built, node_seen, group_position, CanBuild, BuildsRows, BuildsTypes, row_looked, PushesRow}
 use Rattle.merged_selections.proofs.VisitedParts.{node_past_limit, deep_past_limit, deep_outcome, node_outcome, same_stop}
 use Rattle.merged_selections.proofs.BuiltParts.{rows_of_place, below_of_place}
+use Rattle.merged_selections.proofs.MetAgain.{known_still}
 
 positive : (n : ℕ) → (n ≡ 0 → ⊥) → suc (n - 1) ≡ n
 positive zero h = absurd (h refl)
@@ -193,14 +195,15 @@ row_pushed old new depth T first all looked (Err failed) row h is = tt
 
 -- ---- frames
 
-pub frames : (old : Building) (c : Collector) → planning_of c ≡ planning_of old.collector → written_at c ≡ written_at old.collector → frame (record { collector = c; plan = old.plan; left = old.left; calls = old.calls; keys = old.keys }) ≡ frame old
+pub frames : (old : Building) (c : Collector) → planning_of c ≡ planning_of old.collector → written_at c ≡ written_at old.collector → frame (record { collector = c; plan = old.plan; left = old.left; calls = old.calls; keys = old.keys; known = old.known }) ≡ frame old
 frames old c planning written = ap (λ (pl : Planning). (pl, written_at c, setting_in old.plan, old.plan.root.number, old.plan.schema.now, old.plan.weights.now)) planning ∙ ap (λ (w : ℕ → WrittenSelections). (planning_of old.collector, w, setting_in old.plan, old.plan.root.number, old.plan.schema.now, old.plan.weights.now)) written
 
-pub can_after : (old : Building) (c : Collector) → planning_of c ≡ planning_of old.collector → (IsReady old.collector → IsReady c) → CanBuild old → CanBuild (record { collector = c; plan = old.plan; left = old.left; calls = old.calls; keys = old.keys })
-can_after old c planning ready can = record {
+pub can_after : (old : Building) (c : Collector) → planning_of c ≡ planning_of old.collector → written_at c ≡ written_at old.collector → HasMore old.collector.joins c.joins → (IsReady old.collector → IsReady c) → CanBuild old → CanBuild (record { collector = c; plan = old.plan; left = old.left; calls = old.calls; keys = old.keys; known = old.known })
+can_after old c planning written more ready can = record {
   collector = ready can.collector;
   plan = can.plan ∙ ap (λ (pl : Planning). setting_without_values (setting_of_planning pl).schema (setting_of_planning pl).weights) (sym planning);
   calls = subst (λ (pl : Planning). AreKept (setting_of_planning pl) old.calls) (sym planning) can.calls;
+  known = known_still old.collector c planning written more old.known can.known;
 }
 
 -- the calls that were made, where a node is looked at
@@ -208,9 +211,10 @@ pub kept_before : (old : Building) (pl : Planning) → pl ≡ planning_of old.co
 kept_before old pl is can = subst (λ (x : Planning). AreKept (setting_of_planning x) old.calls) (sym is) can.calls
 
 pub can_still : (old : Building) (pl : Planning) (left : ℕ) (calls : Calls) → pl ≡ planning_of old.collector → (AreKept (setting_of_planning pl) old.calls → AreKept (setting_of_planning pl) calls) → CanBuild old
-    → CanBuild (record { collector = old.collector; plan = old.plan; left = left; calls = calls; keys = old.keys })
+    → CanBuild (record { collector = old.collector; plan = old.plan; left = left; calls = calls; keys = old.keys; known = old.known })
 can_still old pl left calls is kept can = record {
   collector = can.collector;
   plan = can.plan;
   calls = subst (λ (x : Planning). AreKept (setting_of_planning x) calls) is (kept (kept_before old pl is can));
+  known = can.known;
 }

@@ -38,6 +38,7 @@ use Rattle.merged_selections.specs.Faults.{IsTold, AnswersPlan}
 use Rattle.merged_selections.specs.Building.{setting_for, answer_for, IsPlanned, setting_beside, answer_on, planned_on, AnswersSelections}
 use Rattle.merged_selections.specs.Outcomes.{Outcome, has_left, outcome, answer_from, IsStop}
 use Rattle.merged_selections.specs.NodeTests.{AreKept}
+use Rattle.merged_selections.specs.Again.{AreKnown}
 use Rattle.merged_selections.specs.Stages.{types_rows, Frame, frame, setting_built, position_built, CanBuild, BuildsRows, BuildsTypes}
 use Rattle.merged_selections.proofs.VisitedParts.{answer_of_outcome}
 
@@ -51,7 +52,7 @@ has_rows e l root p plan is weighs rows = ((sym is, weighs), rows)
 
 module _ (e : Setting) (root : ℕ) (selections : SelectionTrees) (building new : Building) (list : ℕ) (setting_there : setting_built building ≡ e) (acyclic : IsAcyclic e (position_on root selections))
     (ready : IsReady building.collector) (has : HasOne building.collector list (Some root, selections)) (tied : setting_in building.plan ≡ setting_without_values e.schema e.weights)
-    (plan_root : building.plan.root.number ≡ root) (no_rows : table_rows building.plan ≡ []) (left : building.left ≡ node_limit) (no_call : AreKept (setting_built building) building.calls) (same : frame new ≡ frame building) where
+    (plan_root : building.plan.root.number ≡ root) (no_rows : table_rows building.plan ≡ []) (left : building.left ≡ node_limit) (no_call : AreKept (setting_built building) building.calls) (none_known : AreKnown building.collector building.known) (same : frame new ≡ frame building) where
   position_there : position_built building (list ∷ []) None ≡ position_on root selections
   position_there = ap (λ (ws : List WrittenSelections). record { selections = ws; handed = None }) (append-nil (meaning_at building.collector list) ∙ has.1)
 
@@ -62,7 +63,7 @@ module _ (e : Setting) (root : ℕ) (selections : SelectionTrees) (building new 
       none k lt = omega arith
 
   can_begin : CanBuild building
-  can_begin = record { collector = ready; plan = tied ∙ ap (λ (x : Setting). setting_without_values x.schema x.weights) (sym setting_there); calls = no_call }
+  can_begin = record { collector = ready; plan = tied ∙ ap (λ (x : Setting). setting_without_values x.schema x.weights) (sym setting_there); calls = no_call; known = none_known }
 
   acyclic_there : IsAcyclic (setting_built building) (position_built building (list ∷ []) None)
   acyclic_there = subst (λ (x : Setting). IsAcyclic x (position_built building (list ∷ []) None)) (sym setting_there) (subst (λ (p : Position). IsAcyclic e p) (sym position_there) acyclic)

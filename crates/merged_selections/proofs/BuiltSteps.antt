@@ -1,5 +1,6 @@
 -- Building goes on, stops and ends.
-use Rattle.std.proofs.Common.{◌≡◌, inl, inr, ℕ, ◌+◌, ◌<◌, ◌≤◌, List, [], ◌∷◌, ◌++◌, map, flat_map, drop, length, get_or, All, Bool, true, false, append_assoc, append-nil, None, Result, Ok, Err, refl, sym, ap, ◌∙◌, subst, arith}
+use Rattle.std.proofs.Common.{◌≡◌, inl, inr, ℕ, ◌+◌, ◌<◌, ◌≤◌, List, [], ◌∷◌, ◌++◌, map, flat_map, drop, length, get_or, All, Bool, true, false, append_assoc, append-nil, Option, None, Result, Ok, Err, refl, sym, ap, ◌∙◌, subst, arith}
+use Rattle.std.specs.Prelude.{IfSome}
 use Rattle.std.proofs.lemmas.List.{drop_all}
 use Rattle.std.proofs.lemmas.List.Elements.{All-head, All-tail, All-cons, All-get_or}
 use Rattle.gql_base.proofs.Lists.{at_front}
@@ -19,13 +20,18 @@ use Rattle.collected_fields.specs.declared.collected.Group.{Group}
 use Rattle.collected_fields.specs.Views.{setting_of_planning, collected_field}
 use Rattle.collected_fields.specs.Groups.{GroupData, AreGroupsOf}
 use Rattle.collected_fields.specs.Lists.{HasMore}
-use Rattle.collected_fields.specs.Gathering.{Gathers, IsNumber, meaning_at, written_at, group_seen, groups_seen, IsGroupAt, GivesGroups}
+use Rattle.collected_fields.specs.Gathering.{Gathers, IsReady, setting_at, IsNumber, meaning_at, written_at, group_seen, groups_seen, IsGroupAt, GivesGroups}
+use Rattle.collected_fields.specs.Alone.{SpreadsAlone}
+use Rattle.collected_fields.specs.declared.planning.Planning.{Planning}
+use Rattle.schema_model.specs.SchemaData.{SchemaData}
 use Rattle.collected_fields.proofs.GrowingLaws.{same_meanings, still_known}
 use Rattle.merged_selections.specs.declared.stop.Stop.{Stop}
 use Rattle.merged_selections.specs.declared.building.Building.{Building}
 use Rattle.merged_selections.specs.Outcomes.{has_left, outcome, IsStop}
 use Rattle.merged_selections.specs.Stages.{levels_from, type_visits, type_rows, types_rows, node_visits, node_rows, groups_visits, groups_rows, Frame, frame, setting_built, position_built, CanBuild, CanBuildAt, CanBuildGroup, BuildsRows, BuildsTypes, BuildsType, BuildsGroups, BuildsGroup}
 use Rattle.merged_selections.proofs.VisitedParts.{goes_on, stays_stopped, same_stop, none_visited}
+use Rattle.merged_selections.specs.Again.{ComeToSame, IsSound, StandFor, MayBeKnown, FindsFor}
+use Rattle.merged_selections.proofs.MetAgain.{visited_equal, position_still, acyclic_before, told_still, may_still, found_stand}
 use Rattle.merged_selections.proofs.BuiltParts.{visits_next, no_visits, rows_next, no_rows, gathered_visits, gathered_rows}
 
 -- ---- lists of visits, and of rows
@@ -219,6 +225,25 @@ acyclic_groups e T p fields less acyclic c (key ∷ keys) (g ∷ groups) of at =
     ranked_left rank bound (x ∷ xs) (y ∷ ys) seen (inl stays) r = (subst (λ (w : WrittenSelections). AreRanked rank bound w.1) stays.0 r.0, ranked_left rank bound xs ys (x ∷ seen) stays.1 r.1)
     ranked_left rank bound (x ∷ xs) (y ∷ ys) seen (inr goes) r = ranked_left rank bound xs (y ∷ ys) seen goes.1 r.1
 
+-- they are groups of which nodes can be built
+pub gathered_can : (old mid : Building) → frame mid ≡ frame old → (T : ℕ) (lists : List ℕ) (groups : List Group) → GivesGroups old.collector mid.collector T lists groups → IsReady old.collector → IsAcyclic (setting_built old) (position_built old lists None)
+    → All (CanBuildGroup mid) groups
+gathered_can old mid same T lists groups gives ready acyclic =
+    let e : Setting = setting_built old in
+    let none : Position = position_built old lists None in
+    let g : Gathers e T none (groups_seen mid.collector groups) = gives.found ready acyclic in
+    all_can groups (acyclic_groups e T none g.fields g.repeats acyclic mid.collector (keys_of g.fields) groups g.grouped (gives.right ready acyclic))
+  where
+    all_can : (gs : List Group) → All (λ (g : Group). (0 < length g.fields.items) × (All (IsNumber mid.collector) g.below.items × IsAcyclic (setting_built old) (record { selections = flat_map (meaning_at mid.collector) g.below.items; handed = None }))) gs → All (CanBuildGroup mid) gs
+    all_can [] a = λ k d lt. absurd (none_less k lt)
+      where
+        none_less : (k : ℕ) → k < 0 → ⊥
+        none_less k lt = omega arith
+    all_can (x ∷ gs) a =
+        let P : Group → Type 0 = λ (g : Group). (0 < length g.fields.items) × (All (IsNumber mid.collector) g.below.items × IsAcyclic (setting_built old) (record { selections = flat_map (meaning_at mid.collector) g.below.items; handed = None })) in
+        let here = All-head P x gs a in
+        All-cons (CanBuildGroup mid) x gs (record { filled = here.0; below = (here.1.0, subst (λ (s : Setting). IsAcyclic s (position_built mid x.below.items None)) (sym (ap setting_of same)) here.1.1) }) (all_can gs (All-tail P x gs a))
+
 module _ (old mid new : Building) (same : frame mid ≡ frame old) (left : mid.left ≡ old.left) (table : table_rows mid.plan ≡ table_rows old.plan) (depth T : ℕ) (lists : List ℕ) (handed : HandedSize) (groups : List Group) where
   pub type_built : (result : Result (Unit {0}) Stop) → (CanBuild old → CanBuild mid) → GivesGroups old.collector mid.collector T lists groups → BuildsGroups mid depth result new T groups handed → BuildsType old depth result new T lists handed
   type_built result ready gives h can =
@@ -228,21 +253,53 @@ module _ (old mid new : Building) (same : frame mid ≡ frame old) (left : mid.l
       let p : Position = position_built old lists handed in
       let gathers : Gathers e T p (groups_seen mid.collector groups) = record { fields = g.fields; repeats = g.repeats; grouped = g.grouped } in
       let setting_there : setting_built mid ≡ e = ap setting_of same in
-      let can_groups : All (CanBuildGroup mid) groups = all_can groups (acyclic_groups e T none g.fields g.repeats can.1.1 mid.collector (keys_of g.fields) groups g.grouped (gives.right can.0.collector can.1.1)) in
+      let can_groups : All (CanBuildGroup mid) groups = gathered_can old mid same T lists groups gives can.0.collector can.1.1 in
       moved result (groups_visits e T handed (levels_from depth) (groups_seen mid.collector groups)) (type_visits e (levels_from depth) p T) (groups_rows e T handed (levels_from depth) depth true (groups_seen mid.collector groups)) (type_rows e (levels_from depth) depth p T)
       (subst (λ (x : Setting). BuildsRows result mid new (groups_visits x T handed (levels_from depth) (groups_seen mid.collector groups)) (groups_rows x T handed (levels_from depth) depth true (groups_seen mid.collector groups))) setting_there (h (ready can.0, can_groups)))
       (gathered_visits e T p (groups_seen mid.collector groups) gathers (levels_from depth)) (gathered_rows e T p (groups_seen mid.collector groups) gathers (levels_from depth) depth)
     where
-      all_can : (gs : List Group) → All (λ (g : Group). (0 < length g.fields.items) × (All (IsNumber mid.collector) g.below.items × IsAcyclic (setting_built old) (record { selections = flat_map (meaning_at mid.collector) g.below.items; handed = None }))) gs → All (CanBuildGroup mid) gs
-      all_can [] a = λ k d lt. absurd (none_less k lt)
-        where
-          none_less : (k : ℕ) → k < 0 → ⊥
-          none_less k lt = omega arith
-      all_can (x ∷ gs) a =
-          let P : Group → Type 0 = λ (g : Group). (0 < length g.fields.items) × (All (IsNumber mid.collector) g.below.items × IsAcyclic (setting_built old) (record { selections = flat_map (meaning_at mid.collector) g.below.items; handed = None })) in
-          let here = All-head P x gs a in
-          All-cons (CanBuildGroup mid) x gs (record { filled = here.0; below = (here.1.0, subst (λ (s : Setting). IsAcyclic s (position_built mid x.below.items None)) (sym (ap setting_of same)) here.1.1) }) (all_can gs (All-tail P x gs a))
-
       moved : (result : Result (Unit {0}) Stop) (vs us : List Visit) (rows others : List Row) → BuildsRows result mid new vs rows → vs ≡ us → rows ≡ others → BuildsRows result old new us others
       moved (Ok done) vs us rows others b v r = (ap (λ n. outcome n us) (sym left) ∙ (ap (λ x. outcome mid.left x) (sym v) ∙ b.0), b.1 ∙ (ap (λ x. x ++ rows) table ∙ ap (λ x. table_rows old.plan ++ x) r))
       moved (Err stop) vs us rows others b v r = same_stop stop (outcome mid.left vs) (outcome old.left us) (ap (λ x. outcome mid.left x) v ∙ ap (λ n. outcome n us) left) b
+
+-- ---- groups that are known
+
+sound_groups : (b : Building) (groups : List Group) → All (CanBuildGroup b) groups → All (IsSound b.collector) groups
+sound_groups b groups can = λ k d less. let here = can k d less in (record { filled = here.filled; known = here.below.0 }, here.below.1)
+
+can_groups : (b : Building) (groups : List Group) → All (IsSound b.collector) groups → All (CanBuildGroup b) groups
+can_groups b groups sound = λ k d less. let here = sound k d less in record { filled = here.0.filled; below = (here.0.known, here.1) }
+
+-- of a position that is met again
+pub known_built : (old new : Building) (depth T : ℕ) (lists : List ℕ) (handed : HandedSize) (spread : Option (List ℕ)) (groups : List Group) (s : SchemaData) (result : Result (Unit {0}) Stop) → (setting_at old.collector).schema ≡ s → FindsFor s old.known T lists spread groups
+    → IfSome spread (SpreadsAlone old.collector lists) → BuildsGroups old depth result new T groups handed → BuildsType old depth result new T lists handed
+known_built old new depth T lists handed spread groups s result schema found alone h can =
+    let stand : StandFor old.collector T lists groups = found_stand old.collector old.known s T lists spread groups schema can.0.known found alone can.1.1 in
+    subst (λ (vs : List Visit). BuildsRows result old new vs (type_rows (setting_built old) (levels_from depth) depth (position_built old lists handed) T)) (stand.come.visits handed (levels_from depth))
+    (subst (λ (rows : List Row). BuildsRows result old new (groups_visits (setting_built old) T handed (levels_from depth) (groups_seen old.collector groups)) rows) (stand.come.rows handed (levels_from depth) depth)
+    (h (can.0, can_groups old groups stand.sound)))
+
+-- Where nodes were built of the groups of a position, these stand for it.
+module _ (old mid new : Building) (same : frame mid ≡ frame old) (after : frame new ≡ frame mid) (more : HasMore old.collector.joins mid.collector.joins) (more_after : HasMore mid.collector.joins new.collector.joins) (ready : CanBuild old) (can : CanBuild mid) where
+  pub built_known : (depth T : ℕ) (lists : List ℕ) (handed : HandedSize) (spread : Option (List ℕ)) (groups : List Group) (done : Unit {0}) → All (IsNumber old.collector) lists → IfSome spread (SpreadsAlone old.collector lists) → GivesGroups old.collector mid.collector T lists groups
+      → BuildsGroups mid depth (Ok done) new T groups handed → MayBeKnown new.collector T lists spread groups
+  built_known depth T lists handed spread groups done known alone gives built =
+      may_still mid.collector new.collector (ap (λ (f : Frame). f.0) after) (ap (λ (f : Frame). f.1) after) more_after T lists spread groups (record {
+        numbers = still_known old.collector mid.collector (ap (λ (f : Frame). f.1) same) more lists known;
+        spread = told_still old.collector mid.collector (ap (λ (f : Frame). f.0) same) (ap (λ (f : Frame). f.1) same) more lists spread known alone;
+        stand = λ acyclic.
+            let before : IsAcyclic (setting_built old) (position_built old lists None) = acyclic_before old.collector mid.collector (ap (λ (f : Frame). f.0) same) (ap (λ (f : Frame). f.1) same) more lists known acyclic in
+            let groups_can : All (CanBuildGroup mid) groups = gathered_can old mid same T lists groups gives ready.collector before in
+            let e : Setting = setting_built old in
+            let none : Position = position_built old lists None in
+            let g : Gathers e T none (groups_seen mid.collector groups) = gives.found ready.collector before in
+            record {
+              sound = sound_groups mid groups groups_can;
+              equal = visited_equal (setting_built mid) T handed mid.left new.left (levels_from depth) (groups_seen mid.collector groups) (built (can, groups_can)).0;
+              come = subst (λ (x : Setting). ComeToSame x T (groups_seen mid.collector groups) (position_built mid lists None)) (sym (ap setting_of same))
+                  (subst (λ (p : Position). ComeToSame e T (groups_seen mid.collector groups) p) (sym (position_still old.collector mid.collector (ap (λ (f : Frame). f.0) same) (ap (λ (f : Frame). f.1) same) more lists known)) (record {
+                    visits = λ h levels. gathered_visits e T (position_built old lists h) (groups_seen mid.collector groups) (record { fields = g.fields; repeats = g.repeats; grouped = g.grouped }) levels;
+                    rows = λ h levels d. gathered_rows e T (position_built old lists h) (groups_seen mid.collector groups) (record { fields = g.fields; repeats = g.repeats; grouped = g.grouped }) levels d;
+                  }));
+            };
+      })

@@ -7,9 +7,8 @@ pub mod BuiltParts
 pub mod BuiltPlans
 pub mod BuiltSteps
 pub mod FewerTypes
-pub mod HeldParts
 pub mod NodeFaults
 pub mod NodeSizes
-pub mod Opened
-pub mod SideBySide
 pub mod VisitedParts
+pub mod SomeFields
+pub mod MetAgain

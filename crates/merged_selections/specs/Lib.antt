@@ -3,8 +3,9 @@ pub mod Faults
 pub mod Building
 -- The tests of a node.
 pub mod NodeParts
-pub mod Alike
 pub mod NodeTests
 -- Building.
 pub mod Outcomes
+pub mod Nodes
+pub mod Again
 pub mod Stages

@@ -1,17 +1,16 @@
 -- What is visited and which rows are made while a plan is built: at a position, for a type, for the fields of one key.
-use Rattle.std.specs.Prelude.{◌≡◌, ◌-◌, ◌<◌, ℕ, length, zero, suc, Bool, true, false, List, [], ◌∷◌, ◌++◌, map, flat_map, All, None, Result, Ok, Err}
+use Rattle.std.specs.Prelude.{◌≡◌, ◌-◌, ◌<◌, ℕ, length, Bool, true, List, [], ◌∷◌, ◌++◌, map, flat_map, All, None, Result, Ok, Err}
 use Rattle.std.specs.List.{list_any}
-use Rattle.response_model.specs.Plan.{Plan as PlanTree, ObjectTypes}
 use Rattle.input_values.specs.declared.inputs.shape.TypeId.{TypeId}
 use Rattle.schema_model.specs.declared.schema.Schema.{Schema}
 use Rattle.cost_directives.specs.declared.weights.Weights.{Weights}
 use Rattle.schema_model.specs.Numbers.{type_number}
-use Rattle.plan_model.specs.SelectedFields.{Setting, HandedSize, Place, types_of, form_of, place_of, meaning_weight, place_at, hands_at}
+use Rattle.plan_model.specs.SelectedFields.{Setting, HandedSize, form_of, place_of, meaning_weight}
 use Rattle.plan_model.specs.Collecting.{CollectedField, WrittenSelections}
-use Rattle.plan_model.specs.Merging.{Position, keys_at, first_call, asks, selected_by}
+use Rattle.plan_model.specs.Merging.{Position, first_call, asks}
 use Rattle.plan_model.specs.MergingWalk.{IsAcyclic}
-use Rattle.plan_model.specs.Plans.{with_capped, type_weight}
-use Rattle.plan_model.specs.Visits.{Visit, fault_of, visits_of, visits_of_type, too_deep_at, deepest_visits, visits, planned_nodes, planned_types, nothing_planned, planned}
+use Rattle.plan_model.specs.Plans.{type_weight}
+use Rattle.plan_model.specs.Visits.{Visit, visits}
 use Rattle.collected_fields.specs.declared.planning.Planning.{Planning}
 use Rattle.collected_fields.specs.declared.collected.Collected.{Collected}
 use Rattle.collected_fields.specs.declared.collected.Group.{Group}
@@ -19,79 +18,15 @@ use Rattle.collected_fields.specs.Views.{collected_field}
 use Rattle.collected_fields.specs.Groups.{GroupData}
 use Rattle.collected_fields.specs.Gathering.{IsReady, planning_of, setting_at, written_at, meaning_at, IsNumber, group_seen, groups_seen}
 use Rattle.plan_table.specs.ListSizes.{size_from}
-use Rattle.plan_table.specs.Rows.{Row, below_in, rows_below, rows_of_types, rows_of_nodes}
+use Rattle.plan_table.specs.Rows.{Row}
 use Rattle.plan_table.specs.Tables.{setting_without_values, meaning_of, below_at, setting_in, table_rows}
 use Rattle.merged_selections.specs.declared.node.Looked.{Looked}
 use Rattle.merged_selections.specs.declared.stop.Stop.{Stop}
 use Rattle.merged_selections.specs.declared.building.Building.{Building}
 use Rattle.merged_selections.specs.NodeTests.{AreKept}
 use Rattle.merged_selections.specs.Outcomes.{has_left, outcome, IsStop}
-
--- how many levels may stand below nodes of this depth, with these themselves
-abbrev pub levels_from : ℕ → ℕ
-levels_from depth = 51 - depth
-
-abbrev pub key_seen : List CollectedField → List ℕ
-key_seen [] = []
-key_seen (f ∷ fields) = f.key
-
-module _ (e : Setting) where
-  -- ---- a type
-
-  abbrev pub type_visits : ℕ → Position → ℕ → List Visit
-  type_visits zero p T = deepest_visits e p T
-  type_visits (suc levels) p T = visits_of_type e (visits e levels) p T
-
-  abbrev pub planned_below : ℕ → Place → Position → PlanTree
-  planned_below zero place p = nothing_planned place p
-  planned_below (suc levels) place p = planned e levels place p
-
-  abbrev pub type_rows : ℕ → ℕ → Position → ℕ → List Row
-  type_rows levels depth p T = rows_of_nodes depth T (type_weight e T) true (planned_nodes e (planned_below levels) p T (keys_at e T p))
-
-  -- ---- a position
-
-  abbrev pub types_planned : ℕ → Position → List ℕ → ObjectTypes
-  types_planned levels p Ts = planned_types e (planned_below levels) p Ts
-
-  abbrev pub types_rows : ℕ → ℕ → Position → List ℕ → List Row
-  types_rows levels depth p Ts = rows_of_types depth (types_planned levels p Ts)
-
-  -- ---- the fields of one key
-
-  module _ (T : ℕ) (handed : HandedSize) where
-    -- the position below them
-    abbrev pub group_position : GroupData → Position
-    group_position g = record { selections = g.below; handed = hands_at e T (first_call g.fields) }
-
-    abbrev pub node_visits : ℕ → GroupData → List Visit
-    node_visits zero g = too_deep_at (key_seen g.fields) ∷ []
-    node_visits (suc levels) g = visits_of (key_seen g.fields) (fault_of e T handed g.fields) (visits e levels (types_of (place_at e T (first_call g.fields))) (group_position g))
-
-    abbrev pub planned_for_node : ℕ → GroupData → PlanTree
-    planned_for_node levels g = planned_below levels (place_at e T (first_call g.fields)) (group_position g)
-
-    abbrev pub node_row : ℕ → ℕ → Bool → GroupData → Row
-    node_row levels depth first g = record {
-      depth = depth;
-      type = T;
-      weight = type_weight e T;
-      first = first;
-      selected = with_capped (selected_by e T (key_seen g.fields) handed g.fields);
-      below = below_in (planned_for_node levels g);
-    }
-
-    abbrev pub node_rows : ℕ → ℕ → Bool → GroupData → List Row
-    node_rows levels depth first g = node_row levels depth first g ∷ rows_below (suc depth) (planned_for_node levels g)
-
-    -- ---- several keys, where the first of them is the first of the type or not
-
-    abbrev pub groups_visits : ℕ → List GroupData → List Visit
-    groups_visits levels groups = flat_map (node_visits levels) groups
-
-    abbrev pub groups_rows : ℕ → ℕ → Bool → List GroupData → List Row
-    groups_rows levels depth first [] = []
-    groups_rows levels depth first (g ∷ groups) = node_rows levels depth first g ++ groups_rows levels depth false groups
+pub use Rattle.merged_selections.specs.Nodes.{levels_from, key_seen, type_visits, planned_below, type_rows, types_planned, types_rows, group_position, node_visits, planned_for_node, node_row, node_rows, groups_visits, groups_rows}
+use Rattle.merged_selections.specs.Again.{AreKnown}
 
 -- ---- what stays the same while a plan is built
 
@@ -112,11 +47,13 @@ position_built b lists handed = record { selections = flat_map (meaning_at b.col
 abbrev pub node_seen : Building → List Collected → List ℕ → GroupData
 node_seen b fields below = record { fields = map collected_field fields; below = flat_map (meaning_at b.collector) below }
 
--- The collector may be asked, the plan is of the same schema and weights, and the calls are what was made of them.
+-- The collector may be asked, the plan is of the same schema and weights, the calls are what was made of them, and so are the groups
+-- that are known.
 pub record CanBuild (b : Building) : Type 0 where
   pub collector : IsReady b.collector
   pub plan : setting_in b.plan ≡ setting_without_values (setting_built b).schema (setting_built b).weights
   pub calls : AreKept (setting_built b) b.calls
+  pub known : AreKnown b.collector b.known
 
 -- The numbers are those of the collector, and their selections are acyclic.
 abbrev pub CanBuildAt : Building → List ℕ → Type 0

@@ -15,6 +15,7 @@ use crate::calls::Calls;
 use crate::fault::PlanFault;
 use crate::few::are_few;
 use crate::keys::Keys;
+use crate::known::Known;
 use crate::stop::fault_of;
 use collected_fields::{Collector, Planning};
 use cost_directives::Weights;
@@ -65,6 +66,7 @@ fn build_from<'a, 'b>(
         left: NODE_LIMIT,
         calls: Calls::new(alloc),
         keys: Keys::new(alloc),
+        known: Known::new(alloc),
     };
     match building.build_types(alloc, 1, &[root], &[list], None) {
         Ok(()) => Ok(building.into_plan()),

@@ -10,6 +10,7 @@ ghost use Rattle.merged_selections.specs.Stages.{frame, setting_built, CanBuild,
 use crate::LEVEL_LIMIT;
 use crate::calls::Calls;
 use crate::keys::Keys;
+use crate::known::Known;
 use crate::lookups::{Handed, any_asks, key_of, name_of, types_below};
 use crate::node::{Looked, look};
 use crate::stop::{Stop, stopped, under};
@@ -32,6 +33,8 @@ pub struct Building<'p, 'a> {
     pub calls: Calls<'p>,
     /// The response keys of the rows.
     pub keys: Keys<'p>,
+    /// The groups to which positions came.
+    pub known: Known<'p>,
 }
 
 /// The types of the objects that may stand at a field; none at `__typename`.
@@ -156,8 +159,43 @@ impl<'p, 'a> Building<'p, 'a> {
         ensures ready { CanBuild self.old → CanBuild self.new }
         ensures built { BuildsType self.old depth result self.new of.number lists.now (handed_data handed.entry) }
     {
+        let schema = self.collector.planning().schema;
+        let spread = self.collector.spread_alone(lists);
+        match self.known.find(alloc, schema, of, lists, spread)? {
+            Some(groups) => self.build_groups(alloc, depth, of, groups.as_slice(), handed),
+            None => self.build_anew(alloc, depth, of, lists, handed),
+        }
+    }
+
+    /// The nodes of a position for a type, which is collected. The groups are kept where they may be met again.
+    #[cycle(build)]
+    fn build_anew(
+        &mut self,
+        alloc: Global,
+        depth: u32,
+        of: TypeId,
+        lists: &[usize],
+        handed: Option<Handed<'p>>,
+    ) -> Result<(), Stop>
+        ensures frame { frame self.new ≡ frame self.old }
+        ensures numbers { HasMore self.old.collector.joins self.new.collector.joins }
+        ensures ready { CanBuild self.old → CanBuild self.new }
+        ensures built { BuildsType self.old depth result self.new of.number lists.now (handed_data handed.entry) }
+    {
+        let spread = self.collector.spread_alone(lists);
+        let known = self.collector.knows(lists);
         let groups = self.collector.collect(alloc, of, lists)?;
-        self.build_groups(alloc, depth, of, groups.as_slice(), handed)
+        match self.build_groups(alloc, depth, of, groups.as_slice(), handed) {
+            Ok(()) => {}
+            Err(stop) => return Err(stop),
+        }
+        if !known {
+            return Ok(());
+        }
+        let schema = self.collector.planning().schema;
+        self.known
+            .keep(alloc, schema, of, lists, spread, groups.as_slice())?;
+        Ok(())
     }
 
     /// The nodes of these keys.

@@ -8,8 +8,8 @@ ghost use Rattle.merged_selections.specs.NodeTests.{IsKept, AreKept, IsAlikeAt, 
 use crate::call::{Call, is_alike, new_call};
 use crate::hashes::hash_of;
 use crate::held::bytes_of;
-use crate::same_values::same_arguments;
 use collected_fields::{Collected, Planning};
+use distinct_selections::same_arguments;
 use schema_model::FieldId;
 use std::alloc::{AllocError, Global};
 use std::collections::HashMap;
@@ -23,6 +23,9 @@ const TURNS: usize = 256;
 
 /// So many calls are looked at, each equal to the next one, for the one that stands for all of them.
 const HOPS: usize = 64;
+
+/// So many calls find no room before all that are kept are forgotten.
+const REFUSED: usize = 1024;
 
 /// Calls, each found by its field and by how its arguments are written.
 #[derive(Drop)]
@@ -38,6 +41,8 @@ pub struct Calls<'a> {
     held: usize,
     /// How often the last call went for a new one since all were forgotten.
     turns: usize,
+    /// How many calls found no room since all were forgotten.
+    refused: usize,
 }
 
 /// Whether the arguments of the calls at two places are equal.
@@ -71,6 +76,7 @@ impl<'a> Calls<'a> {
             last: 0,
             held: 0,
             turns: 0,
+            refused: 0,
         }
     }
 
@@ -106,6 +112,7 @@ impl<'a> Calls<'a> {
         self.places.clear();
         self.held = 0;
         self.turns = 0;
+        self.refused = 0;
     }
 
     /// Puts a call behind the others, under this hash.
@@ -148,6 +155,15 @@ impl<'a> Calls<'a> {
         self.forget_last();
     }
 
+    /// Forgets all where many found no room, so that those which aren't made any more don't keep others out.
+    fn forget_where_refused(&mut self)
+        ensures { (e : Setting) → AreKept e self.old → AreKept e self.new }
+    {
+        if self.refused >= REFUSED {
+            self.forget();
+        }
+    }
+
     /// The place of a field's call that is made anew. Where there is no room left, the others are forgotten.
     fn make(
         &mut self,
@@ -185,6 +201,7 @@ impl<'a> Calls<'a> {
         ensures within { IfOk result (λ at. at < length self.new.made.items) }
         ensures found { AreKept (setting_of_planning planning.now) self.old → FindsCall (setting_of_planning planning.now) of.number (collected_field field.now) self.new.made.items result }
     {
+        self.forget_where_refused();
         if self.is_alike_at(self.last, of, field) {
             return Ok(self.last);
         }
@@ -269,6 +286,7 @@ impl<'a> Calls<'a> {
         ensures grows { Grows self.old.made.items self.new.made.items }
     {
         if self.held > ROOM {
+            self.refused = self.refused.saturating_add(1);
             return Ok(());
         }
         let place = self.made.len();

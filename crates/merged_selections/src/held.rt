@@ -1,10 +1,13 @@
-//! How much memory coerced arguments hold, about. Nothing but memory rests on it.
+//! How much memory calls hold, about. Nothing but memory rests on it.
 
 use input_values::{Coerced, CoercedField};
 use schema_model::Args;
 
 /// What one value takes, besides its text and what stands inside of it.
 const NODE: usize = 48;
+
+/// What a call takes, besides its arguments.
+const CALL: usize = 208;
 
 #[cycle(held)]
 fn value_bytes(value: &Coerced) -> usize {
@@ -40,9 +43,9 @@ fn fields_bytes(fields: &[CoercedField]) -> usize {
     sum
 }
 
-/// The bytes that arguments hold, about.
+/// The bytes that a call with these arguments holds, about.
 pub(crate) fn bytes_of(args: &Args) -> usize {
-    let mut sum: usize = 0;
+    let mut sum: usize = CALL;
     for arg in args.list.as_slice() {
         sum = sum.saturating_add(NODE);
         match &arg.value {

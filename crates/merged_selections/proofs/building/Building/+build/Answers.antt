@@ -1,7 +1,12 @@
-use Rattle.std.proofs.Common.{refl, sym, ap, subst, ◌∙◌, List, map, ◌∷◌, ◌+◌, Ok, Err}
+use Rattle.std.proofs.Common.{refl, sym, ap, subst, ◌∙◌, List, map, ◌∷◌, ◌+◌, Option, Ok, Err, Vec, Global}
 use Rattle.std.proofs.lemmas.List.{drop_more}
 use Rattle.merged_selections.specs.NodeParts.{handed_data, types_at}
-use Rattle.merged_selections.proofs.BuiltSteps.{types_stop, types_go, types_end, groups_stop, groups_go, groups_end, type_built}
+use Rattle.merged_selections.specs.Again.{name_in, MayBeKnown, FindsFor}
+use Rattle.merged_selections.proofs.MetAgain.{told_by_name}
+use Rattle.collected_fields.specs.Alone.{SpreadsAlone}
+use Rattle.schema_model.specs.SchemaViews.{schema_data}
+use Rattle.std.specs.Prelude.{IfSome}
+use Rattle.merged_selections.proofs.BuiltSteps.{types_stop, types_go, types_end, groups_stop, groups_go, groups_end, type_built, known_built, built_known}
 use Rattle.plan_model.specs.Visits.{fault_of}
 use Rattle.collected_fields.specs.declared.planning.Planning.{Planning}
 use Rattle.collected_fields.specs.declared.collected.Group.{Group}
@@ -19,15 +24,15 @@ use Rattle.merged_selections.proofs.building.Building.+build.Goals as goal
 
 pub build_position-returns-clause-built : goal.build_position-returns-clause-built
 build_position-returns-clause-built t c = λ objects.
-    left_built c.args.self.now (record { collector = c.types_with_fields.new.self; plan = c.args.self.now.plan; left = c.args.self.now.left; calls = c.args.self.now.calls; keys = c.args.self.now.keys }) c.build_types.new.self (frames c.args.self.now c.types_with_fields.new.self c.types_with_fields.ensures.grows.planning c.types_with_fields.ensures.grows.written) c.types_with_fields.ensures.grows.numbers
-    (can_after c.args.self.now c.types_with_fields.new.self c.types_with_fields.ensures.grows.planning c.types_with_fields.ensures.grows.ready) refl refl c.args.depth c.args.lists.now (handed_data c.args.handed) c.build_types.result c.args.types.now c.in_ok-left.left c.in_ok-left.ensures.left objects
-    (subst (λ (ts : List TypeId). BuildsTypes (record { collector = c.types_with_fields.new.self; plan = c.args.self.now.plan; left = c.args.self.now.left; calls = c.args.self.now.calls; keys = c.args.self.now.keys }) c.args.depth c.build_types.result c.build_types.new.self ts c.args.lists.now (handed_data c.args.handed)) c.left_of.ensures c.build_types.ensures.built)
+    left_built c.args.self.now (record { collector = c.types_with_fields.new.self; plan = c.args.self.now.plan; left = c.args.self.now.left; calls = c.args.self.now.calls; keys = c.args.self.now.keys; known = c.args.self.now.known }) c.build_types.new.self (frames c.args.self.now c.types_with_fields.new.self c.types_with_fields.ensures.grows.planning c.types_with_fields.ensures.grows.written) c.types_with_fields.ensures.grows.numbers
+    (can_after c.args.self.now c.types_with_fields.new.self c.types_with_fields.ensures.grows.planning c.types_with_fields.ensures.grows.written c.types_with_fields.ensures.grows.numbers c.types_with_fields.ensures.grows.ready) refl refl c.args.depth c.args.lists.now (handed_data c.args.handed) c.build_types.result c.args.types.now c.in_ok-left.left c.in_ok-left.ensures.left objects
+    (subst (λ (ts : List TypeId). BuildsTypes (record { collector = c.types_with_fields.new.self; plan = c.args.self.now.plan; left = c.args.self.now.left; calls = c.args.self.now.calls; keys = c.args.self.now.keys; known = c.args.self.now.known }) c.args.depth c.build_types.result c.build_types.new.self ts c.args.lists.now (handed_data c.args.handed)) c.left_of.ensures c.build_types.ensures.built)
 
 pub build_position-returns-clause-ready : goal.build_position-returns-clause-ready
-build_position-returns-clause-ready t c = λ can. c.build_types.ensures.ready (can_after c.args.self.now c.types_with_fields.new.self c.types_with_fields.ensures.grows.planning c.types_with_fields.ensures.grows.ready can)
+build_position-returns-clause-ready t c = λ can. c.build_types.ensures.ready (can_after c.args.self.now c.types_with_fields.new.self c.types_with_fields.ensures.grows.planning c.types_with_fields.ensures.grows.written c.types_with_fields.ensures.grows.numbers c.types_with_fields.ensures.grows.ready can)
 
 pub build_position-returns-in_err-left-clause-ready : goal.build_position-returns-in_err-left-clause-ready
-build_position-returns-in_err-left-clause-ready t c = λ can. can_after c.args.self.now c.types_with_fields.new.self c.types_with_fields.ensures.grows.planning c.types_with_fields.ensures.grows.ready can
+build_position-returns-in_err-left-clause-ready t c = λ can. can_after c.args.self.now c.types_with_fields.new.self c.types_with_fields.ensures.grows.planning c.types_with_fields.ensures.grows.written c.types_with_fields.ensures.grows.numbers c.types_with_fields.ensures.grows.ready can
 
 pub build_types-returns-in-Err-clause-built : goal.build_types-returns-in-Err-clause-built
 build_types-returns-in-Err-clause-built t c =
@@ -67,11 +72,43 @@ pub build_groups-returns-clause-built : goal.build_groups-returns-clause-built
 build_groups-returns-clause-built t c =
     groups_end c.args.self.now c.groups.self c.groups.self c.args.depth c.args.of.number c.args.groups.now (handed_data c.args.handed) c.groups.group-index c.groups.first c.groups.invariant.0 c.groups.invariant.1 c.groups.invariant.2 c.groups.invariant.3 c.groups-test.false tt
 
-pub build_type-returns-clause-built : goal.build_type-returns-clause-built
-build_type-returns-clause-built t c =
-    type_built c.args.self.now (record { collector = c.collect.new.self; plan = c.args.self.now.plan; left = c.args.self.now.left; calls = c.args.self.now.calls; keys = c.args.self.now.keys }) c.build_groups.new.self (frames c.args.self.now c.collect.new.self c.collect.ensures.grows.planning c.collect.ensures.grows.written) refl refl c.args.depth c.args.of.number c.args.lists.now (handed_data c.args.handed) c.in_ok-groups.groups.items c.build_groups.result
-    (can_after c.args.self.now c.collect.new.self c.collect.ensures.grows.planning c.collect.ensures.grows.ready) c.in_ok-groups.ensures.gives
-    (subst (λ (gs : List Group). BuildsGroups (record { collector = c.collect.new.self; plan = c.args.self.now.plan; left = c.args.self.now.left; calls = c.args.self.now.calls; keys = c.args.self.now.keys }) c.args.depth c.build_groups.result c.build_groups.new.self c.args.of.number gs (handed_data c.args.handed)) c.as_slice.ensures.value c.build_groups.ensures.built)
+pub build_type-returns-in-Some-clause-built : goal.build_type-returns-in-Some-clause-built
+build_type-returns-in-Some-clause-built t c =
+    known_built c.args.self.now c.build_groups.new.self c.args.depth c.args.of.number c.args.lists.now (handed_data c.args.handed) (name_in c.spread_alone-spread.result) c.in-Some.groups.items (schema_data c.planning.result.schema.now) c.build_groups.result
+    (ap (λ (pl : Planning). schema_data pl.schema.now) (sym c.planning.ensures))
+    (subst (λ (found : Option (Vec Group Global)). IfSome found (λ groups. FindsFor (schema_data c.planning.result.schema.now) c.args.self.now.known c.args.of.number c.args.lists.now (name_in c.spread_alone-spread.result) groups.items)) c.in-Some.is c.in_ok-groups.ensures)
+    (told_by_name (SpreadsAlone c.args.self.now.collector c.args.lists.now) c.spread_alone-spread.result c.spread_alone-spread.ensures)
+    (subst (λ (gs : List Group). BuildsGroups c.args.self.now c.args.depth c.build_groups.result c.build_groups.new.self c.args.of.number gs (handed_data c.args.handed)) c.as_slice.ensures.value c.build_groups.ensures.built)
+
+pub build_anew-returns-in-Err-clause-built : goal.build_anew-returns-in-Err-clause-built
+build_anew-returns-in-Err-clause-built t c =
+    type_built c.args.self.now (record { collector = c.collect.new.self; plan = c.args.self.now.plan; left = c.args.self.now.left; calls = c.args.self.now.calls; keys = c.args.self.now.keys; known = c.args.self.now.known }) c.build_groups.new.self (frames c.args.self.now c.collect.new.self c.collect.ensures.grows.planning c.collect.ensures.grows.written) refl refl c.args.depth c.args.of.number c.args.lists.now (handed_data c.args.handed) c.in_ok-groups.groups.items (Err c.in-Err.stop)
+    (can_after c.args.self.now c.collect.new.self c.collect.ensures.grows.planning c.collect.ensures.grows.written c.collect.ensures.grows.numbers c.collect.ensures.grows.ready) c.in_ok-groups.ensures.gives
+    (subst (λ (gs : List Group). BuildsGroups (record { collector = c.collect.new.self; plan = c.args.self.now.plan; left = c.args.self.now.left; calls = c.args.self.now.calls; keys = c.args.self.now.keys; known = c.args.self.now.known }) c.args.depth (Err c.in-Err.stop) c.build_groups.new.self c.args.of.number gs (handed_data c.args.handed)) c.as_slice.ensures.value c.in-Err.ensures.built)
+
+pub build_anew-returns-then-not-known-clause-built : goal.build_anew-returns-then-not-known-clause-built
+build_anew-returns-then-not-known-clause-built t c =
+    type_built c.args.self.now (record { collector = c.collect.new.self; plan = c.args.self.now.plan; left = c.args.self.now.left; calls = c.args.self.now.calls; keys = c.args.self.now.keys; known = c.args.self.now.known }) c.build_groups.new.self (frames c.args.self.now c.collect.new.self c.collect.ensures.grows.planning c.collect.ensures.grows.written) refl refl c.args.depth c.args.of.number c.args.lists.now (handed_data c.args.handed) c.in_ok-groups.groups.items (Ok c.in-Ok.field-0)
+    (can_after c.args.self.now c.collect.new.self c.collect.ensures.grows.planning c.collect.ensures.grows.written c.collect.ensures.grows.numbers c.collect.ensures.grows.ready) c.in_ok-groups.ensures.gives
+    (subst (λ (gs : List Group). BuildsGroups (record { collector = c.collect.new.self; plan = c.args.self.now.plan; left = c.args.self.now.left; calls = c.args.self.now.calls; keys = c.args.self.now.keys; known = c.args.self.now.known }) c.args.depth (Ok c.in-Ok.field-0) c.build_groups.new.self c.args.of.number gs (handed_data c.args.handed)) c.as_slice.ensures.value c.in-Ok.ensures.built)
+
+pub build_anew-returns-clause-built : goal.build_anew-returns-clause-built
+build_anew-returns-clause-built t c =
+    type_built c.args.self.now (record { collector = c.collect.new.self; plan = c.args.self.now.plan; left = c.args.self.now.left; calls = c.args.self.now.calls; keys = c.args.self.now.keys; known = c.args.self.now.known }) c.build_groups.new.self (frames c.args.self.now c.collect.new.self c.collect.ensures.grows.planning c.collect.ensures.grows.written) refl refl c.args.depth c.args.of.number c.args.lists.now (handed_data c.args.handed) c.in_ok-groups.groups.items (Ok c.in-Ok.field-0)
+    (can_after c.args.self.now c.collect.new.self c.collect.ensures.grows.planning c.collect.ensures.grows.written c.collect.ensures.grows.numbers c.collect.ensures.grows.ready) c.in_ok-groups.ensures.gives
+    (subst (λ (gs : List Group). BuildsGroups (record { collector = c.collect.new.self; plan = c.args.self.now.plan; left = c.args.self.now.left; calls = c.args.self.now.calls; keys = c.args.self.now.keys; known = c.args.self.now.known }) c.args.depth (Ok c.in-Ok.field-0) c.build_groups.new.self c.args.of.number gs (handed_data c.args.handed)) c.as_slice.ensures.value c.in-Ok.ensures.built)
+
+pub build_anew-returns-in-Err-clause-numbers : goal.build_anew-returns-in-Err-clause-numbers
+build_anew-returns-in-Err-clause-numbers t c = more_again c.args.self.now.collector.joins c.collect.new.self.joins c.build_groups.new.self.collector.joins c.collect.ensures.grows.numbers c.build_groups.ensures.numbers
+
+pub build_anew-returns-then-not-known-clause-numbers : goal.build_anew-returns-then-not-known-clause-numbers
+build_anew-returns-then-not-known-clause-numbers t c = more_again c.args.self.now.collector.joins c.collect.new.self.joins c.build_groups.new.self.collector.joins c.collect.ensures.grows.numbers c.build_groups.ensures.numbers
+
+pub build_anew-returns-in_err-keep-clause-numbers : goal.build_anew-returns-in_err-keep-clause-numbers
+build_anew-returns-in_err-keep-clause-numbers t c = more_again c.args.self.now.collector.joins c.collect.new.self.joins c.build_groups.new.self.collector.joins c.collect.ensures.grows.numbers c.build_groups.ensures.numbers
+
+pub build_anew-returns-clause-numbers : goal.build_anew-returns-clause-numbers
+build_anew-returns-clause-numbers t c = more_again c.args.self.now.collector.joins c.collect.new.self.joins c.build_groups.new.self.collector.joins c.collect.ensures.grows.numbers c.build_groups.ensures.numbers
 
 pub build_node-returns-then-self-eq0-clause-built : goal.build_node-returns-then-self-eq0-clause-built
 build_node-returns-then-self-eq0-clause-built t c = λ can. past_limit (setting_built c.args.self.now) c.args.of.number (handed_data c.args.handed) (node_seen c.args.self.now (c.args.field.now ∷ c.args.others.now) c.args.below.now) (levels_from c.args.depth) c.args.self.now.left c.if-self-eq0.true
@@ -111,8 +148,44 @@ build_node-returns-in-Ok-build_position-clause-ready t c = λ can. c.in-Ok-build
 pub build_node-returns-in-Err-build_position-clause-ready : goal.build_node-returns-in-Err-build_position-clause-ready
 build_node-returns-in-Err-build_position-clause-ready t c = λ can. c.in-Err-build_position.ensures.ready (c.in_ok-push_row-in-Ok.ensures.ready (can_still c.args.self.now _ _ c.look.new.calls c.planning-planning.ensures c.in-Ok.ensures.kept can))
 
-pub build_type-returns-clause-ready : goal.build_type-returns-clause-ready
-build_type-returns-clause-ready t c = λ can. c.build_groups.ensures.ready (can_after c.args.self.now c.collect.new.self c.collect.ensures.grows.planning c.collect.ensures.grows.ready can)
+pub build_anew-returns-in_err-groups-clause-ready : goal.build_anew-returns-in_err-groups-clause-ready
+build_anew-returns-in_err-groups-clause-ready t c = λ can. (can_after c.args.self.now c.collect.new.self c.collect.ensures.grows.planning c.collect.ensures.grows.written c.collect.ensures.grows.numbers c.collect.ensures.grows.ready) can
+
+pub build_anew-returns-in-Err-clause-ready : goal.build_anew-returns-in-Err-clause-ready
+build_anew-returns-in-Err-clause-ready t c = λ can. c.build_groups.ensures.ready ((can_after c.args.self.now c.collect.new.self c.collect.ensures.grows.planning c.collect.ensures.grows.written c.collect.ensures.grows.numbers c.collect.ensures.grows.ready) can)
+
+pub build_anew-returns-then-not-known-clause-ready : goal.build_anew-returns-then-not-known-clause-ready
+build_anew-returns-then-not-known-clause-ready t c = λ can. c.build_groups.ensures.ready ((can_after c.args.self.now c.collect.new.self c.collect.ensures.grows.planning c.collect.ensures.grows.written c.collect.ensures.grows.numbers c.collect.ensures.grows.ready) can)
+
+pub build_anew-returns-in_err-keep-clause-ready : goal.build_anew-returns-in_err-keep-clause-ready
+build_anew-returns-in_err-keep-clause-ready t c = λ can.
+    let after = c.build_groups.ensures.ready ((can_after c.args.self.now c.collect.new.self c.collect.ensures.grows.planning c.collect.ensures.grows.written c.collect.ensures.grows.numbers c.collect.ensures.grows.ready) can) in record {
+      collector = after.collector;
+      plan = after.plan;
+      calls = after.calls;
+      known = c.keep.ensures c.build_groups.new.self.collector (ap (λ (pl : Planning). schema_data pl.schema.now) (sym c.planning.ensures))
+          (subst (λ (gs : List Group). MayBeKnown c.build_groups.new.self.collector c.args.of.number c.args.lists.now (name_in c.spread_alone-spread.result) gs) (sym c.as_slice-2.ensures.value)
+          (built_known c.args.self.now (record { collector = c.collect.new.self; plan = c.args.self.now.plan; left = c.args.self.now.left; calls = c.args.self.now.calls; keys = c.args.self.now.keys; known = c.args.self.now.known }) c.build_groups.new.self (frames c.args.self.now c.collect.new.self c.collect.ensures.grows.planning c.collect.ensures.grows.written) c.build_groups.ensures.frame c.collect.ensures.grows.numbers c.build_groups.ensures.numbers can ((can_after c.args.self.now c.collect.new.self c.collect.ensures.grows.planning c.collect.ensures.grows.written c.collect.ensures.grows.numbers c.collect.ensures.grows.ready) can)
+          c.args.depth c.args.of.number c.args.lists.now (handed_data c.args.handed) (name_in c.spread_alone-spread.result) c.in_ok-groups.groups.items c.in-Ok.field-0 (c.knows-known.ensures c.if-not-known.false)
+          (told_by_name (SpreadsAlone c.args.self.now.collector c.args.lists.now) c.spread_alone-spread.result c.spread_alone-spread.ensures) c.in_ok-groups.ensures.gives
+          (subst (λ (gs : List Group). BuildsGroups (record { collector = c.collect.new.self; plan = c.args.self.now.plan; left = c.args.self.now.left; calls = c.args.self.now.calls; keys = c.args.self.now.keys; known = c.args.self.now.known }) c.args.depth (Ok c.in-Ok.field-0) c.build_groups.new.self c.args.of.number gs (handed_data c.args.handed)) c.as_slice.ensures.value c.in-Ok.ensures.built)))
+          after.known;
+    }
+
+pub build_anew-returns-clause-ready : goal.build_anew-returns-clause-ready
+build_anew-returns-clause-ready t c = λ can.
+    let after = c.build_groups.ensures.ready ((can_after c.args.self.now c.collect.new.self c.collect.ensures.grows.planning c.collect.ensures.grows.written c.collect.ensures.grows.numbers c.collect.ensures.grows.ready) can) in record {
+      collector = after.collector;
+      plan = after.plan;
+      calls = after.calls;
+      known = c.keep.ensures c.build_groups.new.self.collector (ap (λ (pl : Planning). schema_data pl.schema.now) (sym c.planning.ensures))
+          (subst (λ (gs : List Group). MayBeKnown c.build_groups.new.self.collector c.args.of.number c.args.lists.now (name_in c.spread_alone-spread.result) gs) (sym c.as_slice-2.ensures.value)
+          (built_known c.args.self.now (record { collector = c.collect.new.self; plan = c.args.self.now.plan; left = c.args.self.now.left; calls = c.args.self.now.calls; keys = c.args.self.now.keys; known = c.args.self.now.known }) c.build_groups.new.self (frames c.args.self.now c.collect.new.self c.collect.ensures.grows.planning c.collect.ensures.grows.written) c.build_groups.ensures.frame c.collect.ensures.grows.numbers c.build_groups.ensures.numbers can ((can_after c.args.self.now c.collect.new.self c.collect.ensures.grows.planning c.collect.ensures.grows.written c.collect.ensures.grows.numbers c.collect.ensures.grows.ready) can)
+          c.args.depth c.args.of.number c.args.lists.now (handed_data c.args.handed) (name_in c.spread_alone-spread.result) c.in_ok-groups.groups.items c.in-Ok.field-0 (c.knows-known.ensures c.if-not-known.false)
+          (told_by_name (SpreadsAlone c.args.self.now.collector c.args.lists.now) c.spread_alone-spread.result c.spread_alone-spread.ensures) c.in_ok-groups.ensures.gives
+          (subst (λ (gs : List Group). BuildsGroups (record { collector = c.collect.new.self; plan = c.args.self.now.plan; left = c.args.self.now.left; calls = c.args.self.now.calls; keys = c.args.self.now.keys; known = c.args.self.now.known }) c.args.depth (Ok c.in-Ok.field-0) c.build_groups.new.self c.args.of.number gs (handed_data c.args.handed)) c.as_slice.ensures.value c.in-Ok.ensures.built)))
+          after.known;
+    }
 
 pub build_node-returns-in_err-push_row-in-Ok-clause-numbers : goal.build_node-returns-in_err-push_row-in-Ok-clause-numbers
 build_node-returns-in_err-push_row-in-Ok-clause-numbers t c = subst (λ (k : Collector). HasMore c.args.self.now.collector.joins k.joins) (sym c.in_err-push_row-in-Ok.ensures.collector) (more_itself c.args.self.now.collector.joins)

@@ -10,22 +10,25 @@ use Rattle.merged_selections.specs.Stages.{levels_from, types_rows, groups_visit
 use Rattle.merged_selections.proofs.building.Building.+build.Given as goal
 
 abbrev pub decreases-build_position : goal.decreases-build_position
-decreases-build_position l = 6 * levels_from l.depth + 5
+decreases-build_position l = 7 * levels_from l.depth + 6
 
 abbrev pub decreases-build_types : goal.decreases-build_types
-decreases-build_types l = 6 * levels_from l.depth + 4
+decreases-build_types l = 7 * levels_from l.depth + 5
 
 abbrev pub decreases-build_type : goal.decreases-build_type
-decreases-build_type l = 6 * levels_from l.depth + 3
+decreases-build_type l = 7 * levels_from l.depth + 4
+
+abbrev pub decreases-build_anew : goal.decreases-build_anew
+decreases-build_anew l = 7 * levels_from l.depth + 3
 
 abbrev pub decreases-build_groups : goal.decreases-build_groups
-decreases-build_groups l = 6 * levels_from l.depth + 2
+decreases-build_groups l = 7 * levels_from l.depth + 2
 
 abbrev pub decreases-build_group : goal.decreases-build_group
-decreases-build_group l = 6 * levels_from l.depth + 1
+decreases-build_group l = 7 * levels_from l.depth + 1
 
 abbrev pub decreases-build_node : goal.decreases-build_node
-decreases-build_node l = 6 * levels_from l.depth
+decreases-build_node l = 7 * levels_from l.depth
 
 abbrev pub invariant-build_types-types : goal.invariant-build_types-types
 invariant-build_types-types l = (frame l.self ≡ frame l.fn.self) × HasMore l.fn.self.collector.joins l.self.collector.joins × (CanBuild l.fn.self → CanBuild l.self)
