@@ -6,7 +6,7 @@ use Rattle.std.specs.Fmt.{decimal}
 use Rattle.std.specs.List.{list_all, onto_first}
 use Rattle.std.specs.Str.{bytes_eq}
 use Rattle.std.specs.Str.Parse.{AllDigits}
-use Rattle.std.proofs.lemmas.Bool.{cases_lt, and_from, agree_below_at, eqb-true, lt-ltb, le-leb, and_parts}
+use Rattle.std.proofs.lemmas.Bool.{cases_lt, and_from, agree_below_at, eqb-true, lt-ltb, le-leb, and_parts, or_right}
 use Rattle.std.proofs.lemmas.Fmt.{decimal_is_IsNumeral, decimal_injective, length-decimal-le}
 use Rattle.std.proofs.lemmas.List.{length-append}
 use Rattle.std.proofs.lemmas.List.Folds.{list_all-append}
@@ -102,14 +102,10 @@ new_id : (n k : ℕ) → k ≤ n → n < 10000 → has_begun (ids k) (id_of n) �
 new_id n zero low small = refl
 new_id n (suc k) low small = ap₂ (λ (a b : Bool). a || b) (other_id n k (omega (arith, low)) small) (new_id n k (omega (arith, low)) small)
 
-or_last : (x y : Bool) → y ≡ true → (x || y) ≡ true
-or_last true y e = refl
-or_last false y e = e
-
 old_id : (n k : ℕ) → k < n → has_begun (ids n) (id_of k) ≡ true
 old_id zero k low = absurd (omega (arith, low))
 old_id (suc n) k low = elim (cases_lt k n) [
-  | inl below ↦ or_last (bytes_eq (id_of k) (id_of n)) (has_begun (ids n) (id_of k)) (old_id n k below)
+  | inl below ↦ or_right (bytes_eq (id_of k) (id_of n)) (has_begun (ids n) (id_of k)) (old_id n k below)
   | inr here ↦
       let same : k ≡ n = omega (arith, low, here) in
       ap (λ b. b || has_begun (ids n) (id_of k)) ((bytes_eq-Decides (id_of k) (id_of n)).1 (ap id_of same))

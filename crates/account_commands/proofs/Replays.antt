@@ -6,7 +6,7 @@ use Rattle.cost_num.specs.declared.Cost.{Cost}
 use Rattle.cost_num.specs.Within.{Within}
 use Rattle.account_core.specs.declared.Account.{Account}
 use Rattle.account_core.specs.Costs.{smaller}
-use Rattle.account_core.specs.Machine.{first, account_of}
+use Rattle.account_core.specs.Machine.{account_of}
 use Rattle.account_core.specs.History.{IsLegal, state_after}
 use Rattle.account_cells.specs.Views.{View, no_view}
 use Rattle.account_shared.specs.Views.{PassesView, KnowsClients, limit_of, client_at, account_seen}

@@ -18,8 +18,8 @@ use std::thread::Threads;
 
 /// Ends without a command, since its words could not be had: with the status of that fault, and what was written of it.
 pub(crate) fn end_for<K: Sink, E: Sink>(fault: WordsFault, out: &mut K, err: &mut E) -> ExitCode
-    ensures ends { Ends (no_command fault) (exit_status result) (stream_told K.written K.faults out.old out.new)
-        (stream_told E.written E.faults err.old err.new) }
+    ensures ends { Ends (no_command fault) (exit_status result) (stream_told K.Sink out.old out.new)
+        (stream_told E.Sink err.old err.new) }
     ensures known { exit_status result ≤ DISK_FAILED }
 {
     ExitCode::from(end_without_command(fault, out, err))
@@ -37,10 +37,10 @@ fn end_run<Rt: Threads + Wait + Sync, F: Files, D: Doors, J: Disks, K: Sink, E: 
     err: &mut E,
 ) -> ExitCode
     requires idle { D.running doors.old ≡ 0 }
-    ensures ran { Runs words.now (exit_status result) (files_call F.content F.faults files.old files.new)
-        (outside_call (doors_call D.faults D.asked D.running D.stopped doors.old doors.new) (disks_call J.holds J.last J.faults disks.old disks.new))
-        (stream_told K.written K.faults out.old out.new)
-        (stream_told E.written E.faults err.old err.new) }
+    ensures ran { Runs words.now (exit_status result) (files_call F.Files files.old files.new)
+        (outside_call (doors_call D.Doors doors.old doors.new) (disks_call J.Disks disks.old disks.new))
+        (stream_told K.Sink out.old out.new)
+        (stream_told E.Sink err.old err.new) }
     ensures known { exit_status result ≤ DISK_FAILED }
 {
     a_status_says_what_was_done();
@@ -59,12 +59,12 @@ pub(crate) fn end<Rt: Threads + Wait + Sync, F: Files, D: Doors, J: Disks, K: Si
     err: &mut E,
 ) -> ExitCode
     requires idle { D.running doors.old ≡ 0 }
-    ensures ran { IfOk words (λ words. Runs words.items (exit_status result) (files_call F.content F.faults files.old files.new)
-        (outside_call (doors_call D.faults D.asked D.running D.stopped doors.old doors.new) (disks_call J.holds J.last J.faults disks.old disks.new))
-        (stream_told K.written K.faults out.old out.new)
-        (stream_told E.written E.faults err.old err.new)) }
-    ensures unread { IfErr words (λ fault. Ends (no_command fault) (exit_status result) (stream_told K.written K.faults out.old out.new)
-        (stream_told E.written E.faults err.old err.new)) }
+    ensures ran { IfOk words (λ words. Runs words.items (exit_status result) (files_call F.Files files.old files.new)
+        (outside_call (doors_call D.Doors doors.old doors.new) (disks_call J.Disks disks.old disks.new))
+        (stream_told K.Sink out.old out.new)
+        (stream_told E.Sink err.old err.new)) }
+    ensures unread { IfErr words (λ fault. Ends (no_command fault) (exit_status result) (stream_told K.Sink out.old out.new)
+        (stream_told E.Sink err.old err.new)) }
     ensures known { exit_status result ≤ DISK_FAILED }
 {
     match words {

@@ -1,9 +1,11 @@
 -- A connection that goes on, and its end.
-use Rattle.std.proofs.Common.{◌≡◌, ℕ, ◌+◌, ◌<◌, inl, List, [], ◌∷◌, ◌++◌, length, refl, sym, ap, ◌∙◌, subst, arith, append-nil, Bool, true, false, Option, Some, None}
-use Rattle.std.specs.Prelude.{◌≢◌, ◌==◌, ◌||◌}
+use Rattle.std.proofs.Common.{◌≡◌, ℕ, ◌+◌, ◌<◌, inl, List, [], ◌∷◌, ◌++◌, length, refl, sym, ap, ◌∙◌, subst, arith, Bool, false, Option, Some, None}
+use Rattle.std.specs.Prelude.{◌≢◌, ◌==◌}
 use Rattle.std.proofs.lemmas.List.{length-append}
+use Rattle.std.proofs.lemmas.Bool.{or_parts}
 use Rattle.std.proofs.lemmas.Bool.Decides.{nat_tests}
 use Rattle.std.specs.Io.KnownBytes.{Appends}
+use Rattle.std.proofs.KnownBytes.{Appends-nil, Appends-trans}
 use Rattle.account_shared.specs.Gains.{ClientCall}
 use Rattle.outside.proofs.Taking.{took_none, took_more}
 use Rattle.doors.specs.Visits.{Told}
@@ -13,25 +15,17 @@ use Rattle.gateway_connections.specs.declared.ending.ConnectionEnd.TheVariants a
 use Rattle.gateway_connections.specs.declared.ending.Served.{Served}
 use Rattle.gateway_connections.specs.declared.reply.Reply.{Reply}
 use Rattle.gateway_connections.specs.Replies.{written}
-use Rattle.gateway_connections.specs.Exchanges.{Service, Exchange, IsExchange}
+use Rattle.gateway_connections.specs.Exchanges.{Service, IsExchange}
 use Rattle.gateway_connections.specs.Connections.{Stop, not_begun, StopsAt, EndsWith, carries, closes, last_of, calls_of, replies_from}
 use Rattle.gateway_connections.specs.Serving.{Makes, Serves, Turns, GoesOnAfter}
-use Rattle.gateway_connections.proofs.Growing.{leaves_none, makes_none, AddUp, makes_then, asks_none, asks_grow, asks_more, none_made, one_more_made, each_more, no_replies, one_more_reply, appended_then}
-
-pub appended_none : (written : Option (List ℕ)) → Appends written written []
-appended_none None = tt
-appended_none (Some bytes) = sym (append-nil bytes)
-
-or_false : (a b : Bool) → (a || b) ≡ false → (a ≡ false) × (b ≡ false)
-or_false true b e = absurd (cc e)
-or_false false b e = (refl, e)
+use Rattle.gateway_connections.proofs.Growing.{leaves_none, makes_none, AddUp, makes_then, asks_none, asks_grow, asks_more, none_made, one_more_made, each_more, no_replies, one_more_reply}
 
 -- a reply that doesn't carry `close`
 pub stays_open : (close : Bool) (number : ℕ) (r : Reply) → number < 1000 → carries close number r ≡ false
     → (close ≡ false) × (number + 1 < 1000) × (r.status ≢ 500)
 stays_open close number r few e =
-    let one = or_false close _ e in
-    let two = or_false (number + 1 == 1000) (r.status == 500) one.1 in
+    let one = or_parts close _ e in
+    let two = or_parts (number + 1 == 1000) (r.status == 500) one.1 in
     let not_last : number + 1 ≢ 1000 = grind (arith, nat_tests) in
     (one.0, omega (arith, not_last, few), grind (arith, nat_tests))
 
@@ -47,7 +41,7 @@ goes_on_first s made Gained t none = record {
   took = took_none t.left;
   asks = asks_none s.passed [];
   makes = makes_none Gained t none;
-  out = subst (Appends t.written t.written) (sym (no_replies 0)) (appended_none t.written);
+  out = subst (Appends t.written t.written) (sym (no_replies 0)) (Appends-nil t.written);
 }
 
 -- so many numbers of calls are made now where these calls were gained
@@ -77,7 +71,7 @@ goes_on_more s made now Before Now All then counts number kept front a b c g t =
       makes = makes_then Before Now All then a b c xs (x ∷ []) g.makes (subst (Makes Now b c) u.2 t.makes);
       out = subst (Appends a.written c.written)
           ((λ i. replies_from 0 xs ++ written (closed i) x.reply) ∙ ap (λ k. replies_from 0 xs ++ written (closes k x) x.reply) here ∙ sym (one_more_reply 0 xs x))
-          (appended_then a.written b.written c.written (replies_from 0 xs) (written false x.reply) g.out u.7);
+          (Appends-trans a.written b.written c.written (replies_from 0 xs) (written false x.reply) g.out u.7);
     }
   where
     closed : false ≡ closes number (t.turned.0)
@@ -143,8 +137,8 @@ never_begun s made Gained t served nothing is none = record {
       stop = not_begun;
       stops = (refl, refl, refl);
       between = t.written;
-      replied = subst (Appends t.written t.written) (sym (no_replies 0)) (appended_none t.written);
-      out = inl (appended_none t.written, none, is);
+      replied = subst (Appends t.written t.written) (sym (no_replies 0)) (Appends-nil t.written);
+      out = inl (Appends-nil t.written, none, is);
     };
     leaves = leaves_none t;
     calls_are = refl;

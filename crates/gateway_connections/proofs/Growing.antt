@@ -1,7 +1,6 @@
 -- Exchanges one after the other: what they add up to.
-use Rattle.std.proofs.Common.{inl, ◌≡◌, ℕ, ◌+◌, List, [], ◌∷◌, ◌++◌, length, refl, sym, ap, ◌∙◌, subst, append_assoc, arith, Option, Some, None}
-use Rattle.std.proofs.lemmas.List.{append-nil, length-append}
-use Rattle.std.specs.Io.KnownBytes.{Appends}
+use Rattle.std.proofs.Common.{inl, ◌≡◌, ℕ, ◌+◌, List, [], ◌∷◌, ◌++◌, length, refl, sym, ap, ◌∙◌, subst, append_assoc, arith}
+use Rattle.std.proofs.lemmas.List.{append-nil}
 use Rattle.std.specs.List.{AllByRecursion}
 use Rattle.account_shared.specs.Gains.{ClientCall}
 use Rattle.outside.specs.Dials.{Dial, Logged, LoggedBy}
@@ -168,9 +167,3 @@ one_more_reply number [] x = append-nil (written (closes number x) x.reply) ∙ 
 one_more_reply number (y ∷ xs) x =
     ap (λ l. written (closes number y) y.reply ++ l) (one_more_reply (number + 1) xs x ∙ ap (λ k. replies_from (number + 1) xs ++ written (closes k x) x.reply) (omega arith))
     ∙ sym (append_assoc (written (closes number y) y.reply) (replies_from (number + 1) xs) (written (closes (number + length (y ∷ xs)) x) x.reply))
-
-pub appended_then : (a b c : Option (List ℕ)) (first second : List ℕ) → Appends a b first → Appends b c second → Appends a c (first ++ second)
-appended_then None b c first second x y = tt
-appended_then (Some old) None c first second x y = absurd x
-appended_then (Some old) (Some now) None first second x y = absurd y
-appended_then (Some old) (Some now) (Some new) first second x y = y ∙ ap (λ l. l ++ second) x ∙ append_assoc old first second

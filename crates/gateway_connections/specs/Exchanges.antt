@@ -4,6 +4,7 @@ use Rattle.account_core.specs.Machine.{Call, reservation, granted}
 use Rattle.account_shared.specs.Gains.{ClientCall, client_call}
 use Rattle.outside.specs.Dials.{Dial, LoggedBy}
 use Rattle.outside.specs.Faults.{RoseBy}
+use Rattle.outside.specs.declared.wire.Wire.{Ghosts as Wires}
 use Rattle.http_front.specs.declared.front.Ask.{Ask}
 use Rattle.http_front.specs.declared.reply.Hint.{Hint}
 use Rattle.upstream_link.specs.declared.fault.LinkFault.{LinkFault}
@@ -143,8 +144,9 @@ pub record WireTelling (W : Type 0) : Type 0 where
   pub dial_faults : W → ℕ
   pub faults : W → ℕ
 
-abbrev pub telling : {W : Type 0} → (W → Option (List Dial)) → (W → ℕ) → (W → ℕ) → WireTelling W
-telling log dial_faults faults = record { log = log; dial_faults = dial_faults; faults = faults }
+-- the same of a wire
+abbrev pub telling : {W : Type 0} → Wires W → WireTelling W
+telling wires = record { log = wires.log; dial_faults = wires.dial_faults; faults = wires.faults }
 
 -- An exchange was made behind so many numbers of calls: its calls at the accounts, which are what was gained there, and its dials, and
 -- no others.

@@ -8,6 +8,7 @@ use Rattle.outside.specs.Faults.{RoseBy}
 use Rattle.outside.specs.Taken.{Took}
 use Rattle.outside.specs.Ticks.{Tick, Ticks}
 use Rattle.doors.specs.Visits.{Told}
+use Rattle.gateway_core.specs.declared.ledger.Ledger.{Ghosts as Ledgers}
 use Rattle.http_front.specs.declared.front.Ask.{Ask}
 use Rattle.http_front.specs.Asks.{IsAsk}
 use Rattle.gateway_connections.specs.declared.ending.Served.{Served}
@@ -68,6 +69,11 @@ pub record LosesTurn (s : Service) (kept : List ℕ) (Lost : Ask → ℕ → Typ
   pub tick : Tick given.readings moment back.readings
   pub still : back.written ≡ given.written
   pub lost : Lost ask moment
+
+-- So it was between two moments of the accounts, where the front kept some bytes before.
+abbrev pub LosesNext : {B Lost W : Type 0} → Service → Ledgers B Lost → WireTelling W → Option (List ℕ) → B → B → Told → Told → W → W → Type 0
+LosesNext s book t kept before now given back wire after = IfSome kept (λ bytes. LosesTurn s bytes
+    (λ ask moment. LosesExchange s t ask moment (book.made before) (book.gains before) (λ between. book.loses between now) wire after) given back)
 
 -- A connection was served until the accounts were lost: these exchanges were made and replied to, so many, and the next one has no
 -- reply. `made` counts the calls of accounts, and `gains` says what was gained between two moments of them.

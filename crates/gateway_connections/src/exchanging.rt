@@ -74,9 +74,9 @@ fn forward<L: Ledger, R: Wait, W: Wire>(
     requires open { L.opens ledger.old grant.ticket }
     requires made { L.made ledger.old < 2 ^ 63 }
     ensures belong { IfOk result (λ reply. L.belongs ledger.new gate.now) }
-    ensures forwarded { IfOk result (Forwards (service_in L.slots gate.now) (telling W.log W.dial_faults W.faults) grant.entry lines.now (L.gains ledger.old ledger.new) wire.old wire.new) }
+    ensures forwarded { IfOk result (Forwards (service_in L.slots gate.now) (telling W.Wire) grant.entry lines.now (L.gains ledger.old ledger.new) wire.old wire.new) }
     ensures writable { IfOk result IsWritable }
-    ensures lost { OnErr result (LosesForwarded (service_in L.slots gate.now) (telling W.log W.dial_faults W.faults) grant.entry lines.now
+    ensures lost { OnErr result (LosesForwarded (service_in L.slots gate.now) (telling W.Wire) grant.entry lines.now
         (L.loses ledger.old ledger.new grant.entry.ticket.client) wire.old wire.new) }
     ensures count { L.faults ledger.old ≤ L.faults ledger.new }
     ensures cause { OnErr result (Rose (L.faults ledger.old) (L.faults ledger.new)) }
@@ -121,9 +121,9 @@ pub fn exchange<L: Ledger, R: Wait, W: Wire>(
     ensures belong { IfOk result (λ reply. L.belongs ledger.new gate.now) }
     ensures few { IfOk result (λ reply. L.made ledger.new ≤ L.made ledger.old + 2) }
     ensures idle { IfOk result (λ reply. L.idle ledger.new) }
-    ensures replied { IfOk result (Replies (service_in L.slots gate.now) (telling W.log W.dial_faults W.faults) ask.now moment (L.made ledger.old) (L.gains ledger.old ledger.new) wire.old wire.new) }
+    ensures replied { IfOk result (Replies (service_in L.slots gate.now) (telling W.Wire) ask.now moment (L.made ledger.old) (L.gains ledger.old ledger.new) wire.old wire.new) }
     ensures writable { IfOk result IsWritable }
-    ensures lost { OnErr result (LosesExchange (service_in L.slots gate.now) (telling W.log W.dial_faults W.faults) ask.now moment (L.made ledger.old) (L.gains ledger.old)
+    ensures lost { OnErr result (LosesExchange (service_in L.slots gate.now) (telling W.Wire) ask.now moment (L.made ledger.old) (L.gains ledger.old)
         (λ before. L.loses before ledger.new) wire.old wire.new) }
     ensures count { L.faults ledger.old ≤ L.faults ledger.new }
     ensures cause { OnErr result (Rose (L.faults ledger.old) (L.faults ledger.new)) }

@@ -44,7 +44,7 @@ fn serve<L: Ledger, R: Wait, S: Source + Drop, K: Sink + Drop, W: Wire + Drop, C
     ensures write_fault { IfOk result (λ served. served.end ≡ ending.WriteFault → Rose (K.faults conn.old.sink) (K.faults conn.new.sink)) }
     ensures read_still { IfOk result (λ served. served.end ≢ ending.ReadFault → S.faults conn.new.source ≡ S.faults conn.old.source) }
     ensures write_still { IfOk result (λ served. served.end ≢ ending.WriteFault → K.faults conn.new.sink ≡ K.faults conn.old.sink) }
-    ensures lost { IfErr result (λ lost. LosesServing (service_in L.slots gate.now) (telling W.log W.dial_faults W.faults) L.made L.gains (λ before. L.loses before ledger.new)
+    ensures lost { IfErr result (λ lost. LosesServing (service_in L.slots gate.now) (telling W.Wire) L.made L.gains (λ before. L.loses before ledger.new)
         ledger.old (⟦<Conn<S, K, W, C> as Tells>⟧.told conn.old) (⟦<Conn<S, K, W, C> as Tells>⟧.told conn.new) conn.new.wire lost.1) }
     ensures few_lost { IfErr result (λ lost. lost.1 < EXCHANGE_LIMIT) }
     ensures count { L.faults ledger.old ≤ L.faults ledger.new }
@@ -106,7 +106,7 @@ pub fn serve_in<
     ensures write_fault { IfOk result (λ served. served.end ≡ ending.WriteFault → Rose (K.faults conn.old.sink) (K.faults conn.new.sink)) }
     ensures read_still { IfOk result (λ served. served.end ≢ ending.ReadFault → S.faults conn.new.source ≡ S.faults conn.old.source) }
     ensures write_still { IfOk result (λ served. served.end ≢ ending.WriteFault → K.faults conn.new.sink ≡ K.faults conn.old.sink) }
-    ensures lost { IfErr result (λ lost. LosesServing (service_in L.slots gate.now) (telling W.log W.dial_faults W.faults) L.made L.gains (λ before. L.loses before ledger.new)
+    ensures lost { IfErr result (λ lost. LosesServing (service_in L.slots gate.now) (telling W.Wire) L.made L.gains (λ before. L.loses before ledger.new)
         ledger.old (⟦<Conn<S, K, W, C> as Tells>⟧.told conn.old) (⟦<Conn<S, K, W, C> as Tells>⟧.told conn.new) conn.new.wire lost.1) }
     ensures few_lost { IfErr result (λ lost. lost.1 < EXCHANGE_LIMIT) }
     ensures count { L.faults ledger.old ≤ L.faults ledger.new }

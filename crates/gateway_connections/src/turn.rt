@@ -4,9 +4,9 @@ ghost use Rattle.std.specs.Prelude.{◌≡◌, ◌≢◌, ◌≤◌, ◌<◌, �
 ghost use Rattle.outside.specs.Faults.{Rose};
 ghost use Rattle.gateway_core.specs.Messages.{message_body, no_memory_text};
 ghost use Rattle.gateway_connections.specs.Replies.{IsWritable};
-ghost use Rattle.gateway_connections.specs.Exchanges.{service_in, telling, LosesExchange};
+ghost use Rattle.gateway_connections.specs.Exchanges.{service_in, telling};
 ghost use Rattle.gateway_connections.specs.Connections.{Refuses, Answers, IfEndsBy, UnlessEndsBy};
-ghost use Rattle.gateway_connections.specs.Serving.{TurnsFrom, LosesTurn};
+ghost use Rattle.gateway_connections.specs.Serving.{TurnsFrom, LosesNext};
 ghost use Rattle.gateway_connections.specs.declared.ending.ConnectionEnd.TheVariants as ending;
 
 use crate::ending::{ConnectionEnd, Served, carries_close, end_after, end_of_silence};
@@ -130,9 +130,8 @@ pub(crate) fn turn<
     ensures write_fault { IfOk result (λ turned. IfEndsBy ending.WriteFault turned (Rose (K.faults conn.old.sink) (K.faults conn.new.sink))) }
     ensures read_still { IfOk result (λ turned. UnlessEndsBy ending.ReadFault turned (S.faults conn.new.source ≡ S.faults conn.old.source)) }
     ensures write_still { IfOk result (λ turned. UnlessEndsBy ending.WriteFault turned (K.faults conn.new.sink ≡ K.faults conn.old.sink)) }
-    ensures lost { OnErr result (IfSome front.old (λ kept. LosesTurn (service_in L.slots gate.now) kept (λ ask moment. LosesExchange (service_in L.slots gate.now) (telling W.log W.dial_faults W.faults)
-        ask moment (L.made ledger.old) (L.gains ledger.old) (λ before. L.loses before ledger.new) conn.old.wire conn.new.wire)
-        (⟦<Conn<S, K, W, C> as Tells>⟧.told conn.old) (⟦<Conn<S, K, W, C> as Tells>⟧.told conn.new))) }
+    ensures lost { OnErr result (LosesNext (service_in L.slots gate.now) L.Ledger (telling W.Wire) front.old ledger.old ledger.new
+        (⟦<Conn<S, K, W, C> as Tells>⟧.told conn.old) (⟦<Conn<S, K, W, C> as Tells>⟧.told conn.new) conn.old.wire conn.new.wire) }
     ensures count { L.faults ledger.old ≤ L.faults ledger.new }
     ensures cause { OnErr result (Rose (L.faults ledger.old) (L.faults ledger.new)) }
 {

@@ -6,6 +6,7 @@ use Rattle.account_core.specs.Machine.{Call, Entry, reservation, granted}
 use Rattle.account_shared.specs.Gains.{ClientCall, client_call}
 use Rattle.doors.specs.Visits.{Told}
 use Rattle.http_front.specs.declared.front.Ask.{Ask}
+use Rattle.account_journal.specs.declared.slots.TheConstants.{SLOTS}
 use Rattle.account_journal.specs.declared.journal.Journal.{Journal}
 use Rattle.account_journal.specs.Journals.{Follows}
 use Rattle.gateway_core.specs.Numbers.{numbers_taken}
@@ -17,7 +18,7 @@ use Rattle.gateway_connections.specs.Connections.{Stop, not_begun, at_fault, aft
 use Rattle.gateway_connections.specs.Serving.{Serves, LosesTurn, LosesServing}
 use Rattle.gateway_connections.proofs.Growing.{one_more_made}
 use Rattle.gateway_connections.proofs.OneExchange.{exchange_settled}
-use Rattle.gateway_journal.specs.Kept.{kept_of_calls, AreHeld, opened_in, settled_in, HasGained, HasKept}
+use Rattle.gateway_journal.specs.Kept.{kept_slots, kept_of_calls, AreHeld, opened_in, settled_in, HasGained, HasKept}
 use Rattle.gateway_journal.specs.Composed.{counts_then, as_many}
 use Rattle.gateway_journal.proofs.HeldCalls.{IsQuiet, quiet_start, StaysQuiet, settled_quiet, each_first, each_then, held_both, one_held, none_held}
 
@@ -60,14 +61,14 @@ module _ {D : Type 0} (reads : D → Option (List ℕ)) (image : D → List ℕ 
     goes = λ hs follows. gained.goes hs follows (held hs follows);
   }
 
-  pub kept_of_exchanges : (s : Service) → s.slots ≡ Some 4194304 → (a b : Journal D) → a.opened ≡ 0 → (xs : List Exchange) → AreExchanges s a.used xs → HasGained reads image faults a b (calls_of xs)
+  pub kept_of_exchanges : (s : Service) → s.slots ≡ kept_slots → (a b : Journal D) → a.opened ≡ 0 → (xs : List Exchange) → AreExchanges s a.used xs → HasGained reads image faults a b (calls_of xs)
       → HasKept reads image faults a b (calls_of xs)
   kept_of_exchanges s is a b idle xs each gained =
-      kept_by a b (calls_of xs) gained (λ hs follows. exchanges_held s 4194304 is (length a.limits.items) a.used hs xs each gained.known (quiet_start a hs follows idle))
+      kept_by a b (calls_of xs) gained (λ hs follows. exchanges_held s SLOTS is (length a.limits.items) a.used hs xs each gained.known (quiet_start a hs follows idle))
 
   -- ---- a connection that was served to its end
 
-  pub kept_serves : (s : Service) → s.slots ≡ Some 4194304 → (a b : Journal D) → a.opened ≡ 0 → (given back : Told) (served : Served)
+  pub kept_serves : (s : Service) → s.slots ≡ kept_slots → (a b : Journal D) → a.opened ≡ 0 → (given back : Told) (served : Served)
       → Serves s a.used (HasGained reads image faults a b) given back served → Serves s a.used (HasKept reads image faults a b) given back served
   kept_serves s is a b idle given back served serves =
       let runs = serves.runs in
@@ -139,7 +140,7 @@ module _ {D : Type 0} (reads : D → Option (List ℕ)) (image : D → List ℕ 
       lost = exchange_kept a wire turn.ask turn.moment turn.lost;
     }
 
-    pub kept_until : s.slots ≡ Some 4194304 → (a : B) → (journal_of a).opened ≡ 0 → (given back : Told) (replies : ℕ)
+    pub kept_until : s.slots ≡ kept_slots → (a : B) → (journal_of a).opened ≡ 0 → (given back : Told) (replies : ℕ)
         → LosesServing {B = B} s t (λ b. (journal_of b).used) (λ b c. HasGained reads image faults (journal_of b) (journal_of c)) (λ b. loses (journal_of b)) a given back after replies
         → LosesServing {B = Journal D} s t (λ j. j.used) (HasKept reads image faults) loses (journal_of a) given back after replies
     kept_until is a idle given back replies lost =

@@ -1,5 +1,5 @@
 -- The connections that a worker serves over a journal, one after the other.
-use Rattle.std.proofs.Common.{◌≡◌, ℕ, ◌+◌, ◌<◌, ◌≤◌, List, [], ◌∷◌, ◌++◌, length, refl, sym, ap, ◌∙◌, subst, append-nil, arith, Option, Some, inl, inr, ⊎_elim, Bool, true, false}
+use Rattle.std.proofs.Common.{◌≡◌, ℕ, ◌+◌, ◌<◌, ◌≤◌, List, [], ◌∷◌, ◌++◌, length, refl, sym, ap, ◌∙◌, subst, append-nil, arith, Option, inl, inr, ⊎_elim, Bool, true, false}
 use Rattle.std.specs.List.{AllByRecursion}
 use Rattle.std.proofs.lemmas.List.{length-append}
 use Rattle.account_shared.specs.Gains.{ClientCall}
@@ -17,7 +17,7 @@ use Rattle.gateway_workers.specs.declared.work_done.WorkDone.{WorkDone}
 use Rattle.gateway_workers.specs.Tours.{Run, AreRuns, visits_of, calls_in, replies_in, one_if}
 use Rattle.gateway_workers.proofs.Turns.{no_visit, visits_then, visits_of_both, calls_of_both, replies_of_both, runs_then}
 use Rattle.gateway_journal.specs.declared.worker.KeptWorker.{KeptWorker}
-use Rattle.gateway_journal.specs.Kept.{kept_of_calls, HasKept, IsKeptFor, IsLostIn}
+use Rattle.gateway_journal.specs.Kept.{kept_slots, kept_of_calls, HasKept, IsKeptFor, IsLostIn}
 use Rattle.gateway_journal.specs.Composed.{each_both, counts_then, goes_then, none_gained}
 use Rattle.gateway_journal.specs.Served.{service_kept, ServesKept, LosesKept}
 use Rattle.gateway_journal.specs.DoorRuns.{DiskMembers, Did, Waits, Loses, Worked, ServesDoor, LosesDoor}
@@ -31,7 +31,7 @@ module _ {J : Type 0} (reads : J → Option (List ℕ)) (image : J → List ℕ 
   kept_twice a b c xs ys one two = record {
     limits = two.limits ∙ one.limits;
     known = each_both (λ c. c.client < length a.limits.items) xs ys one.known (subst (λ (l : _). AllByRecursion (λ c. c.client < length l.items) ys) one.limits two.known);
-    used = omega (arith, one.used, two.used, taken_then (Some 4194304) xs ys);
+    used = omega (arith, one.used, two.used, taken_then kept_slots xs ys);
     opened = (let counts = counts_then xs ys in omega (arith, one.opened, two.opened, counts.0, counts.1));
     tells = two.tells ∙ one.tells;
     count = omega (arith, one.count, two.count);

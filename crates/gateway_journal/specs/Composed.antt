@@ -6,14 +6,16 @@ use Rattle.account_core.specs.declared.Limit.{Limit}
 use Rattle.account_core.specs.Machine.{State, Call, reservation, settlement, CallReply, granted, short, done, Entry, entry, first, state_after_call, state_past}
 use Rattle.account_core.specs.History.{state_from, state_after, AreSteps, entries_by, is_refusal, without_refusals}
 use Rattle.account_core.proofs.Histories.{state_from-append, entries_by-append}
+use Rattle.account_core.proofs.Runs.{steps-append}
 use Rattle.account_core.proofs.Refusals.{without-state}
 use Rattle.account_shared.specs.Gains.{ClientCall}
+use Rattle.account_journal.specs.declared.slots.TheConstants.{SLOTS}
 use Rattle.account_journal.specs.declared.journal.Journal.{Journal}
 use Rattle.account_journal.specs.Histories.{no_limit}
 use Rattle.account_journal.specs.Journals.{Follows, Stores, limit_in}
 use Rattle.gateway_core.specs.Numbers.{numbers_taken, AreSettled, IsFullAt}
 use Rattle.gateway_core.proofs.TakenNumbers.{taken_then, taken_none}
-use Rattle.gateway_journal.specs.Kept.{taken_by, call_kept, entry_of, entries_of_calls, entries_made, kept_of_calls, AreHeld, opened_in, settled_in, GoesOnFrom, HasGained}
+use Rattle.gateway_journal.specs.Kept.{kept_slots, taken_by, call_kept, entry_of, entries_of_calls, entries_made, kept_of_calls, AreHeld, opened_in, settled_in, GoesOnFrom, HasGained}
 
 -- ---- what holds of each call
 
@@ -85,10 +87,6 @@ held_then slots hs number (c ∷ cs) ys held =
 
 -- ---- steps
 
-steps_then : (limit : Limit) (s : State) (xs ys : List Entry) → AreSteps limit s xs → AreSteps limit (state_from limit s xs) ys → AreSteps limit s (xs ++ ys)
-steps_then limit s [] ys one two = two
-steps_then limit s (e ∷ es) ys one two = (one.0, steps_then limit (state_past limit s e) es ys one.1 two)
-
 filters_commute : {X : Type 0} (p q : X → Bool) (xs : List X) → filter p (filter q xs) ≡ filter q (filter p xs)
 filters_commute p q [] = refl
 filters_commute {X} p q (x ∷ xs) = by_both (filters_commute p q xs) (p x) (q x) refl refl
@@ -148,7 +146,7 @@ module _ {D : Type 0} (reads : D → Option (List ℕ)) (image : D → List ℕ 
   none_gained a = record {
     limits = refl;
     known = tt;
-    used = omega (arith, taken_none (Some 4194304));
+    used = omega (arith, taken_none kept_slots);
     opened = omega arith;
     tells = refl;
     count = omega arith;
@@ -159,12 +157,12 @@ module _ {D : Type 0} (reads : D → Option (List ℕ)) (image : D → List ℕ 
     };
   }
 
-  pub goes_then : (a b c : Journal D) (xs ys : List ClientCall) (hs : List Entry) → b.limits ≡ a.limits → b.used ≡ a.used + numbers_taken (Some 4194304) xs
+  pub goes_then : (a b c : Journal D) (xs ys : List ClientCall) (hs : List Entry) → b.limits ≡ a.limits → b.used ≡ a.used + numbers_taken kept_slots xs
       → GoesOnFrom reads image a b hs xs → GoesOnFrom reads image b c (hs ++ kept_of_calls a.used xs) ys → GoesOnFrom reads image a c hs (xs ++ ys)
   goes_then a b c xs ys hs limits used one two =
-      let next = a.used + numbers_taken (Some 4194304) xs in
+      let next = a.used + numbers_taken kept_slots xs in
       let whole : (hs ++ kept_of_calls a.used xs) ++ kept_of_calls b.used ys ≡ hs ++ kept_of_calls a.used (xs ++ ys) =
-      append_assoc hs (kept_of_calls a.used xs) (kept_of_calls b.used ys) ∙ ap (λ l. hs ++ l) (ap (λ n. kept_of_calls a.used xs ++ kept_of_calls n ys) used ∙ sym (kept_then 4194304 a.used xs ys)) in
+      append_assoc hs (kept_of_calls a.used xs) (kept_of_calls b.used ys) ∙ ap (λ l. hs ++ l) (ap (λ n. kept_of_calls a.used xs ++ kept_of_calls n ys) used ∙ sym (kept_then SLOTS a.used xs ys)) in
       record {
         steps = λ k low.
             let limit = limit_in a k in
@@ -175,8 +173,8 @@ module _ {D : Type 0} (reads : D → Option (List ℕ)) (image : D → List ℕ 
             (subst (λ n. AreSteps limit (state_after limit (entries_by k (hs ++ kept_of_calls a.used xs))) (entries_by k (entries_made n ys))) used
             (subst (λ (l : _). AreSteps (get_or l.items k no_limit) (state_after (get_or l.items k no_limit) (entries_by k (hs ++ kept_of_calls a.used xs))) (entries_by k (entries_made b.used ys))) limits
             (two.steps k (subst (λ (l : _). k < length l.items) (sym limits) low)))) in
-            subst (AreSteps limit own) (sym (ap (λ l. entries_by k l) (made_then 4194304 a.used xs ys) ∙ entries_by-append k (entries_made a.used xs) (entries_made next ys)))
-            (steps_then limit own first_ (entries_by k (entries_made next ys)) (one.steps k low) later);
+            subst (AreSteps limit own) (sym (ap (λ l. entries_by k l) (made_then SLOTS a.used xs ys) ∙ entries_by-append k (entries_made a.used xs) (entries_made next ys)))
+            (steps-append limit own first_ (entries_by k (entries_made next ys)) (one.steps k low) later);
         follows = subst (Follows c) whole two.follows;
         stores = λ stored. subst (Stores reads image c) whole (two.stores (one.stores stored));
       }
@@ -187,7 +185,7 @@ module _ {D : Type 0} (reads : D → Option (List ℕ)) (image : D → List ℕ 
       record {
         limits = two.limits ∙ one.limits;
         known = each_both (λ c. c.client < length a.limits.items) xs ys one.known (subst (λ (l : _). AllByRecursion (λ c. c.client < length l.items) ys) one.limits two.known);
-        used = omega (arith, one.used, two.used, taken_then (Some 4194304) xs ys);
+        used = omega (arith, one.used, two.used, taken_then kept_slots xs ys);
         opened = omega (arith, one.opened, two.opened, counts.0, counts.1);
         tells = two.tells ∙ one.tells;
         count = omega (arith, one.count, two.count);
@@ -195,7 +193,7 @@ module _ {D : Type 0} (reads : D → Option (List ℕ)) (image : D → List ℕ 
             let first_ = one.goes hs follows (held_first hs a.used xs ys held) in
             goes_then a b c xs ys hs one.limits one.used first_
             (two.goes (hs ++ kept_of_calls a.used xs) first_.follows
-            (subst (λ n. AreHeld (hs ++ kept_of_calls a.used xs) n ys) (sym one.used) (held_then 4194304 hs a.used xs ys held)));
+            (subst (λ n. AreHeld (hs ++ kept_of_calls a.used xs) n ys) (sym one.used) (held_then SLOTS hs a.used xs ys held)));
       }
 
   pub settled_idle : (a b : Journal D) (calls : List ClientCall) → HasGained reads image faults a b calls → AreSettled a.used calls → a.opened ≡ 0 → b.opened ≡ 0
@@ -203,8 +201,8 @@ module _ {D : Type 0} (reads : D → Option (List ℕ)) (image : D → List ℕ 
 
 -- ---- room
 
-pub has_filled : (used opened : ℕ) → opened ≡ 0 → 4194304 - used < opened + 2 → IsFullAt (Some 4194304) used
+pub has_filled : (used opened : ℕ) → opened ≡ 0 → SLOTS - used < opened + 2 → IsFullAt kept_slots used
 has_filled used opened none full = omega (arith, none, full)
 
-pub would_fill : (used opened : ℕ) → opened ≡ 0 → IsFullAt (Some 4194304) used → 4194304 - used < opened + 2
+pub would_fill : (used opened : ℕ) → opened ≡ 0 → IsFullAt kept_slots used → SLOTS - used < opened + 2
 would_fill used opened none full = omega (arith, none, full)

@@ -1,6 +1,7 @@
 -- Connections of a door that were served over a journal, one after the other.
 use Rattle.std.specs.Prelude.{◌≡◌, ◌⊎◌, ℕ, ◌+◌, ◌*◌, ◌≤◌, ◌<◌, min, List, [], ◌∷◌, Bool, true, false, Option, length}
 use Rattle.account_journal.specs.declared.journal.Journal.{Journal}
+use Rattle.journal_disk.specs.declared.disk.Disk.{Ghosts}
 use Rattle.outside.specs.Faults.{Rose}
 use Rattle.doors.specs.Visits.{Told, Gained}
 use Rattle.doors.specs.Starts.{DoorMembers}
@@ -22,9 +23,9 @@ pub record DiskMembers (J : Type 0) : Type 1 where
   pub moment : J → ℕ
   pub image_since : J → ℕ → List ℕ → Type 0
 
--- the same by its members
-abbrev pub disk_members : {J : Type 0} → (J → Option (List ℕ)) → (J → List ℕ → Type 0) → (J → ℕ) → (J → ℕ) → (J → ℕ → List ℕ → Type 0) → DiskMembers J
-disk_members reads image faults moment image_since = record { reads = reads; image = image; faults = faults; moment = moment; image_since = image_since }
+-- the same of a disk
+abbrev pub disk_members : {J : Type 0} → Ghosts J → DiskMembers J
+disk_members disk = record { reads = disk.reads; image = disk.image; faults = disk.faults; moment = disk.moment; image_since = disk.image_since }
 
 -- Between two moments of a journal and a door these connections were served, and nothing else was done to them.
 pub record Stretch {D J : Type 0} (t : DoorMembers D) (m : DiskMembers J) (gate : Gate) (a b : Journal J) (v w : D) (runs : List Run) : Type 0 where

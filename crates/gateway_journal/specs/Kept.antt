@@ -7,6 +7,7 @@ use Rattle.account_core.specs.Sums.{open_grants}
 use Rattle.account_core.specs.declared.Ticket.{Ticket}
 use Rattle.account_core.specs.Numbers.{ticket_for}
 use Rattle.account_shared.specs.Gains.{ClientCall}
+use Rattle.account_journal.specs.declared.slots.TheConstants.{SLOTS}
 use Rattle.account_journal.specs.declared.journal.Journal.{Journal}
 use Rattle.account_journal.specs.declared.journal.KeptTicket.{KeptTicket}
 use Rattle.account_journal.specs.Journals.{Follows, IsSound, Rests, Stores, KeepsHistory, HoldsTicket, limit_in, entry_in, ticket_settlement, IsOpenIn}
@@ -72,6 +73,10 @@ settled_in (c ∷ cs) = settled_by c.call + settled_in cs
 
 -- ---- journals
 
+-- Numbers of calls are slots of a journal, which has so many.
+abbrev pub kept_slots : Option ℕ
+kept_slots = Some SLOTS
+
 -- From a history on: the calls, as they were made, are the machine's steps, client by client, and just those that aren't refusals were
 -- added. Where the disk had the history, it has what was added, and a crash leaves all of it.
 pub record GoesOnFrom {D : Type 0} (reads : D → Option (List ℕ)) (image : D → List ℕ → Type 0) (a b : Journal D) (hs : List Entry) (calls : List ClientCall) : Type 0 where
@@ -84,7 +89,7 @@ pub record GoesOnFrom {D : Type 0} (reads : D → Option (List ℕ)) (image : D 
 pub record HasGained {D : Type 0} (reads : D → Option (List ℕ)) (image : D → List ℕ → Type 0) (faults : D → ℕ) (a b : Journal D) (calls : List ClientCall) : Type 0 where
   pub limits : b.limits ≡ a.limits
   pub known : AllByRecursion (λ c. c.client < length a.limits.items) calls
-  pub used : b.used ≡ a.used + numbers_taken (Some 4194304) calls
+  pub used : b.used ≡ a.used + numbers_taken kept_slots calls
   pub opened : b.opened + settled_in calls ≡ a.opened + opened_in calls
   pub tells : is_some (reads b.disk) ≡ is_some (reads a.disk)
   pub count : faults a.disk ≤ faults b.disk
@@ -94,7 +99,7 @@ pub record HasGained {D : Type 0} (reads : D → Option (List ℕ)) (image : D �
 pub record HasKept {D : Type 0} (reads : D → Option (List ℕ)) (image : D → List ℕ → Type 0) (faults : D → ℕ) (a b : Journal D) (calls : List ClientCall) : Type 0 where
   pub limits : b.limits ≡ a.limits
   pub known : AllByRecursion (λ c. c.client < length a.limits.items) calls
-  pub used : b.used ≡ a.used + numbers_taken (Some 4194304) calls
+  pub used : b.used ≡ a.used + numbers_taken kept_slots calls
   pub opened : b.opened + settled_in calls ≡ a.opened + opened_in calls
   pub tells : is_some (reads b.disk) ≡ is_some (reads a.disk)
   pub count : faults a.disk ≤ faults b.disk

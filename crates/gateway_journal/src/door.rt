@@ -1,9 +1,8 @@
 //! Serving a door over a journal.
 
 ghost use Rattle.std.specs.Prelude.{◌≡◌, ◌≤◌, false, IfOk, IfErr};
-ghost use Rattle.doors.specs.Starts.{members};
 ghost use Rattle.gateway_connections.specs.Exchanges.{telling};
-ghost use Rattle.gateway_workers.specs.Tours.{one_if};
+ghost use Rattle.gateway_workers.specs.Tours.{door_members, one_if};
 ghost use Rattle.gateway_journal.specs.Kept.{IsKeptFor};
 ghost use Rattle.gateway_journal.specs.DoorRuns.{disk_members, ServesDoor, LosesDoor};
 
@@ -43,8 +42,8 @@ pub fn serve_door<D: Door, J: Disk + Drop, R: Wait>(
     requires most { connections ≤ CONNECTION_LIMIT }
     ensures kept { IfOk result.0 (λ j. IsKeptFor J.reads j gate.now) }
     ensures idle { IfOk result.0 (λ j. j.opened ≡ 0) }
-    ensures served { IfOk result.0 (λ j. ServesDoor (members D.out D.to_come D.faults D.visits) (disk_members J.reads J.image J.faults J.moment J.image_since) gate.now connections journal j door result.1 result.2) }
-    ensures lost { IfErr result.0 (λ disk. LosesDoor (members D.out D.to_come D.faults D.visits) (disk_members J.reads J.image J.faults J.moment J.image_since) (telling D.W.log D.W.dial_faults D.W.faults)
+    ensures served { IfOk result.0 (λ j. ServesDoor (door_members D.Door) (disk_members J.Disk) gate.now connections journal j door result.1 result.2) }
+    ensures lost { IfErr result.0 (λ disk. LosesDoor (door_members D.Door) (disk_members J.Disk) (telling D.W.Wire)
         gate.now connections journal disk door result.1 result.2) }
 {
     let mut worker = KeptWorker {

@@ -19,16 +19,17 @@ pub struct Kept<D: Disk> {
 impl<D: Disk> Ledger for Kept<D> {
     ghost use Rattle.std.specs.Prelude.{List};
     ghost use Rattle.account_core.specs.Machine.{Entry};
+    ghost use Rattle.account_journal.specs.declared.slots.TheConstants.{SLOTS};
     ghost use Rattle.account_journal.specs.Journals.{Follows, IsSound, Rests};
     ghost use Rattle.gateway_core.specs.Gates.{rules_of};
-    ghost use Rattle.gateway_journal.specs.Kept.{HasGained, IsOpenHere, IsKeptFor, IsLostIn};
+    ghost use Rattle.gateway_journal.specs.Kept.{kept_slots, HasGained, IsOpenHere, IsKeptFor, IsLostIn};
     ghost use Rattle.gateway_journal.specs.Composed.{none_gained, gained_then, settled_idle, has_filled, would_fill};
 
     type Lost = JournalFault;
 
     ghost made = { λ k. k.journal.used };
 
-    ghost slots = { Some 4194304 };
+    ghost slots = { kept_slots };
 
     ghost gains = { λ a b calls. HasGained D.reads D.image D.faults a.journal b.journal calls };
 
@@ -38,7 +39,7 @@ impl<D: Disk> Ledger for Kept<D> {
 
     ghost idle = { λ k. k.journal.opened ≡ 0 };
 
-    ghost full = { λ k. 4194304 - k.journal.used < k.journal.opened + 2 };
+    ghost full = { λ k. SLOTS - k.journal.used < k.journal.opened + 2 };
 
     ghost faults = { λ k. D.faults k.journal.disk };
 

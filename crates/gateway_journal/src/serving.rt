@@ -4,8 +4,8 @@ ghost use Rattle.std.specs.Prelude.{◌≡◌, ◌≢◌, ◌≤◌, ◌<◌, So
 ghost use Rattle.outside.specs.Faults.{Rose};
 ghost use Rattle.gateway_connections.specs.Exchanges.{telling};
 ghost use Rattle.gateway_connections.specs.declared.ending.ConnectionEnd.TheVariants as ending;
-ghost use Rattle.gateway_journal.specs.Kept.{IsKeptFor, IsLostIn};
-ghost use Rattle.gateway_journal.specs.Served.{ServesKept, LosesKept};
+ghost use Rattle.gateway_journal.specs.Kept.{IsKeptFor};
+ghost use Rattle.gateway_journal.specs.Served.{ServesKept, LosesKeptAs};
 
 use crate::kept::Kept;
 use account_journal::Journal;
@@ -41,7 +41,7 @@ pub(crate) fn serve_on<
     ensures kept { IfOk result (λ served. IsKeptFor D.reads kept.new.journal gate.now) }
     ensures idle { IfOk result (λ served. kept.new.journal.opened ≡ 0) }
     ensures serves { IfOk result (ServesKept D.reads D.image D.faults gate.now kept.old.journal kept.new.journal (⟦<Conn<S, K, W, C> as Tells>⟧.told conn.old) (⟦<Conn<S, K, W, C> as Tells>⟧.told conn.new)) }
-    ensures lost { IfErr result (LosesKept D.reads D.image D.faults (λ j. IsLostIn D.reads D.image D.moment D.image_since j kept.new.journal.disk) (telling W.log W.dial_faults W.faults)
+    ensures lost { IfErr result (LosesKeptAs D.Disk kept.new.journal.disk (telling W.Wire)
         gate.now kept.old.journal (⟦<Conn<S, K, W, C> as Tells>⟧.told conn.old) (⟦<Conn<S, K, W, C> as Tells>⟧.told conn.new) conn.new.wire) }
     ensures not_lost { IfOk result (λ served. served.end ≢ ending.Lost) }
     ensures count { D.faults kept.old.journal.disk ≤ D.faults kept.new.journal.disk }
@@ -81,7 +81,7 @@ pub fn serve_kept<
     ensures kept { IfOk result.0 (λ j. IsKeptFor D.reads j gate.now) }
     ensures idle { IfOk result.0 (λ j. j.opened ≡ 0) }
     ensures serves { IfOk result.0 (λ j. ServesKept D.reads D.image D.faults gate.now journal j (⟦<Conn<S, K, W, C> as Tells>⟧.told conn.old) (⟦<Conn<S, K, W, C> as Tells>⟧.told conn.new) result.1) }
-    ensures lost { IfErr result.0 (λ disk. LosesKept D.reads D.image D.faults (λ j. IsLostIn D.reads D.image D.moment D.image_since j disk) (telling W.log W.dial_faults W.faults)
+    ensures lost { IfErr result.0 (λ disk. LosesKeptAs D.Disk disk (telling W.Wire)
         gate.now journal (⟦<Conn<S, K, W, C> as Tells>⟧.told conn.old) (⟦<Conn<S, K, W, C> as Tells>⟧.told conn.new) conn.new.wire result.1.replies) }
     ensures end { OnErr result.0 (result.1.end ≡ ending.Lost) }
     ensures not_lost { IfOk result.0 (λ j. result.1.end ≢ ending.Lost) }

@@ -1,8 +1,8 @@
 //! What the one worker of a journal does.
 
 ghost use Rattle.std.specs.Prelude.{◌≡◌, ◌*◌, ◌≤◌, ◌<◌, false};
-ghost use Rattle.doors.specs.Starts.{members};
 ghost use Rattle.gateway_connections.specs.Exchanges.{telling};
+ghost use Rattle.gateway_workers.specs.Tours.{door_members};
 ghost use Rattle.gateway_journal.specs.Kept.{IsKeptFor};
 ghost use Rattle.gateway_journal.specs.DoorRuns.{disk_members, TurnIs, Waits, Worked};
 
@@ -28,7 +28,7 @@ fn serve_one<D: Door, J: Disk + Drop, R: Wait>(
     requires free { D.out worker.old.door ≡ false }
     requires few { worker.old.connections < 4294967295 }
     requires counted { worker.old.replies ≤ 1000 * worker.old.connections }
-    ensures { TurnIs (members D.out D.to_come D.faults D.visits) (disk_members J.reads J.image J.faults J.moment J.image_since) (telling D.W.log D.W.dial_faults D.W.faults) gate.now worker.old worker.new result }
+    ensures { TurnIs (door_members D.Door) (disk_members J.Disk) (telling D.W.Wire) gate.now worker.old worker.new result }
 {
     match worker.door.accept() {
         Ok(Some(mut conn)) => match serve_on(gate, alloc, rt, &mut worker.kept, &mut conn) {
@@ -62,9 +62,9 @@ pub(crate) fn work<D: Door, J: Disk + Drop, R: Wait>(
     worker: &mut KeptWorker<D, J>,
     most: u32,
 ) -> bool
-    requires waits { Waits (members D.out D.to_come D.faults D.visits) (disk_members J.reads J.image J.faults J.moment J.image_since) gate.now worker.old }
+    requires waits { Waits (door_members D.Door) (disk_members J.Disk) gate.now worker.old }
     requires most { most ≤ CONNECTION_LIMIT }
-    ensures { Worked (members D.out D.to_come D.faults D.visits) (disk_members J.reads J.image J.faults J.moment J.image_since) (telling D.W.log D.W.dial_faults D.W.faults) gate.now most worker.old worker.new result }
+    ensures { Worked (door_members D.Door) (disk_members J.Disk) (telling D.W.Wire) gate.now most worker.old worker.new result }
 {
     'turns: while worker.connections < most {
         match serve_one(gate, alloc, rt, worker) {

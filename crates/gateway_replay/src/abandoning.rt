@@ -57,21 +57,21 @@ fn abandon<R: Wait>(
     alloc: Global,
     rt: &R,
     passes: &mut Passes,
-    open: Open<'_, '_>,
+    left: Open<'_, '_>,
     report: &mut Replayed,
     told: bool,
 ) -> bool
     requires belong { Belongs passes.old gate.now.accounts }
     requires made { passes.old.made < 2 ^ 63 }
-    requires open { IsOpenGrant passes.old open.grant }
+    requires open { IsOpenGrant passes.old left.grant }
     requires room { told ≡ true → HasRoom report.old }
     ensures belong { Belongs passes.new gate.now.accounts }
-    ensures call { Gains passes.old passes.new (abandoning (request_of open.entry) ∷ []) }
+    ensures call { Gains passes.old passes.new (abandoning (request_of left.entry) ∷ []) }
     ensures told { result ≡ true → told ≡ true }
-    ensures line { result ≡ true → AddsLine (line_of_abandoned (request_of open.entry)) report.old report.new }
+    ensures line { result ≡ true → AddsLine (line_of_abandoned (request_of left.entry)) report.old report.new }
     ensures room { result ≡ true → HasRoom report.new }
 {
-    let Open { id, grant } = open;
+    let Open { id, grant } = left;
     let bound = settle_at_bound(gate, alloc, rt, passes, grant);
     if !told {
         return false;

@@ -1,5 +1,5 @@
 -- What the rules that were read give to serving, and how many clients there are at its end.
-use Rattle.std.proofs.Common.{◌≡◌, ◌≤◌, ℕ, List, length, Result, Ok, Err, IfOk, sym, subst}
+use Rattle.std.proofs.Common.{◌≤◌, ℕ, List, length, Result, Ok, Err, IfOk, sym, subst}
 use Rattle.client_files.specs.declared.client.Client.{Client}
 use Rattle.client_files.specs.ClientFiles.{MayBeServed}
 use Rattle.client_files.specs.declared.client.TheConstants.{CLIENT_LIMIT}
@@ -11,7 +11,7 @@ use Rattle.plan_model.specs.Sound.{CanBeFilled}
 use Rattle.gateway_serving.specs.Decisions.{HasWeights}
 use Rattle.gateway_serving.specs.declared.ending.ServeEnd.{ServeEnd}
 use Rattle.gateway_serving.specs.declared.ending.ServeFault.{ServeFault}
-use Rattle.gateway_serving.specs.Ends.{EndsServing, WasServed}
+use Rattle.gateway_serving.specs.Ends.{WasServed}
 use Rattle.command_outcomes.specs.Check.{HoldsWith}
 use Rattle.command_words.specs.declared.command.AskedServe.{AskedServe}
 use Rattle.gateway_run.specs.declared.serve_inputs.ServeInputs.{ServeInputs}

@@ -3,6 +3,7 @@ use Rattle.std.specs.Prelude.{◌≡◌, ◌⊎◌, ℕ, List, Option, Bool, tru
 use Rattle.std.specs.Io.KnownBytes.{Appends, Keeps}
 use Rattle.outside.specs.Faults.{Rose}
 use Rattle.outside.specs.Contents.{AppendsFront}
+use Rattle.outside.specs.declared.sink.Sink.{Ghosts}
 use Rattle.command_outcomes.specs.declared.outcome.Outcome.{Outcome}
 use Rattle.command_outcomes.specs.declared.outcome.Outcome.TheVariants.{Done, Refused, FileFailed, Faulty, Audited, Served, NotStarted, Usage, Memory}
 use Rattle.command_outcomes.specs.declared.outcome.TheConstants.{DONE, REFUSED, USAGE, FILE_FAILED, STREAM_FAILED, NO_MEMORY, DOOR_FAILED}
@@ -16,12 +17,12 @@ pub record StreamTold : Type 0 where
   pub faults_before : ℕ
   pub faults_after : ℕ
 
-abbrev pub stream_told : {K : Type 0} → (K → Option (List ℕ)) → (K → ℕ) → K → K → StreamTold
-stream_told written faults before now = record {
-  before = written before;
-  after = written now;
-  faults_before = faults before;
-  faults_after = faults now;
+abbrev pub stream_told : {K : Type 0} → Ghosts K → K → K → StreamTold
+stream_told tell before now = record {
+  before = tell.written before;
+  after = tell.written now;
+  faults_before = tell.faults before;
+  faults_after = tell.faults now;
 }
 
 -- Just this was written on the stream.

@@ -15,6 +15,7 @@ use Rattle.command_outcomes.specs.declared.outcome.Outcome.TheVariants.{Done, Re
 use Rattle.command_words.specs.Words.{Asks, IsNoCommand}
 use Rattle.gateway_run.specs.declared.finish.TheConstants.{USAGE_TEXT, VERSION_TEXT, DOOR_TEXT}
 use Rattle.outside.specs.Faults.{Rose}
+use Rattle.outside.specs.declared.files.Files.{Ghosts}
 use Rattle.command_outcomes.specs.Texts.{line, file_text}
 use Rattle.command_outcomes.specs.Outcomes.{FilesTold, files_told, NoFileFailed, IsDone}
 use Rattle.gateway_run.specs.Endings.{StreamTold, Gains, IsKept, HasFailed, FailsAmid, Ends}
@@ -71,8 +72,8 @@ ComeTo words files outside outcome = IsCommandOf words files outside outcome
     ⊎ ((outcome ≡ Memory) × NoFileFailed files × AreUntouched outside)
 
 -- What the files tell of a call.
-abbrev pub files_call : {F : Type 0} → (F → List ℕ → Option (List ℕ)) → (F → List ℕ → ℕ) → F → F → FilesTold
-files_call content faults before now = files_told (content before) (faults before) (faults now)
+abbrev pub files_call : {F : Type 0} → Ghosts F → F → F → FilesTold
+files_call tell before now = files_told (tell.content before) (tell.faults before) (tell.faults now)
 
 -- What words came to was written, and the status is its own.
 abbrev pub Runs : List (List ℕ) → ℕ → FilesTold → OutsideCall → StreamTold → StreamTold → Type 0

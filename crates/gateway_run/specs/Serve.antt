@@ -1,7 +1,7 @@
 -- What a serve command comes to.
 use Rattle.std.specs.Prelude.{◌≡◌, ◌⊎◌, ◌++◌, ℕ, List, Option, None, Some, map, Result, Ok, Err, codes, nat_lt}
 use Rattle.std.specs.Fmt.{decimal}
-use Rattle.doors.specs.Starts.{Asked, Stopped}
+use Rattle.doors.specs.declared.starting.Doors.{Ghosts as DoorsTell}
 use Rattle.gateway_serving.specs.Decisions.{Service}
 use Rattle.gateway_serving.specs.declared.asked.Serving.{Serving}
 use Rattle.gateway_serving.specs.declared.ending.ServeEnd.{ServeEnd}
@@ -11,7 +11,8 @@ use Rattle.sha2.specs.Sha256.{sha256}
 use Rattle.client_files.specs.declared.client.Client.{Client}
 use Rattle.client_files.specs.Written.{client_file}
 use Rattle.gateway_core.specs.Rules.{client_limit}
-use Rattle.journal_disk.specs.Shutting.{Shut}
+use Rattle.journal_disk.specs.declared.disks.Disks.{Ghosts as DisksTell}
+use Rattle.gateway_journal.specs.Kept.{kept_slots}
 use Rattle.journal_serving.specs.declared.ending.KeptEnd.{KeptEnd}
 use Rattle.journal_serving.specs.declared.ending.KeptFault.{KeptFault}
 use Rattle.journal_serving.specs.declared.ending.KeptFault.TheVariants as unserved
@@ -34,11 +35,8 @@ pub record DoorsCall : Type 0 where
   pub before : DoorsTold
   pub now : DoorsTold
 
-abbrev pub doors_call : {D : Type 0} → (D → ℕ) → (D → Option Asked) → (D → ℕ) → (D → List Stopped) → D → D → DoorsCall
-doors_call faults asked running stopped before now = record {
-  before = doors_told faults asked running stopped before;
-  now = doors_told faults asked running stopped now;
-}
+abbrev pub doors_call : {D Door S K W C : Type 0} → DoorsTell D Door S K W C → D → D → DoorsCall
+doors_call tell before now = record { before = doors_told tell before; now = doors_told tell now }
 
 -- What the disks tell before and after a call, and what the disk of a name reads as when it is opened.
 pub record DisksCall : Type 0 where
@@ -46,8 +44,8 @@ pub record DisksCall : Type 0 where
   pub before : DisksTold
   pub now : DisksTold
 
-abbrev pub disks_call : {J : Type 0} → (J → List ℕ → Option (List ℕ)) → (J → Option Shut) → (J → ℕ) → J → J → DisksCall
-disks_call holds last faults before now = record { holds = holds before; before = disks_told last faults before; now = disks_told last faults now }
+abbrev pub disks_call : {J D : Type 0} → DisksTell J D → J → J → DisksCall
+disks_call tell before now = record { holds = tell.holds before; before = disks_told tell before; now = disks_told tell now }
 
 -- What doors and disks tell before and after a call.
 pub record OutsideCall : Type 0 where
@@ -74,7 +72,7 @@ service_by asked inputs = service_over None asked inputs
 
 -- over a journal, whose slots are the numbers of calls
 abbrev pub kept_service_by : AskedServe → ServeInputs → Service
-kept_service_by asked inputs = service_over (Some 4194304) asked inputs
+kept_service_by asked inputs = service_over kept_slots asked inputs
 
 -- what the doors are started with
 pub record IsServingOf (asked : AskedServe) (serving : Serving) : Type 0 where

@@ -62,7 +62,7 @@ fn write_line<K: Sink>(to: &mut K, text: &[u8]) -> Result<(), WriteFault>
 
 // Writes a line, and gives the status, or `STREAM_FAILED` where the stream failed.
 fn write_or_fail<K: Sink>(to: &mut K, text: &[u8], status: u8) -> u8
-    ensures { Writes (line text.now) status result (stream_told K.written K.faults to.old to.new) }
+    ensures { Writes (line text.now) status result (stream_told K.Sink to.old to.new) }
 {
     match write_line(to, text) {
         Ok(()) => status,
@@ -82,7 +82,7 @@ fn write_name<E: Sink>(to: &mut E, name: &[u8]) -> Result<(), WriteFault>
 
 // Names a file that was not read. The status stays where the stream fails.
 fn mention_file<E: Sink>(err: &mut E, name: &[u8]) -> u8
-    ensures { Mentions (line (file_text name.now)) FILE_FAILED result (stream_told E.written E.faults err.old err.new) }
+    ensures { Mentions (line (file_text name.now)) FILE_FAILED result (stream_told E.Sink err.old err.new) }
 {
     match write_name(err, name) {
         Ok(()) | Err(WriteFault) => FILE_FAILED,
@@ -91,7 +91,7 @@ fn mention_file<E: Sink>(err: &mut E, name: &[u8]) -> u8
 
 // Says how the program is used. The status stays where the stream fails.
 fn mention_usage<E: Sink>(err: &mut E) -> u8
-    ensures { Mentions (line USAGE_TEXT.now) USAGE result (stream_told E.written E.faults err.old err.new) }
+    ensures { Mentions (line USAGE_TEXT.now) USAGE result (stream_told E.Sink err.old err.new) }
 {
     match write_line(err, USAGE_TEXT) {
         Ok(()) | Err(WriteFault) => USAGE,
@@ -107,8 +107,8 @@ fn audit_status(passed: bool) -> u8
 
 // Writes the closing lines, and then says so where a door failed.
 fn write_served<K: Sink, E: Sink>(lines: &[u8], failed: bool, out: &mut K, err: &mut E) -> u8
-    ensures { EndsServed lines.now failed result (stream_told K.written K.faults out.old out.new)
-        (stream_told E.written E.faults err.old err.new) }
+    ensures { EndsServed lines.now failed result (stream_told K.Sink out.old out.new)
+        (stream_told E.Sink err.old err.new) }
 {
     if !failed {
         return write_or_fail(out, lines, DONE);
@@ -121,8 +121,8 @@ fn write_served<K: Sink, E: Sink>(lines: &[u8], failed: bool, out: &mut K, err: 
 
 /// Writes what a command came to, and gives the status to end with.
 pub fn finish<K: Sink, E: Sink>(outcome: Outcome, out: &mut K, err: &mut E) -> u8
-    ensures { Ends outcome result (stream_told K.written K.faults out.old out.new)
-        (stream_told E.written E.faults err.old err.new) }
+    ensures { Ends outcome result (stream_told K.Sink out.old out.new)
+        (stream_told E.Sink err.old err.new) }
 {
     match outcome {
         Outcome::Done(output) => write_or_fail(out, output.as_slice(), DONE),

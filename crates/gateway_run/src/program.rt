@@ -2,7 +2,7 @@
 
 ghost use Rattle.std.specs.Prelude.{◌≡◌};
 ghost use Rattle.command_words.specs.Words.{ServesWithinLimits};
-ghost use Rattle.command_outcomes.specs.Outcomes.{files_told, IsDone};
+ghost use Rattle.command_outcomes.specs.Outcomes.{IsDone};
 ghost use Rattle.gateway_run.specs.Endings.{stream_told, Ends};
 ghost use Rattle.gateway_run.specs.Serve.{doors_call, disks_call, outside_call};
 ghost use Rattle.gateway_run.specs.Program.{files_call, no_command, CommandCameTo, ComeTo, Runs};
@@ -44,8 +44,8 @@ fn outcome_of<Rt: Threads + Wait + Sync, F: Files, D: Doors, J: Disks>(
 ) -> Outcome
     requires limits { ServesWithinLimits command }
     requires idle { D.running doors.old ≡ 0 }
-    ensures { CommandCameTo command (files_told (F.content files.old) (F.faults files.old) (F.faults files.new))
-        (outside_call (doors_call D.faults D.asked D.running D.stopped doors.old doors.new) (disks_call J.holds J.last J.faults disks.old disks.new)) result }
+    ensures { CommandCameTo command (files_call F.Files files.old files.new)
+        (outside_call (doors_call D.Doors doors.old doors.new) (disks_call J.Disks disks.old disks.new)) result }
 {
     match command {
         Command::Help => done(alloc, USAGE_TEXT),
@@ -88,8 +88,8 @@ fn answer_words<Rt: Threads + Wait + Sync, F: Files, D: Doors, J: Disks>(
     disks: &mut J,
 ) -> Outcome
     requires idle { D.running doors.old ≡ 0 }
-    ensures { ComeTo words.now (files_told (F.content files.old) (F.faults files.old) (F.faults files.new))
-        (outside_call (doors_call D.faults D.asked D.running D.stopped doors.old doors.new) (disks_call J.holds J.last J.faults disks.old disks.new)) result }
+    ensures { ComeTo words.now (files_call F.Files files.old files.new)
+        (outside_call (doors_call D.Doors doors.old doors.new) (disks_call J.Disks disks.old disks.new)) result }
 {
     match command_of(alloc, words) {
         Ok(command) => outcome_of(alloc, rt, command, files, doors, disks),
@@ -110,10 +110,10 @@ pub fn run<Rt: Threads + Wait + Sync, F: Files, D: Doors, J: Disks, K: Sink, E: 
     err: &mut E,
 ) -> u8
     requires idle { D.running doors.old ≡ 0 }
-    ensures { Runs words.now result (files_call F.content F.faults files.old files.new)
-        (outside_call (doors_call D.faults D.asked D.running D.stopped doors.old doors.new) (disks_call J.holds J.last J.faults disks.old disks.new))
-        (stream_told K.written K.faults out.old out.new)
-        (stream_told E.written E.faults err.old err.new) }
+    ensures { Runs words.now result (files_call F.Files files.old files.new)
+        (outside_call (doors_call D.Doors doors.old doors.new) (disks_call J.Disks disks.old disks.new))
+        (stream_told K.Sink out.old out.new)
+        (stream_told E.Sink err.old err.new) }
 {
     let outcome = answer_words(alloc, rt, words, files, doors, disks);
     finish(outcome, out, err)
@@ -121,8 +121,8 @@ pub fn run<Rt: Threads + Wait + Sync, F: Files, D: Doors, J: Disks, K: Sink, E: 
 
 /// Ends without a command, and gives the status: that of a wrong use, or that of want of memory.
 pub fn end_without_command<K: Sink, E: Sink>(fault: WordsFault, out: &mut K, err: &mut E) -> u8
-    ensures { Ends (no_command fault) result (stream_told K.written K.faults out.old out.new)
-        (stream_told E.written E.faults err.old err.new) }
+    ensures { Ends (no_command fault) result (stream_told K.Sink out.old out.new)
+        (stream_told E.Sink err.old err.new) }
 {
     finish(no_outcome(fault), out, err)
 }

@@ -90,7 +90,7 @@ fn keep_by<Rt: Threads + Wait + Sync, D: Doors, J: Disks>(
     requires weighed { HasWeights (schema_data inputs.rules.weighed.schema) (weights_data inputs.rules.weighed.weights) }
     requires served { MayBeServed inputs.rules.clients.window_seconds inputs.rules.clients.clients.items }
     requires idle { D.running doors.old ≡ 0 }
-    ensures { KeepsAs asked.now name.now inputs (outside_call (doors_call D.faults D.asked D.running D.stopped doors.old doors.new) (disks_call J.holds J.last J.faults disks.old disks.new)) result }
+    ensures { KeepsAs asked.now name.now inputs (outside_call (doors_call D.Doors doors.old doors.new) (disks_call J.Disks disks.old disks.new)) result }
 {
     let serving = serving_of(asked);
     let ServeInputs { rules, list } = inputs;
@@ -121,7 +121,7 @@ fn serve_by<Rt: Threads + Wait + Sync, D: Doors>(
     requires weighed { HasWeights (schema_data inputs.rules.weighed.schema) (weights_data inputs.rules.weighed.weights) }
     requires served { MayBeServed inputs.rules.clients.window_seconds inputs.rules.clients.clients.items }
     requires idle { D.running doors.old ≡ 0 }
-    ensures { ServesTo asked.now inputs (doors_call D.faults D.asked D.running D.stopped doors.old doors.new) result }
+    ensures { ServesTo asked.now inputs (doors_call D.Doors doors.old doors.new) result }
 {
     let serving = serving_of(asked);
     let ServeInputs { rules, list } = inputs;
@@ -166,7 +166,7 @@ fn serve_asked<Rt: Threads + Wait + Sync, D: Doors, J: Disks>(
     requires weighed { HasWeights (schema_data inputs.rules.weighed.schema) (weights_data inputs.rules.weighed.weights) }
     requires served { MayBeServed inputs.rules.clients.window_seconds inputs.rules.clients.clients.items }
     requires idle { D.running doors.old ≡ 0 }
-    ensures { ServesAs asked.now inputs (outside_call (doors_call D.faults D.asked D.running D.stopped doors.old doors.new) (disks_call J.holds J.last J.faults disks.old disks.new)) result }
+    ensures { ServesAs asked.now inputs (outside_call (doors_call D.Doors doors.old doors.new) (disks_call J.Disks disks.old disks.new)) result }
 {
     match &asked.journal {
         None => told(alloc, serve_by(alloc, rt, asked, inputs, doors)),
@@ -186,7 +186,7 @@ fn serve_of<Rt: Threads + Wait + Sync, D: Doors, J: Disks>(
     requires limits { ServesWithinLimits (Serve asked.now) }
     requires text { IsText SCHEMA_LIMIT texts.now.rules.schema }
     requires idle { D.running doors.old ≡ 0 }
-    ensures { ServeOf asked.now texts.now (outside_call (doors_call D.faults D.asked D.running D.stopped doors.old doors.new) (disks_call J.holds J.last J.faults disks.old disks.new)) result }
+    ensures { ServeOf asked.now texts.now (outside_call (doors_call D.Doors doors.old doors.new) (disks_call J.Disks disks.old disks.new)) result }
 {
     built_schemas_can_be_filled();
     match serve_inputs_in(alloc, texts, asked.undeclared) {
@@ -213,7 +213,7 @@ pub fn serve<Rt: Threads + Wait + Sync, F: Files, D: Doors, J: Disks>(
     requires limits { ServesWithinLimits (Serve asked.now) }
     requires idle { D.running doors.old ≡ 0 }
     ensures { ServeCameTo asked.now (files_told (F.content files.old) (F.faults files.old) (F.faults files.new))
-        (outside_call (doors_call D.faults D.asked D.running D.stopped doors.old doors.new) (disks_call J.holds J.last J.faults disks.old disks.new)) result }
+        (outside_call (doors_call D.Doors doors.old doors.new) (disks_call J.Disks disks.old disks.new)) result }
 {
     match read_serve(alloc, asked, files) {
         Ok(texts) => serve_of(alloc, rt, asked, &texts, doors, disks),

@@ -1,6 +1,7 @@
 -- What doors tell, and that they were started and stopped.
 use Rattle.std.specs.Prelude.{◌≡◌, ℕ, List, ◌++◌, Option, Some}
 use Rattle.doors.specs.Starts.{Asked, Stopped}
+use Rattle.doors.specs.declared.starting.Doors.{Ghosts}
 use Rattle.gateway_serving.specs.declared.asked.Serving.{Serving}
 
 -- What doors tell at one moment: the count of starts that failed, what they were started with last, how many are started and
@@ -11,10 +12,10 @@ pub record DoorsTold : Type 0 where
   pub running : ℕ
   pub stopped : List Stopped
 
--- the same by the members of what starts them
-abbrev pub doors_told : {D : Type 0} → (D → ℕ) → (D → Option Asked) → (D → ℕ) → (D → List Stopped) → D → DoorsTold
-doors_told faults asked running stopped doors =
-    record { faults = faults doors; asked = asked doors; running = running doors; stopped = stopped doors }
+-- the same of what starts them
+abbrev pub doors_told : {D Door S K W C : Type 0} → Ghosts D Door S K W C → D → DoorsTold
+doors_told tell doors =
+    record { faults = tell.faults doors; asked = tell.asked doors; running = tell.running doors; stopped = tell.stopped doors }
 
 -- what the doors are started with
 abbrev pub asked_of : Serving → Asked

@@ -2,7 +2,8 @@
 
 ghost use Rattle.std.specs.Prelude.{◌≡◌, ◌≤◌, All, Some, IfOk, OnErr, length};
 ghost use Rattle.account_shared.specs.Views.{Belongs};
-ghost use Rattle.doors.specs.Starts.{IsNew, members};
+ghost use Rattle.doors.specs.Starts.{IsNew};
+ghost use Rattle.gateway_workers.specs.Tours.{door_members};
 ghost use Rattle.gateway_workers.specs.Decisions.{rules_of, AreFresh, service_of};
 ghost use Rattle.gateway_workers.specs.declared.serving.TheConstants.{WORKER_LIMIT};
 ghost use Rattle.gateway_workers.specs.declared.working.TheConstants.{CONNECTION_LIMIT};
@@ -32,13 +33,13 @@ fn serve_started<D: Doors, R: Threads + Wait + Sync>(
     requires fresh { AreFresh (rules_of gate) passes }
     requires count { length started.items ≡ serving.now.workers }
     requires running { D.running doors.old ≡ serving.now.workers }
-    requires new { All (IsNew (members D.D.out D.D.to_come D.D.faults D.D.visits) serving.now.connections) started.items }
+    requires new { All (IsNew (door_members D.D.Door) serving.now.connections) started.items }
     requires asked { D.asked doors.old ≡ Some (asked_of serving.now) }
     requires workers { (1 ≤ serving.now.workers) × (serving.now.workers ≤ WORKER_LIMIT) }
     requires connections { serving.now.connections ≤ CONNECTION_LIMIT }
     ensures idle { D.running doors.new ≡ 0 }
-    ensures served { IfOk result (WasServed (service_of gate) serving.now (doors_told D.faults D.asked D.running D.stopped doors.old) (doors_told D.faults D.asked D.running D.stopped doors.new)) }
-    ensures memory { OnErr result (WasUnserved serving.now (doors_told D.faults D.asked D.running D.stopped doors.old) (doors_told D.faults D.asked D.running D.stopped doors.new)) }
+    ensures served { IfOk result (WasServed (service_of gate) serving.now (doors_told D.Doors doors.old) (doors_told D.Doors doors.new)) }
+    ensures memory { OnErr result (WasUnserved serving.now (doors_told D.Doors doors.old) (doors_told D.Doors doors.new)) }
 {
     match serve_workers(&gate, alloc, rt, &mut passes, started, serving.connections) {
         Ok((done, back)) => {
@@ -77,7 +78,7 @@ pub fn serve<D: Doors, R: Threads + Wait + Sync>(
     requires workers { (1 ≤ serving.now.workers) × (serving.now.workers ≤ WORKER_LIMIT) }
     requires connections { serving.now.connections ≤ CONNECTION_LIMIT }
     ensures idle { D.running doors.new ≡ 0 }
-    ensures came_to { ComesTo (service_of gate) serving.now (doors_told D.faults D.asked D.running D.stopped doors.old) (doors_told D.faults D.asked D.running D.stopped doors.new) result }
+    ensures came_to { ComesTo (service_of gate) serving.now (doors_told D.Doors doors.old) (doors_told D.Doors doors.new) result }
 {
     let started = match doors.start(
         alloc,

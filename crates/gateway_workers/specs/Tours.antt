@@ -3,13 +3,18 @@ use Rattle.std.specs.Prelude.{◌≡◌, ◌⊎◌, ℕ, ◌+◌, ◌≤◌, min
 use Rattle.account_shared.specs.Gains.{ClientCall}
 use Rattle.outside.specs.Faults.{Rose}
 use Rattle.doors.specs.Visits.{Told, Visit, Gained}
-use Rattle.doors.specs.Starts.{DoorMembers}
+use Rattle.doors.specs.Starts.{DoorMembers, members}
+use Rattle.doors.specs.declared.door.Door.{Ghosts as DoorTells}
 use Rattle.gateway_core.specs.Numbers.{numbers_taken}
 use Rattle.gateway_connections.specs.declared.ending.Served.{Served}
 use Rattle.gateway_connections.specs.declared.ending.ConnectionEnd.TheVariants as ending
 use Rattle.gateway_connections.specs.Exchanges.{Service}
 use Rattle.gateway_connections.specs.Connections.{end_number}
 use Rattle.gateway_connections.specs.Serving.{Runs}
+
+-- what a door tells, as one
+abbrev pub door_members : {D S K W C : Type 0} → DoorTells D S K W C → DoorMembers D
+door_members door = members door.out door.to_come door.faults door.visits
 
 -- A connection that was served: what its objects told before and after, its calls at the accounts, and what came of it.
 pub record Run : Type 0 where

@@ -2,8 +2,8 @@
 
 ghost use Rattle.std.specs.Prelude.{◌≡◌, ◌≤◌, ◌<◌, All, false, length, IfOk, IfErr};
 ghost use Rattle.account_shared.specs.Views.{Belongs};
-ghost use Rattle.doors.specs.Starts.{members};
 ghost use Rattle.gateway_connections.specs.Exchanges.{service_of};
+ghost use Rattle.gateway_workers.specs.Tours.{door_members};
 ghost use Rattle.gateway_workers.specs.Joins.{GivesBack};
 ghost use Rattle.gateway_workers.specs.Workers.{Waits, Worked, AllWorked, Serves};
 
@@ -31,12 +31,12 @@ fn run_slice<D: Door + Send, R: Threads + Wait + Sync>(
     most: u32,
 )
     requires most { most ≤ CONNECTION_LIMIT }
-    requires waits { All (Waits (members D.out D.to_come D.faults D.visits) gate.now.accounts) workers.old }
-    ensures { AllWorked (members D.out D.to_come D.faults D.visits) (service_of gate.now) gate.now.accounts most workers.old workers.new }
+    requires waits { All (Waits (door_members D.Door) gate.now.accounts) workers.old }
+    ensures { AllWorked (door_members D.Door) (service_of gate.now) gate.now.accounts most workers.old workers.new }
 {
     let one = |_place: usize, worker: &mut Worker<D>|
-        requires { (most ≤ CONNECTION_LIMIT) × Waits (members D.out D.to_come D.faults D.visits) gate.now.accounts worker.now }
-        ensures { Worked (members D.out D.to_come D.faults D.visits) (service_of gate.entry.now) gate.entry.now.accounts most worker.entry.now worker.exit.now }
+        requires { (most ≤ CONNECTION_LIMIT) × Waits (door_members D.Door) gate.now.accounts worker.now }
+        ensures { Worked (door_members D.Door) (service_of gate.entry.now) gate.entry.now.accounts most worker.entry.now worker.exit.now }
     { work(gate, alloc, rt, worker, most) };
     for_each_mut(rt, workers, WORKER_LIMIT, &one);
 }
@@ -50,9 +50,9 @@ fn run_all<D: Door + Send, R: Threads + Wait + Sync>(
     most: u32,
 )
     requires most { most ≤ CONNECTION_LIMIT }
-    requires waits { All (Waits (members D.out D.to_come D.faults D.visits) gate.now.accounts) workers.old.items }
+    requires waits { All (Waits (door_members D.Door) gate.now.accounts) workers.old.items }
     ensures count { length workers.new.items ≡ length workers.old.items }
-    ensures worked { AllWorked (members D.out D.to_come D.faults D.visits) (service_of gate.now) gate.now.accounts most workers.old.items workers.new.items }
+    ensures worked { AllWorked (door_members D.Door) (service_of gate.now) gate.now.accounts most workers.old.items workers.new.items }
 {
     run_slice(gate, alloc, rt, workers.as_mut_slice(), most);
 }
@@ -81,7 +81,7 @@ pub fn serve_workers<D: Door + Send, R: Threads + Wait + Sync>(
     requires free { All (λ d. D.out d ≡ false) doors.items }
     requires most { connections ≤ CONNECTION_LIMIT }
     ensures belong { Belongs passes.new gate.now.accounts }
-    ensures served { IfOk result (λ r. Serves (members D.out D.to_come D.faults D.visits) (service_of gate.now) connections passes.old doors.items passes.new r.0 r.1.items) }
+    ensures served { IfOk result (λ r. Serves (door_members D.Door) (service_of gate.now) connections passes.old doors.items passes.new r.0 r.1.items) }
     ensures memory { IfErr result (λ r. GivesBack doors.items r.0.items passes.old passes.new) }
 {
     let count = doors.len();

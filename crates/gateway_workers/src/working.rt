@@ -2,8 +2,8 @@
 
 ghost use Rattle.std.specs.Prelude.{◌≡◌, ◌*◌, ◌≤◌, ◌<◌, false};
 ghost use Rattle.account_shared.specs.Views.{Belongs, IsIdle};
-ghost use Rattle.doors.specs.Starts.{members};
 ghost use Rattle.gateway_connections.specs.Exchanges.{service_of};
+ghost use Rattle.gateway_workers.specs.Tours.{door_members};
 ghost use Rattle.gateway_workers.specs.Workers.{TurnIs, Waits, Worked};
 
 use crate::worker::{Next, Worker};
@@ -23,7 +23,7 @@ fn serve_one<D: Door, R: Wait>(gate: &Gate, alloc: Global, rt: &R, worker: &mut 
     requires few { worker.old.connections < 4294967295 }
     requires counted { worker.old.replies ≤ 1000 * worker.old.connections }
     requires made { worker.old.passes.made ≤ 2000 * worker.old.connections }
-    ensures { TurnIs (members D.out D.to_come D.faults D.visits) (service_of gate.now) gate.now.accounts worker.old worker.new result }
+    ensures { TurnIs (door_members D.Door) (service_of gate.now) gate.now.accounts worker.old worker.new result }
 {
     match worker.door.accept() {
         Ok(Some(mut conn)) => {
@@ -49,9 +49,9 @@ pub(crate) fn work<D: Door, R: Wait>(
     worker: &mut Worker<D>,
     most: u32,
 )
-    requires waits { Waits (members D.out D.to_come D.faults D.visits) gate.now.accounts worker.old }
+    requires waits { Waits (door_members D.Door) gate.now.accounts worker.old }
     requires most { most ≤ CONNECTION_LIMIT }
-    ensures { Worked (members D.out D.to_come D.faults D.visits) (service_of gate.now) gate.now.accounts most worker.old worker.new }
+    ensures { Worked (door_members D.Door) (service_of gate.now) gate.now.accounts most worker.old worker.new }
 {
     'turns: while worker.connections < most {
         match serve_one(gate, alloc, rt, worker) {

@@ -1,5 +1,5 @@
 -- What is settled in the accounts of a journal, and carried into their windows, is within the cap.
-use Rattle.std.proofs.Common.{◌≡◌, ◌<◌, Bool, true, false, List, length, refl, sym, ap, subst, arith, get_or, All}
+use Rattle.std.proofs.Common.{◌≡◌, ◌<◌, Bool, true, false, length, refl, ap, subst, arith, All}
 use Rattle.std.proofs.lemmas.List.{get_or_default}
 use Rattle.cost_num.specs.declared.Cost.{Cost}
 use Rattle.account_core.specs.declared.Account.{Account}

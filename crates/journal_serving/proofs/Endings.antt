@@ -1,14 +1,12 @@
 -- How serving over a journal ends, by histories.
-use Rattle.std.proofs.Common.{◌≡◌, ℕ, ◌+◌, ◌-◌, ◌<◌, ◌≤◌, ◌⊎◌, min, List, [], ◌∷◌, ◌++◌, length, map, take, drop, slice_index_or, All, nat_lt, refl, sym, ap, ◌∙◌, subst, arith, Option, Some, None, Result, Ok, Err, inl, inr, Bool, true, false, true≢false}
+use Rattle.std.proofs.Common.{◌≡◌, ℕ, ◌+◌, ◌-◌, ◌≤◌, ◌⊎◌, min, List, [], ◌∷◌, ◌++◌, length, map, take, drop, slice_index_or, All, nat_lt, refl, sym, ap, ◌∙◌, subst, arith, Option, Some, None, Result, Ok, Err, inl, inr, true, false, true≢false}
 use Rattle.std.specs.Prelude.{IfSome, is_some}
 use Rattle.account_core.specs.Machine.{Entry}
-use Rattle.account_core.specs.declared.Limit.{Limit}
 use Rattle.outside.specs.Faults.{Rose}
 use Rattle.doors.specs.Starts.{DoorMembers, IsNew, Stopped, stopped_by, connections_of}
-use Rattle.doors.specs.Visits.{Told, Visit}
-use Rattle.journal_disk.specs.Shutting.{Shut, shut_with}
+use Rattle.doors.specs.Visits.{Visit}
+use Rattle.journal_disk.specs.Shutting.{shut_with}
 use Rattle.account_journal.specs.declared.journal.Journal.{Journal}
-use Rattle.account_journal.specs.Journals.{IsTold}
 use Rattle.account_journal.specs.Recovery.{IsRecoveredFrom, recovered_history}
 use Rattle.account_journal.specs.Histories.{history_in}
 use Rattle.account_journal.specs.Slots.{bodies}
@@ -21,14 +19,14 @@ use Rattle.gateway_connections.specs.Exchanges.{WireTelling}
 use Rattle.gateway_workers.specs.declared.work_done.WorkDone.{WorkDone}
 use Rattle.gateway_workers.proofs.Turns.{visits_then}
 use Rattle.gateway_connections.specs.Serving.{LosesServing}
-use Rattle.gateway_workers.specs.Tours.{Run, calls_in, visits_of, replies_in, one_if}
+use Rattle.gateway_workers.specs.Tours.{calls_in, visits_of, one_if}
 use Rattle.gateway_serving.specs.declared.asked.Serving.{Serving}
-use Rattle.gateway_serving.specs.Telling.{DoorsTold, StartAndStop, StartNone, asked_of}
+use Rattle.gateway_serving.specs.Telling.{DoorsTold, StartAndStop, asked_of}
 use Rattle.gateway_serving.proofs.DoorsBack.{has_risen, told_visits}
 use Rattle.gateway_serving.proofs.AllServed.{start_and_stop}
 use Rattle.gateway_journal.specs.Kept.{IsKeptFor, kept_of_calls}
 use Rattle.gateway_journal.specs.Served.{service_kept}
-use Rattle.gateway_journal.specs.DoorRuns.{DiskMembers, Stretch, ServesDoor, LosesDoor}
+use Rattle.gateway_journal.specs.DoorRuns.{DiskMembers, ServesDoor}
 use Rattle.journal_serving.specs.declared.ending.KeptEnd.{KeptEnd}
 use Rattle.journal_serving.specs.declared.ending.KeptFault.{KeptFault}
 use Rattle.journal_serving.specs.declared.ending.KeptFault.TheVariants.{Disk, OtherClients, Damaged, NotStarted, Memory}

@@ -1,5 +1,5 @@
 -- What is said of journals, said of their histories.
-use Rattle.std.proofs.Common.{◌≡◌, ℕ, ◌+◌, ◌<◌, ◌≤◌, List, [], ◌∷◌, ◌++◌, length, get_or, refl, sym, ap, ◌∙◌, subst, arith, Option, Some, None, inl, inr, Bool, true, false, Result, ⊎_elim}
+use Rattle.std.proofs.Common.{◌≡◌, ℕ, ◌+◌, ◌<◌, ◌≤◌, List, [], ◌∷◌, ◌++◌, length, get_or, refl, sym, ap, ◌∙◌, subst, arith, Option, Some, None, inl, inr, Result, ⊎_elim}
 use Rattle.std.specs.Prelude.{IfSome, is_some}
 use Rattle.cost_num.specs.declared.Cost.{Cost}
 use Rattle.account_core.specs.declared.Limit.{Limit}
@@ -21,7 +21,7 @@ use Rattle.gateway_core.specs.Rules.{window_of}
 use Rattle.gateway_core.specs.Losses.{LosesReservation, LosesCalls}
 use Rattle.gateway_connections.specs.Exchanges.{Service, WireTelling, LosesExchange, LosesForwarded}
 use Rattle.gateway_connections.specs.Connections.{calls_of}
-use Rattle.gateway_connections.specs.Serving.{LosesTurn, LosesServing}
+use Rattle.gateway_connections.specs.Serving.{LosesServing}
 use Rattle.gateway_journal.specs.Kept.{entries_of_calls, entries_made, kept_of_calls, IsHeld, HasKept, IsLostIn}
 use Rattle.gateway_journal.proofs.HeldCalls.{quiet_start, is_open}
 use Rattle.gateway_journal.proofs.ServedCalls.{exchanges_even}

@@ -1,6 +1,5 @@
 -- What serving over a journal comes to.
 use Rattle.std.specs.Prelude.{◌≡◌, ◌⊎◌, ℕ, ◌+◌, ◌<◌, List, [], ◌∷◌, ◌++◌, Option, Some, Result, Ok, Err, IfSome, length, get_or, max, true, false}
-use Rattle.cost_num.specs.declared.Cost.{Cost}
 use Rattle.account_core.specs.declared.Account.{Account}
 use Rattle.account_core.specs.declared.Limit.{Limit}
 use Rattle.account_core.specs.Machine.{Call, reservation, settlement, done, Entry, entry}
@@ -11,6 +10,7 @@ use Rattle.outside.specs.Faults.{Rose}
 use Rattle.doors.specs.Starts.{Stopped}
 use Rattle.doors.specs.Visits.{Told}
 use Rattle.journal_disk.specs.Shutting.{Shut}
+use Rattle.journal_disk.specs.declared.disks.Disks.{Ghosts}
 use Rattle.account_journal.specs.Slots.{bodies}
 use Rattle.account_journal.specs.Histories.{AccountsFollow, HasEntryOrNot, grant_entry, history_in, no_account, no_limit}
 use Rattle.account_journal.specs.Reading.{IsFaultOf, IsIntact}
@@ -24,7 +24,7 @@ use Rattle.gateway_workers.specs.declared.work_done.WorkDone.{WorkDone}
 use Rattle.gateway_workers.specs.Tours.{Run, AreRuns, visits_of, calls_in, replies_in, one_if}
 use Rattle.gateway_serving.specs.declared.asked.Serving.{Serving}
 use Rattle.gateway_serving.specs.Telling.{DoorsTold, StartAndStop, StartNone}
-use Rattle.gateway_journal.specs.Kept.{entries_made, kept_of_calls}
+use Rattle.gateway_journal.specs.Kept.{kept_slots, entries_made, kept_of_calls}
 use Rattle.journal_serving.specs.declared.ending.KeptEnd.{KeptEnd}
 use Rattle.journal_serving.specs.declared.ending.KeptFault.{KeptFault}
 use Rattle.journal_serving.specs.declared.ending.KeptFault.TheVariants.{Disk, OtherClients, Damaged, NotStarted, Memory}
@@ -34,9 +34,9 @@ pub record DisksTold : Type 0 where
   pub last : Option Shut
   pub faults : ℕ
 
--- the same by the members of what opens them
-abbrev pub disks_told : {J : Type 0} → (J → Option Shut) → (J → ℕ) → J → DisksTold
-disks_told last faults disks = record { last = last disks; faults = faults disks }
+-- the same of what opens them
+abbrev pub disks_told : {J D : Type 0} → Ghosts J D → J → DisksTold
+disks_told tell disks = record { last = tell.last disks; faults = tell.faults disks }
 
 -- ---- the accounts
 
@@ -56,7 +56,7 @@ pub record HasAdded (limits : List Limit) (k n : Accounted) (calls : List Client
   pub steps : (client : ℕ) → client < length limits
       → AreSteps (get_or limits client no_limit) (state_after (get_or limits client no_limit) (entries_by client k.history)) (entries_by client (entries_made k.used calls))
   pub history : n.history ≡ k.history ++ kept_of_calls k.used calls
-  pub used : n.used ≡ k.used + numbers_taken (Some 4194304) calls
+  pub used : n.used ≡ k.used + numbers_taken kept_slots calls
   pub opened : ℕ
   pub follows : AccountsFollow limits n.accounts n.used opened n.history
 

@@ -1,5 +1,5 @@
 -- The same by the journals that were handed on. It serves proofs.
-use Rattle.std.specs.Prelude.{◌≡◌, ◌⊎◌, ℕ, ◌<◌, List, [], ◌∷◌, ◌++◌, Option, Some, Result, Ok, Err, IfSome, length, false}
+use Rattle.std.specs.Prelude.{◌≡◌, ℕ, [], ◌∷◌, Result, Ok, Err}
 use Rattle.outside.specs.Faults.{Rose}
 use Rattle.doors.specs.Starts.{DoorMembers, IsNew, Stopped, stopped_by}
 use Rattle.account_journal.specs.declared.journal.Journal.{Journal}
@@ -11,7 +11,7 @@ use Rattle.gateway_serving.specs.Telling.{DoorsTold, StartAndStop, StartNone}
 use Rattle.gateway_journal.specs.DoorRuns.{DiskMembers, ServesDoor, LosesDoor}
 use Rattle.journal_serving.specs.declared.ending.KeptEnd.{KeptEnd}
 use Rattle.journal_serving.specs.declared.ending.KeptFault.{KeptFault}
-use Rattle.journal_serving.specs.declared.ending.KeptFault.TheVariants.{Disk, OtherClients, Damaged, NotStarted, Memory}
+use Rattle.journal_serving.specs.declared.ending.KeptFault.TheVariants.{Disk, NotStarted, Memory}
 
 -- One door was served over a journal to its end, and stopped; these are the accounts and the disk after it.
 pub record WasServed {D J : Type 0} (t : DoorMembers D) (m : DiskMembers J) (gate : Gate) (connections : ℕ) (opened : Journal J) (stopped : Stopped) (disk : J) (end : KeptEnd) : Type 0 where

@@ -2,7 +2,8 @@
 
 ghost use Rattle.std.specs.Prelude.{◌≡◌, ◌≤◌, [], All, IfOk, length, Some, vec_capacity};
 ghost use Rattle.client_files.specs.declared.client.TheConstants.{CLIENT_LIMIT};
-ghost use Rattle.doors.specs.Starts.{IsNew, members};
+ghost use Rattle.doors.specs.Starts.{IsNew};
+ghost use Rattle.gateway_workers.specs.Tours.{door_members};
 ghost use Rattle.gateway_workers.specs.declared.working.TheConstants.{CONNECTION_LIMIT};
 ghost use Rattle.gateway_serving.specs.Telling.{doors_told, asked_of};
 ghost use Rattle.gateway_connections.specs.Exchanges.{telling};
@@ -56,7 +57,7 @@ fn serve_started<D: Doors, J: Disk + Drop, R: Wait>(
     requires idle { journal.opened ≡ 0 }
     requires one { length started.items ≡ 1 }
     requires running { D.running doors.old ≡ 1 }
-    requires new { All (IsNew (members D.D.out D.D.to_come D.D.faults D.D.visits) serving.now.connections) started.items }
+    requires new { All (IsNew (door_members D.D.Door) serving.now.connections) started.items }
     requires asked { D.asked doors.old ≡ Some (asked_of serving.now) }
     requires connections { serving.now.connections ≤ CONNECTION_LIMIT }
     requires none { accounts.items ≡ [] }
@@ -64,8 +65,8 @@ fn serve_started<D: Doors, J: Disk + Drop, R: Wait>(
     ensures idle { D.running doors.new ≡ 0 }
     ensures settled { IfOk result.1 (λ end. All IsSettledWithin end.accounts.items) }
     ensures carried { IfOk result.1 (λ end. All IsCarriedWithin end.accounts.items) }
-    ensures ended { EndsOver (members D.D.out D.D.to_come D.D.faults D.D.visits) (disk_members J.reads J.image J.faults J.moment J.image_since) (telling D.D.W.log D.D.W.dial_faults D.D.W.faults) gate.now serving.now journal
-        (doors_told D.faults D.asked D.running D.stopped doors.old) (doors_told D.faults D.asked D.running D.stopped doors.new) result.0 result.1 }
+    ensures ended { EndsOver (door_members D.D.Door) (disk_members J.Disk) (telling D.D.W.Wire) gate.now serving.now journal
+        (doors_told D.Doors doors.old) (doors_told D.Doors doors.new) result.0 result.1 }
 {
     let door = started.remove(0);
     let (back, door, done) = serve_door(gate, alloc, rt, journal, door, serving.connections);
@@ -97,8 +98,8 @@ fn serve_opened<D: Doors, J: Disk + Drop, R: Wait>(
     ensures idle { D.running doors.new ≡ 0 }
     ensures settled { IfOk result.1 (λ end. All IsSettledWithin end.accounts.items) }
     ensures carried { IfOk result.1 (λ end. All IsCarriedWithin end.accounts.items) }
-    ensures kept { WasKept (members D.D.out D.D.to_come D.D.faults D.D.visits) (disk_members J.reads J.image J.faults J.moment J.image_since) (telling D.D.W.log D.D.W.dial_faults D.D.W.faults) gate.now serving.now journal
-        (doors_told D.faults D.asked D.running D.stopped doors.old) (doors_told D.faults D.asked D.running D.stopped doors.new) result.0 result.1 }
+    ensures kept { WasKept (door_members D.D.Door) (disk_members J.Disk) (telling D.D.W.Wire) gate.now serving.now journal
+        (doors_told D.Doors doors.old) (doors_told D.Doors doors.new) result.0 result.1 }
 {
     let Ok(accounts) = Vec::with_capacity(alloc, journal.clients()) else {
         return (journal.close(), Err(KeptFault::Memory));
@@ -157,8 +158,8 @@ pub fn serve_journal<D: Doors, J: Disks, R: Wait>(
     ensures settled { IfOk result (λ end. All IsSettledWithin end.accounts.items) }
     ensures carried { IfOk result (λ end. All IsCarriedWithin end.accounts.items) }
     ensures came_to { ComesTo (service_kept gate.now) (limits_of gate.now) serving.now mark (J.holds disks.old name.now)
-        (disks_told J.last J.faults disks.old) (disks_told J.last J.faults disks.new)
-        (doors_told D.faults D.asked D.running D.stopped doors.old) (doors_told D.faults D.asked D.running D.stopped doors.new) result }
+        (disks_told J.Disks disks.old) (disks_told J.Disks disks.new)
+        (doors_told D.Doors doors.old) (doors_told D.Doors doors.new) result }
 {
     let Ok(disk) = disks.open(alloc, name) else {
         return Err(KeptFault::Disk);

@@ -4,7 +4,7 @@ use Rattle.std.proofs.Common.{◌≡◌, ℕ, ◌<◌, List, [], ◌∷◌, refl
 use Rattle.account_core.specs.declared.Limit.{Limit}
 use Rattle.account_core.specs.Sums.{open_grants}
 use Rattle.account_cells.specs.Views.{View, no_view, first_view}
-use Rattle.account_shared.specs.Views.{PassesView, IsIdle, client_at}
+use Rattle.account_shared.specs.Views.{PassesView, IsIdle}
 use Rattle.gateway_workers.specs.Tours.{Tour}
 use Rattle.gateway_workers.specs.Joins.{JoinTours}
 

@@ -1,5 +1,5 @@
 -- A line more was written; and all are written at the end.
-use Rattle.std.proofs.Common.{◌≡◌, ◌<◌, ◌++◌, ◌∙◌, length, get_or, ap, string_bytes, arith}
+use Rattle.std.proofs.Common.{◌<◌, ◌++◌, ◌∙◌, length, get_or, ap, string_bytes, arith}
 use Rattle.std.proofs.lemmas.List.{get_or_default}
 use Rattle.account_core.specs.declared.Account.{Account}
 use Rattle.account_core.specs.Costs.{nothing}

@@ -1,5 +1,5 @@
 -- What is written is read as what it was written for.
-use Rattle.account_commands.proofs.Migrations.{ReadsWhatIsWritten, same_file, same_output}
+use Rattle.account_commands.proofs.Migrations.{same_file, same_output}
 use Rattle.account_commands.proofs.migrate_laws.migrating_twice_is_migrating_once.Goals as goal
 
 pub returns-clause-same_file : goal.returns-clause-same_file

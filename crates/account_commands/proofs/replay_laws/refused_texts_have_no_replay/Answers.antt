@@ -1,5 +1,5 @@
 -- By what each text is, and by its faults.
-use Rattle.account_commands.proofs.OneReplay.{OneReading, not_both, one_refusal}
+use Rattle.account_commands.proofs.OneReplay.{not_both, one_refusal}
 use Rattle.account_commands.proofs.replay_laws.refused_texts_have_no_replay.Goals as goal
 
 pub returns-clause-not_both : goal.returns-clause-not_both

@@ -1,5 +1,5 @@
 -- By what each text is, and by its faults.
-use Rattle.account_commands.proofs.OneRules.{OneRules, held_or_refused, one_rules}
+use Rattle.account_commands.proofs.OneRules.{held_or_refused, one_rules}
 use Rattle.account_commands.proofs.rule_laws.refused_texts_hold_no_rules.Goals as goal
 
 pub returns-clause-not_both : goal.returns-clause-not_both

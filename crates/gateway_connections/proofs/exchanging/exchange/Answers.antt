@@ -1,9 +1,9 @@
 use Rattle.std.proofs.Common.{◌≡◌, ◌∷◌, [], inl, inr, refl, subst, arith, Some, None}
 use Rattle.account_core.specs.Machine.{reservation, granted}
-use Rattle.account_shared.specs.Gains.{ClientCall, client_call}
+use Rattle.account_shared.specs.Gains.{client_call}
 use Rattle.outside.proofs.Dialling.{logged_none}
 use Rattle.outside.proofs.Rises.{rose_by_none}
-use Rattle.gateway_core.specs.declared.beginning.Begun.TheVariants.{Granted, Answered, Denied}
+use Rattle.gateway_core.specs.declared.beginning.Begun.TheVariants.{Denied}
 use Rattle.gateway_core.specs.Rules.{window_of}
 use Rattle.gateway_core.specs.Gates.{rules_of}
 use Rattle.gateway_core.specs.Numbers.{IsFullAt}
@@ -15,7 +15,7 @@ use Rattle.gateway_core.proofs.LostAccounts.{on_err, rose_since}
 use Rattle.upstream_link.specs.Exchanges.{CameTo}
 use Rattle.upstream_link.specs.RequestBytes.{request_bytes}
 use Rattle.gateway_connections.specs.Replies.{IsDenialReply}
-use Rattle.gateway_connections.specs.Exchanges.{Exchange, LosesForwarded, LosesExchange, outcome_of, service_in, hint_of, telling}
+use Rattle.gateway_connections.specs.Exchanges.{LosesForwarded, LosesExchange, outcome_of, service_in, hint_of, telling}
 use Rattle.gateway_connections.proofs.OneExchange.{tells_full, exchange_settled, few_more}
 use Rattle.gateway_connections.proofs.exchanging.exchange.Goals as goal
 
@@ -187,7 +187,7 @@ returns-in_err-begun-clause-lost g c =
     let new = c.begin_in.new.ledger in
     let rules = rules_of c.args.gate.now in
     let wire = c.args.wire.now in
-    let lost : LosesExchange (service_in g.L.Ledger.slots c.args.gate.now) (telling g.W.Wire.log g.W.Wire.dial_faults g.W.Wire.faults) c.args.ask.now c.args.moment (g.L.Ledger.made book) (g.L.Ledger.gains book)
+    let lost : LosesExchange (service_in g.L.Ledger.slots c.args.gate.now) (telling g.W.Wire) c.args.ask.now c.args.moment (g.L.Ledger.made book) (g.L.Ledger.gains book)
     (λ before. g.L.Ledger.loses before new) wire wire =
     inl (
       subst (λ key. LosesBegun rules key c.args.ask.now.body.items c.args.moment (g.L.Ledger.made book) (g.L.Ledger.gains book) (λ before. g.L.Ledger.loses before new)) c.as_str.ensures
@@ -204,7 +204,7 @@ returns-in_err-forward-in-Granted-clause-lost g c =
     let rules = rules_of c.args.gate.now in
     let grant = c.in-Granted.grant in
     let s = service_in g.L.Ledger.slots c.args.gate.now in
-    let tells = telling g.W.Wire.log g.W.Wire.dial_faults g.W.Wire.faults in
+    let tells = telling g.W.Wire in
     let begun = subst (Begins rules (g.L.Ledger.made book) (g.L.Ledger.gains book middle) c.as_str.result.now c.deref.result.now c.args.moment) c.in-Granted.is c.in_ok-begun.ensures.begun in
     let lost : LosesExchange s tells c.args.ask.now c.args.moment (g.L.Ledger.made book) (g.L.Ledger.gains book) (λ before. g.L.Ledger.loses before new) c.args.wire.now c.forward.new.wire =
     inr (

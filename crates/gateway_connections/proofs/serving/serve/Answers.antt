@@ -68,7 +68,7 @@ returns-in-Err-clause-lost g c =
       wire = c.turns.conn.wire;
       logs = refl;
       goes_on = i.2;
-      lost = at_some c.turns.front i.0 (λ kept. LosesTurn s kept (λ ask moment. LosesExchange s (telling g.W.Wire.log g.W.Wire.dial_faults g.W.Wire.faults) ask moment (g.L.Ledger.made so_far) (g.L.Ledger.gains so_far)
+      lost = at_some c.turns.front i.0 (λ kept. LosesTurn s kept (λ ask moment. LosesExchange s (telling g.W.Wire) ask moment (g.L.Ledger.made so_far) (g.L.Ledger.gains so_far)
           (λ b. g.L.Ledger.loses b new) c.turns.conn.wire c.turn.new.conn.wire) before now) i.1 c.in-Err.ensures.lost;
     }
 

@@ -58,7 +58,7 @@ returns-in_err-reply-clause-lost g c =
     let given : Told = record { left = g.S.Source.left c.args.conn.now.source; written = g.K.Sink.written c.args.conn.now.sink; readings = g.C.Clock.readings c.args.conn.now.clock; log = g.W.Wire.log c.args.conn.now.wire; read_faults = g.S.Source.faults c.args.conn.now.source; write_faults = g.K.Sink.faults c.args.conn.now.sink; dial_faults = g.W.Wire.dial_faults c.args.conn.now.wire; transfer_faults = g.W.Wire.faults c.args.conn.now.wire } in
     let back : Told = record { left = g.S.Source.left c.next.new.from; written = g.K.Sink.written c.args.conn.now.sink; readings = g.C.Clock.readings c.seconds-moment.new.self; log = g.W.Wire.log c.exchange.new.wire; read_faults = g.S.Source.faults c.next.new.from; write_faults = g.K.Sink.faults c.args.conn.now.sink; dial_faults = g.W.Wire.dial_faults c.exchange.new.wire; transfer_faults = g.W.Wire.faults c.exchange.new.wire } in
     on_err c.from_residual.result _
-    (some_then c.args.front.now _ (λ kept. LosesTurn s kept (λ ask moment. LosesExchange s (telling g.W.Wire.log g.W.Wire.dial_faults g.W.Wire.faults) ask moment (g.L.Ledger.made book) (g.L.Ledger.gains book)
+    (some_then c.args.front.now _ (λ kept. LosesTurn s kept (λ ask moment. LosesExchange s (telling g.W.Wire) ask moment (g.L.Ledger.made book) (g.L.Ledger.gains book)
     (λ before. g.L.Ledger.loses before c.exchange.new.ledger) c.args.conn.now.wire c.exchange.new.wire) given back) (λ kept t. record {
       bytes = t.bytes;
       took = t.took;

@@ -1,5 +1,4 @@
 -- The limits are those of the gate's clients.
-use Rattle.std.proofs.Common.{All}
 use Rattle.std.proofs.lemmas.List.Elements.{All-get_or}
 use Rattle.account_core.specs.Numbers.{FitsCap}
 use Rattle.account_journal.specs.Histories.{no_limit}

@@ -1,5 +1,5 @@
 -- The journal was opened for the clients of the files, and the gate is one of the files.
-use Rattle.std.proofs.Common.{inr, ap, ◌∙◌, subst, map, Some, List}
+use Rattle.std.proofs.Common.{inr, ap, ◌∙◌, subst, map, List}
 use Rattle.sha2.specs.Sha256.{sha256}
 use Rattle.client_files.specs.declared.client.Client.{Client}
 use Rattle.client_files.specs.Written.{client_file}
@@ -7,6 +7,7 @@ use Rattle.gateway_core.specs.Rules.{client_limit}
 use Rattle.gateway_core.specs.Gates.{limits_of}
 use Rattle.gateway_serving.specs.Decisions.{Rules}
 use Rattle.gateway_serving.specs.Telling.{doors_told}
+use Rattle.gateway_journal.specs.Kept.{kept_slots}
 use Rattle.gateway_journal.specs.Served.{service_kept}
 use Rattle.journal_serving.specs.Keeping.{disks_told}
 use Rattle.gateway_run.specs.Serve.{kept_service_by, IsKeptTold}
@@ -28,9 +29,9 @@ returns g c =
       c.serving_of-serving.ensures,
       came_alike (service_kept gate) (kept_service_by asked inputs) (limits_of gate) (map client_limit clients.clients.items) c.in-Ok.mark (sha256 (client_file clients.window_seconds clients.clients.items))
           c.as_str-journal.result.now c.args.name.now (g.J.Disks.holds c.args.disks.now) serving
-          (disks_told g.J.Disks.last g.J.Disks.faults c.args.disks.now) (disks_told g.J.Disks.last g.J.Disks.faults c.serve_journal-came_to.new.disks)
-          (doors_told g.D.Doors.faults g.D.Doors.asked g.D.Doors.running g.D.Doors.stopped c.args.doors.now) (doors_told g.D.Doors.faults g.D.Doors.asked g.D.Doors.running g.D.Doors.stopped c.serve_journal-came_to.new.doors) came_to
-          (same_service (Some 4194304) gate asked inputs c.in-Ok-settings_of.settings rules c.in-Ok-made.ensures.settings c.in-Ok-settings_of.ensures.host c.in-Ok-settings_of.ensures.target c.in-Ok-settings_of.ensures.passed
+          (disks_told g.J.Disks c.args.disks.now) (disks_told g.J.Disks c.serve_journal-came_to.new.disks)
+          (doors_told g.D.Doors c.args.doors.now) (doors_told g.D.Doors c.serve_journal-came_to.new.doors) came_to
+          (same_service kept_slots gate asked inputs c.in-Ok-settings_of.settings rules c.in-Ok-made.ensures.settings c.in-Ok-settings_of.ensures.host c.in-Ok-settings_of.ensures.target c.in-Ok-settings_of.ensures.passed
           c.in-Ok-settings_of.ensures.hints) (same_limits gate inputs rules) c.in-Ok.ensures c.as_str-journal.ensures c.serve_journal-came_to.ensures.came_to,
       subst (λ (listed : List Client). IsKeptTold listed came_to c.kept_told.result) (c.clients.ensures ∙ ap (λ (r : Rules). r.clients) rules) c.kept_told.ensures,
     )

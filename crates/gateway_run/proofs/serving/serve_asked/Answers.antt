@@ -14,11 +14,11 @@ told-requires g c = record { few = few_clients c.args.asked.now c.args.inputs _ 
 pub returns-in-None : goal.returns-in-None
 returns-in-None g c =
     subst (λ journal. ServesOver journal c.args.asked.now c.args.inputs
-    (outside_call (doors_call g.D.Doors.faults g.D.Doors.asked g.D.Doors.running g.D.Doors.stopped c.args.doors.now c.serve_by.new.doors) (disks_call g.J.Disks.holds g.J.Disks.last g.J.Disks.faults c.args.disks.now c.args.disks.now)) c.told.result)
+    (outside_call (doors_call g.D.Doors c.args.doors.now c.serve_by.new.doors) (disks_call g.J.Disks c.args.disks.now c.args.disks.now)) c.told.result)
     (sym c.in-None.is) ((c.serve_by.result, c.serve_by.ensures, c.told.ensures), refl)
 
 pub returns-in-Some : goal.returns-in-Some
 returns-in-Some g c =
     subst (λ journal. ServesOver journal c.args.asked.now c.args.inputs
-    (outside_call (doors_call g.D.Doors.faults g.D.Doors.asked g.D.Doors.running g.D.Doors.stopped c.args.doors.now c.keep_by.new.doors) (disks_call g.J.Disks.holds g.J.Disks.last g.J.Disks.faults c.args.disks.now c.keep_by.new.disks)) c.keep_by.result)
+    (outside_call (doors_call g.D.Doors c.args.doors.now c.keep_by.new.doors) (disks_call g.J.Disks c.args.disks.now c.keep_by.new.disks)) c.keep_by.result)
     (sym c.in-Some.is) c.keep_by.ensures

@@ -16,8 +16,8 @@ returns g c =
     let serving = c.serving_of-serving.result in (
       serving,
       c.serving_of-serving.ensures,
-      subst (λ s. ComesTo s serving (doors_told g.D.Doors.faults g.D.Doors.asked g.D.Doors.running g.D.Doors.stopped c.args.doors.now)
-          (doors_told g.D.Doors.faults g.D.Doors.asked g.D.Doors.running g.D.Doors.stopped c.serve.new.doors) c.serve.result)
+      subst (λ s. ComesTo s serving (doors_told g.D.Doors c.args.doors.now)
+          (doors_told g.D.Doors c.serve.new.doors) c.serve.result)
           (same_service None c.in-Ok-made.gate c.args.asked.now c.args.inputs c.in-Ok.settings c.in-Ok-made.ensures.rules c.in-Ok-made.ensures.settings c.in-Ok.ensures.host c.in-Ok.ensures.target c.in-Ok.ensures.passed c.in-Ok.ensures.hints)
           c.serve.ensures.came_to,
     )

@@ -1,8 +1,8 @@
 use Rattle.std.proofs.Common.{◌∙◌, map, sym}
 use Rattle.std.proofs.lemmas.List.Elements.{All-get_or}
 use Rattle.doors.specs.Starts.{IsNew, stopped_by}
+use Rattle.gateway_workers.specs.Tours.{door_members}
 use Rattle.gateway_workers.specs.Decisions.{rules_of, service_of}
-use Rattle.doors.specs.Starts.{members}
 use Rattle.gateway_serving.proofs.DoorsBack.{as_many}
 use Rattle.gateway_serving.proofs.ClientAccounts.{is_idle}
 use Rattle.gateway_serving.proofs.AllServed.{ends_serving, start_and_stop, was_unserved}
@@ -10,12 +10,12 @@ use Rattle.gateway_serving.proofs.serving.serve_started.Goals as goal
 
 pub serve_workers-requires-clause-free : goal.serve_workers-requires-clause-free
 serve_workers-requires-clause-free g c κs within k d below =
-    let t = members g.D.D.Door.out g.D.D.Door.to_come g.D.D.Door.faults g.D.D.Door.visits in
+    let t = door_members g.D.D.Door in
     (All-get_or (IsNew t c.args.serving.now.connections) c.args.started.items k d below c.requires.new).free
 
 pub stop-requires : goal.stop-requires
 stop-requires g c =
-    let t = members g.D.D.Door.out g.D.D.Door.to_come g.D.D.Door.faults g.D.D.Door.visits in
+    let t = door_members g.D.D.Door in
     let served = c.in-Ok.ensures.served in
     let many = as_many t (service_of c.args.gate) c.args.serving.now.connections c.args.started.items c.in-Ok.back.items served.tours served.are_tours in
     record { running = c.requires.running ∙ (sym c.requires.count ∙ sym many.0) }
@@ -28,7 +28,7 @@ close-totals-requires-clause-idle g c =
 
 pub returns-in-Ok-clause-served : goal.returns-in-Ok-clause-served
 returns-in-Ok-clause-served g c =
-    let t = members g.D.D.Door.out g.D.D.Door.to_come g.D.D.Door.faults g.D.D.Door.visits in
+    let t = door_members g.D.D.Door in
     let served = c.in-Ok.ensures.served in (
       map (stopped_by t c.args.serving.now.connections) c.in-Ok.back.items,
       start_and_stop t c.args.serving.now _ _ c.in-Ok.back.items c.requires.asked c.stop.ensures.asked c.stop.ensures.idle c.stop.ensures.stopped,
@@ -40,6 +40,6 @@ returns-in-Ok-clause-served g c =
 
 pub returns-in-Err-clause-memory : goal.returns-in-Err-clause-memory
 returns-in-Err-clause-memory g c =
-    let t = members g.D.D.Door.out g.D.D.Door.to_come g.D.D.Door.faults g.D.D.Door.visits in
+    let t = door_members g.D.D.Door in
     was_unserved t c.args.serving.now _ _ c.args.started.items c.in-Err.back.items c.requires.count c.requires.new c.in-Err.ensures.memory.same
     (start_and_stop t c.args.serving.now _ _ c.in-Err.back.items c.requires.asked c.stop-in-Err.ensures.asked c.stop-in-Err.ensures.idle c.stop-in-Err.ensures.stopped)

@@ -1,7 +1,6 @@
-use Rattle.std.proofs.Common.{rules, ◌≡◌, ◌<◌, ◌∷◌, ◌++◌, [], subst, List, ℕ, length, slice_index_or, ap, ◌∙◌}
-use Rattle.std.specs.List.{AllByRecursion}
+use Rattle.std.proofs.Common.{rules, ◌<◌, ◌∷◌, ◌++◌, [], subst, List, ℕ, length, slice_index_or, ap, ◌∙◌}
 use Rattle.account_shared.specs.Views.{PassesView, Label, Belongs, IsIdle}
-use Rattle.gateway_workers.proofs.Lists.{at_place, each_place, all_front, all_last}
+use Rattle.gateway_workers.proofs.Lists.{at_place, each_place, all_front}
 use Rattle.gateway_workers.proofs.Splits.{is_joined, joins_one, joins_none}
 use Rattle.gateway_workers.proofs.joining.join_all.Goals as goal
 

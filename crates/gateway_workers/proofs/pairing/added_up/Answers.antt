@@ -1,4 +1,4 @@
-use Rattle.std.proofs.Common.{◌≡◌, ◌+◌, ◌≤◌, arith, sym, subst, get_or}
+use Rattle.std.proofs.Common.{◌≡◌, ◌≤◌, arith, sym, subst, get_or}
 use Rattle.gateway_workers.specs.declared.worker.Worker.{Worker}
 use Rattle.gateway_workers.proofs.Sums.{connections_step, answers_step, faults_step, sums_end}
 use Rattle.gateway_workers.proofs.pairing.added_up.Goals as goal

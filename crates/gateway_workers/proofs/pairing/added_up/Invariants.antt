@@ -1,4 +1,4 @@
-use Rattle.std.proofs.Common.{◌≡◌, ◌+◌, ◌*◌, ◌≤◌, length}
+use Rattle.std.proofs.Common.{◌≡◌, ◌+◌, ◌*◌, ◌≤◌}
 use Rattle.std.specs.Prelude.{drop}
 use Rattle.gateway_workers.specs.Workers.{connections_in, answers_in, faults_in}
 use Rattle.gateway_workers.proofs.pairing.added_up.Given as goal

@@ -1,8 +1,8 @@
-use Rattle.std.proofs.Common.{◌≡◌, ◌<◌, ◌∙◌, ℕ, List, length, slice_index_or, sym, ap, subst, false}
+use Rattle.std.proofs.Common.{◌<◌, ◌∙◌, ℕ, List, length, slice_index_or, sym, ap, subst}
 use Rattle.std.specs.List.{AllByRecursion}
 use Rattle.account_shared.specs.Views.{PassesView, Belongs, IsIdle}
 use Rattle.gateway_connections.specs.Exchanges.{service_of}
-use Rattle.gateway_workers.specs.Workers.{IsCounted, Waits, passes_of, connections_in, answers_in, faults_in}
+use Rattle.gateway_workers.specs.Workers.{IsCounted, Waits, connections_in, answers_in, faults_in}
 use Rattle.gateway_workers.proofs.Lists.{at_place, each_place}
 use Rattle.gateway_workers.proofs.Splits.{splits_name, splits_fresh}
 use Rattle.gateway_workers.proofs.Returns.{gives_back_at_once, gives_back_still}

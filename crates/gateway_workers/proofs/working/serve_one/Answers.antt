@@ -1,4 +1,4 @@
-use Rattle.std.proofs.Common.{◌≡◌, ◌+◌, ◌∙◌, arith, refl, sym}
+use Rattle.std.proofs.Common.{◌∙◌, arith, refl, sym}
 use Rattle.gateway_connections.specs.Exchanges.{service_of}
 use Rattle.gateway_connections.specs.Connections.{end_number}
 use Rattle.gateway_workers.proofs.Turns.{some_at, none_at, one_visit, did_still, did_one}

@@ -1,5 +1,5 @@
 -- An account more was put.
-use Rattle.std.proofs.Common.{◌≡◌, ◌<◌, ◌++◌, ◌∷◌, [], ◌∙◌, ap, sym, subst, take, length, arith, List, All}
+use Rattle.std.proofs.Common.{◌<◌, ◌++◌, ◌∷◌, [], ◌∙◌, ap, sym, subst, take, length, arith, List, All}
 use Rattle.std.proofs.lemmas.List.{take_more, take_all}
 use Rattle.account_core.specs.declared.Account.{Account}
 use Rattle.account_journal.specs.Histories.{no_account}

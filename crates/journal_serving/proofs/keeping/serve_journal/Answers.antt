@@ -1,12 +1,12 @@
 -- The disk was shut, whatever came of it.
-use Rattle.std.proofs.Common.{inl, inr, refl, ap, ◌∙◌, Some}
+use Rattle.std.proofs.Common.{inl, inr, refl, ap, ◌∙◌}
 use Rattle.std.specs.Prelude.{is_some}
-use Rattle.doors.specs.Starts.{members}
 use Rattle.account_journal.specs.Slots.{bodies}
 use Rattle.account_journal.specs.Reading.{IsFaultOf}
 use Rattle.journal_disk.specs.Shutting.{shut_with}
 use Rattle.gateway_core.specs.Gates.{limits_of}
 use Rattle.gateway_connections.specs.Exchanges.{telling}
+use Rattle.gateway_workers.specs.Tours.{door_members}
 use Rattle.gateway_journal.specs.DoorRuns.{disk_members}
 use Rattle.journal_serving.proofs.Histories.{each_told}
 use Rattle.journal_serving.proofs.Endings.{ends_shut, unopened_failed}
@@ -20,9 +20,9 @@ returns-in-Ok-open_for-clause-came_to g c =
     inr (
       shut_with (g.J.D.Disk.reads disk) (g.J.D.Disk.faults disk),
       c.shut.ensures.last,
-      ends_shut (members g.D.D.Door.out g.D.D.Door.to_come g.D.D.Door.faults g.D.D.Door.visits)
-          (disk_members g.J.D.Disk.reads g.J.D.Disk.image g.J.D.Disk.faults g.J.D.Disk.moment g.J.D.Disk.image_since)
-          (telling g.D.D.W.Wire.log g.D.D.W.Wire.dial_faults g.D.D.W.Wire.faults)
+      ends_shut (door_members g.D.D.Door)
+          (disk_members g.J.D.Disk)
+          (telling g.D.D.W.Wire)
           g.met.J.D.Disk.now_is_since g.met.J.D.Disk.reads_is_image c.args.gate.now c.args.mark held c.in-Ok-open_for.journal
           (record {
             kept = opened.kept;

@@ -1,15 +1,15 @@
 -- The door was started, and what was told of doors before is still so; or none was.
-use Rattle.std.proofs.Common.{refl, ap, Err}
-use Rattle.doors.specs.Starts.{members}
+use Rattle.std.proofs.Common.{ap, Err}
 use Rattle.gateway_connections.specs.Exchanges.{telling}
+use Rattle.gateway_workers.specs.Tours.{door_members}
 use Rattle.gateway_journal.specs.DoorRuns.{disk_members}
 use Rattle.journal_serving.proofs.Endings.{was_kept}
 use Rattle.journal_serving.proofs.keeping.serve_opened.Goals as goal
 
 pub returns-in-Ok-start-clause-kept : goal.returns-in-Ok-start-clause-kept
 returns-in-Ok-start-clause-kept g c =
-    was_kept (members g.D.D.Door.out g.D.D.Door.to_come g.D.D.Door.faults g.D.D.Door.visits) (disk_members g.J.Disk.reads g.J.Disk.image g.J.Disk.faults g.J.Disk.moment g.J.Disk.image_since)
-    (telling g.D.D.W.Wire.log g.D.D.W.Wire.dial_faults g.D.D.W.Wire.faults) c.args.gate.now c.args.serving.now c.args.journal _ _ _ c.serve_started.result.0 c.serve_started.result.1 c.start.ensures.stopped c.serve_started.ensures.ended
+    was_kept (door_members g.D.D.Door) (disk_members g.J.Disk)
+    (telling g.D.D.W.Wire) c.args.gate.now c.args.serving.now c.args.journal _ _ _ c.serve_started.result.0 c.serve_started.result.1 c.start.ensures.stopped c.serve_started.ensures.ended
 
 pub returns-in-Err-Failed-clause-kept : goal.returns-in-Err-Failed-clause-kept
 returns-in-Err-Failed-clause-kept g c =

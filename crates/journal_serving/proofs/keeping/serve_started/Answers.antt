@@ -1,21 +1,22 @@
 -- The one door was new, and is the one that is stopped.
-use Rattle.std.proofs.Common.{◌≡◌, refl, subst, Result, Ok, Err}
+use Rattle.std.proofs.Common.{◌≡◌, refl, subst, Result}
 use Rattle.std.specs.Prelude.{IfOk, IfErr}
-use Rattle.doors.specs.Starts.{members, IsNew, stopped_by}
+use Rattle.doors.specs.Starts.{IsNew, stopped_by}
 use Rattle.account_journal.specs.declared.journal.Journal.{Journal}
 use Rattle.gateway_connections.specs.Exchanges.{telling}
+use Rattle.gateway_workers.specs.Tours.{door_members}
 use Rattle.gateway_journal.specs.DoorRuns.{disk_members, ServesDoor, LosesDoor}
 use Rattle.journal_serving.proofs.Endings.{one_door, stops_one}
 use Rattle.journal_serving.proofs.keeping.serve_started.Goals as goal
 
 pub serve_door-back-requires-clause-free : goal.serve_door-back-requires-clause-free
 serve_door-back-requires-clause-free g c κs within =
-    (one_door (IsNew (members g.D.D.Door.out g.D.D.Door.to_come g.D.D.Door.faults g.D.D.Door.visits) c.args.serving.now.connections) c.args.started.items c.remove-door.result c.requires.one c.remove-door.ensures.value c.requires.new).free
+    (one_door (IsNew (door_members g.D.D.Door) c.args.serving.now.connections) c.args.started.items c.remove-door.result c.requires.one c.remove-door.ensures.value c.requires.new).free
 
 pub returns-in-Ok-clause-ended : goal.returns-in-Ok-clause-ended
 returns-in-Ok-clause-ended g c =
-    let t = members g.D.D.Door.out g.D.D.Door.to_come g.D.D.Door.faults g.D.D.Door.visits in
-    let m = disk_members g.J.Disk.reads g.J.Disk.image g.J.Disk.faults g.J.Disk.moment g.J.Disk.image_since in
+    let t = door_members g.D.D.Door in
+    let m = disk_members g.J.Disk in
     let connections = c.args.serving.now.connections in
     let served = c.serve_door-back.result in
     let door = served.1 in (
@@ -37,9 +38,9 @@ returns-in-Ok-clause-ended g c =
 
 pub returns-in-Err-clause-ended : goal.returns-in-Err-clause-ended
 returns-in-Err-clause-ended g c =
-    let t = members g.D.D.Door.out g.D.D.Door.to_come g.D.D.Door.faults g.D.D.Door.visits in
-    let m = disk_members g.J.Disk.reads g.J.Disk.image g.J.Disk.faults g.J.Disk.moment g.J.Disk.image_since in
-    let tell = telling g.D.D.W.Wire.log g.D.D.W.Wire.dial_faults g.D.D.W.Wire.faults in
+    let t = door_members g.D.D.Door in
+    let m = disk_members g.J.Disk in
+    let tell = telling g.D.D.W.Wire in
     let connections = c.args.serving.now.connections in
     let served = c.serve_door-back.result in
     let door = served.1 in (

@@ -1,4 +1,4 @@
-use Rattle.std.proofs.Common.{◌≡◌, ◌≤◌, ◌<◌, ◌∙◌, length, map, arith}
+use Rattle.std.proofs.Common.{◌≤◌, ◌<◌, ◌∙◌, length, map, arith}
 use Rattle.std.proofs.lemmas.List.{length-map}
 use Rattle.operation_commands.proofs.AuditWalks.{bytes_of, next_in_all, all_in_all, bytes_at_place}
 use Rattle.operation_commands.proofs.auditing.find_in_all.Goals as goal

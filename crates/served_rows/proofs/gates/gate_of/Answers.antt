@@ -1,4 +1,4 @@
-use Rattle.std.proofs.Common.{◌≡◌, sym, ◌∙◌, subst}
+use Rattle.std.proofs.Common.{sym, ◌∙◌, subst}
 use Rattle.account_shared.specs.Views.{Belongs}
 use Rattle.served_rows.proofs.gates.gate_of.Goals as goal
 
