@@ -1,13 +1,13 @@
 """Measures Tellcrock beside others on this machine, and draws the figures of docs/performance.md.
 
-    python3 checks/figures.py [--program FILE] [--quick] [--parts pricing,serving,hostile,memory]
+    python3 checks/figures.py [--program FILE] [--quick] [--parts pricing,serving,hostile,memory] [--together N]
     python3 checks/figures.py --plot-only FILE.json
 
 - pricing: five operations of growing size over a schema of 500 types, from the bytes of the body to the reservation, beside graphql-js and
   gqlparser, which parse and validate the same (Debian's node-graphql, golang-go and golang-github-vektah-gqlparser-dev);
 - serving: requests a second and how long they wait, by `wrk` on 1, 16 and 256 connections with 1, 4 and 16 workers, beside nginx as a proxy
   before the same upstream (Debian's wrk and nginx-light);
-- hostile: processor seconds for documents that are made to be slow, by their length;
+- hostile: processor seconds for documents that are made to be slow, by their length; N of them at a time (one without it);
 - memory: what the gateway holds while 1,000,000 requests are served.
 
 What was measured goes into docs/figures/measures.json, every run of it; the page and the four plots are written from that file, and with --plot-only
@@ -15,7 +15,9 @@ from another such file. With --quick each measure is short, to try the script, a
 figures say little. Only processes that were started here are ended. On a machine that does nothing else it takes a quarter of an hour."""
 
 import argparse
+import functools
 import json
+import multiprocessing
 import os
 import re
 import resource
@@ -36,6 +38,8 @@ SCHEMA = os.path.join(ROOT, "crates", "price_bench", "data", "five_hundred_types
 NODE_PATH, GO_PATH = "/usr/share/nodejs", "/usr/share/gocode"
 CLIENTS = "clients 2\nwindow 86400\nalpha 1000000000 1000000000\n"
 STARTED = []
+# So many families of documents are measured at a time.
+TOGETHER = 1
 
 
 def say(line):
@@ -265,17 +269,24 @@ def serving(program, folder, quick):
 
 # ---- documents made to be slow
 
-def hostile(program, folder, quick):
-    """By family and length: processor seconds, megabytes, and whether the run was stopped; behind a stopped one the next family."""
-    hostile_documents.BOUND, found, own = 10, {}, tempfile.mkdtemp(dir=folder)
-    for name in list(hostile_documents.FAMILIES)[:: 8 if quick else 1]:
+def family(program, quick, name):
+    """Of each length of a family: processor seconds, megabytes, and whether the run was stopped; behind a stopped one none."""
+    hostile_documents.BOUND, found = 10, []
+    with tempfile.TemporaryDirectory() as own:
         for length in (16384, 32768, 65536, 131072, 262144)[: 2 if quick else 5]:
             seconds, megabytes, by_itself = hostile_documents.measured(program, own, name, length)
-            found.setdefault(name, []).append((length, seconds, megabytes, not by_itself))
+            found.append((length, seconds, megabytes, not by_itself))
             if not by_itself:
                 break
-        say(f"hostile {name}: " + ", ".join(f"{it[1]:.2f} s" for it in found[name]))
+    say(f"hostile {name}: " + ", ".join(f"{it[1]:.2f} s" for it in found))
     return found
+
+
+def hostile(program, folder, quick):
+    """What is measured of each family, so many at a time as are wanted."""
+    names = list(hostile_documents.FAMILIES)[:: 8 if quick else 1]
+    with multiprocessing.Pool(TOGETHER) as pool:
+        return dict(zip(names, pool.map(functools.partial(family, program, quick), names, chunksize=1)))
 
 
 # ---- memory
@@ -365,7 +376,7 @@ def measure(given, kept):
                 say(f"{name}: begun at {time.strftime('%H:%M:%S')}, others take {about['busy']:.0%} of the processors")
                 found = PARTS[name](program, folder, given.quick)
                 measures = json.load(open(kept)) if os.path.exists(kept) else {}
-                measures[name] = {"machine": about, "quick": given.quick, "found": found}
+                measures[name] = {"machine": about, "quick": given.quick, "together": TOGETHER, "found": found}
                 with open(kept, "w") as file:
                     json.dump(measures, file, indent=1)
         finally:
@@ -380,8 +391,11 @@ def main():
     words.add_argument("--program", default=os.path.join(ROOT, "release", "tellcrock"))
     words.add_argument("--quick", action="store_true")
     words.add_argument("--parts", type=lambda text: text.split(","), default=list(PARTS))
+    words.add_argument("--together", type=int, default=1)
     words.add_argument("--plot-only", metavar="FILE.json")
     given = words.parse_args()
+    global TOGETHER
+    TOGETHER = given.together
     if not set(given.parts) <= set(PARTS):
         words.error("the parts are " + ", ".join(PARTS))
     lacking = [name for name in ("wrk", "nginx") if {"serving", "memory"} & set(given.parts) and not shutil.which(name)]

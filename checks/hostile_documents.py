@@ -574,11 +574,72 @@ def room_for_kept(length):
     return "query(%s){%s%s}%s" % (heads, twice, filled(rest, key("...F")), fragments)
 
 
+def apart_below_queries(one, other):
+    """The same below the type of queries, where a field gives queries again."""
+    types = ["type T%d implements I & %s { a: Int }" % (i, "J" if i < one else "K") for i in range(one + other)]
+    return "type Query { q: Query n: I } interface I { a: Int } interface J { a: Int } interface K { a: Int } " + " ".join(types)
+
+
+def optional_fields(count):
+    return "type Query { o(i: [I]): Int } input I { %s }" % " ".join("f%d: Int" % i for i in range(count))
+
+
+def sized_names(count):
+    """A field whose size goes to as many fields below it."""
+    names = ["f%d" % i for i in range(count)]
+    return "type Query { o: C @listSize(assumedSize: 2, sizedFields: [%s]) } type C { %s } type N { a: Int }" % (
+        " ".join('"%s"' % it for it in names), " ".join("%s: [N]" % it for it in names))
+
+
+def lists_of_one_call(count):
+    return "type Query { n: N } type N { n: N b(%s): Int }" % " ".join("x%d: [Int]" % i for i in range(count))
+
+
+def lists_again(count):
+    """Doubled places of one call with so many great lists."""
+    def build(length):
+        each = min(19990, (length - 1000) // count // 2)
+        return doubled(13, "a:n{...F%d}b:n{...F%d}", "b(%s)" % " ".join("x%d:[%s]" % (i, "1 " * each) for i in range(count)))(length)
+    return build
+
+
+def places_of_their_own(head, text, variable="$v%d:Int=1 ", call="b(x:$v%d)", first=""):
+    """Keys that each have something of their own beside a fragment of calls, each with a variable of its own."""
+    def build(length):
+        (heads, calls), _ = paired(length // 2, lambda i: (variable % i, call % i))
+        (others, keys), _ = paired(length - len(first) - len(heads) - len(calls) - 40, lambda i: (head % i if head else "", text % (i, i)))
+        return "query(%s%s%s){%s}fragment F on N{%s}" % (first, heads, others, keys, calls)
+    return build
+
+
+def orders_of_their_own(length):
+    """Keys that each have a key of their own below, beside a fragment of calls that are equal and written in orders of their own."""
+    fragment = "fragment F on N{%s}" % filled(length // 2, lambda i: "c:o(i:{%s})" % ",".join("%s:1" % it for it in permutation(i, "abcdefg")))
+    return "{%s}%s" % (filled(length - len(fragment) - 2, lambda i: "k%d:n{x%d:a ...F}" % (i, i)), fragment)
+
+
+def deprecated_values(count):
+    return "type Query { a: Int } enum E { A %s }" % " ".join("V%d @deprecated" % i for i in range(count))
+
+
+def many_fields(types, fields, text=""):
+    """So many types of as many fields, each with a description."""
+    described = '"""%s""" ' % text if text else ""
+    return "type Query { t: T0 } " + " ".join("type T%d { %s }" % (i, " ".join("%sf%d: T%d" % (described, j, (i + j) % types) for j in range(fields))) for i in range(types))
+
+
+def long_string(room):
+    """A variable s that is a long string."""
+    return json.dumps({"s": "x" * (room - 20)}, separators=(",", ":"))
+
+
 INPUTS = "type Query { o(i: I): Int } input I { z: Int i: I l: [I] d: Int = 1 }"
 SCALARS = "type Query { o(x: [S]): Int } scalar S"
 THIRTY = "type Query { n: N o(i: [I]): Int } type N { n: N o(i: [I]): Int } input I { z: Int %s }" % " ".join("f%d: Int = 1" % i for i in range(30))
 SEVEN = "type Query { n: N } type N { n: N o(i: I): Int } input I { %s }" % " ".join("%s: Int" % it for it in "abcdefg")
 LITERALS = "type Query { n: N } type N { b(x: [Int]): Int }"
+LIST_AND_OBJECT = "type Query { n: N } type N { a: Int b(x: [Int]): Int o(i: I): Int } input I { %s %s } input J { a: Int = 1 b: Int = 1 c: Int = 1 d: Int = 1 e: Int = 1 }" % (
+    " ".join("%s: Int" % it for it in "abcdefg"), " ".join("j%d: J = {}" % i for i in range(25)))
 ONE_LIST = "type Query { o(i: [Int]): Int }"
 TWO_LISTS = "type Query { o(i: [Int], j: [Int]): Int }"
 FAMILIES = {
@@ -670,6 +731,21 @@ FAMILIES = {
     "a block string": (SCALARS, lambda n: '{o(x:["""%s"""])}' % filled(n - 40, lambda i: " " * (i % 300) + "x\n")),
     "variables that aren't used": (ONE, lambda n: "query(%s$w:Int){n{b(x:$w)}}" % filled(n - 40, lambda i: "$v%d:Int=1" % i)),
     "room for what is kept": (ONE, room_for_kept),
+    "objects of a great input type": (lambda: optional_fields(20000), lambda n: "{o(i:[%s])}" % ("{}" * ((n - 10) // 2))),
+    "names of sized fields": (lambda: sized_names(49000), lambda n: "{o{%s}}" % filled(n - 4, lambda i: "k%d:f%d{a}" % (i, 48999 - i % 10))),
+    "a call of ten great lists": (lists_of_one_call(10), lists_again(10)),
+    "variables at places of their own": (ONE, places_of_their_own("", "k%d:n{x%d:a ...F}")),
+    "equal calls at places of their own": (ONE, places_of_their_own("$w%d:Int=1 ", "k%d:n{b(x:$w%d)...F}")),
+    "lists by variables at places of their own": (LIST_AND_OBJECT, places_of_their_own("", "k%d:n{x%d:a ...F}", "$v%d:[Int]=[] ", "b(x:$v%d)", "$n:Int=null ")),
+    "objects by variables at places of their own": (LIST_AND_OBJECT, places_of_their_own("", "k%d:n{x%d:a ...F}", "$v%d:I={} ", "o(i:$v%d)")),
+    "calls in orders at places of their own": (LIST_AND_OBJECT, orders_of_their_own),
+    "two interfaces apart, in sets of their own": (two_apart(2450, 2450), lambda n: "{%s}" % filled(n - 2, lambda i: "k%d:n{...on J{...on K{x%d:a}}}" % (i, i))),
+    "sets apart at doubled places": (apart_below_queries(2450, 2450), doubled(12, "a:q{...F%d}b:q{...F%d}", "".join("n{...on J{...on K{x%d:a}}}" % i for i in range(15)), "Query", "q")),
+    "a long string in calls that differ": ("type Query { o(s: String, x: Int): Int }", own_calls("s:$s x:%d", "query($s:String)"), long_string),
+    "a long string in a great list": ("type Query { o(s: [String]): Int }", lambda n: "query($s:String){o(s:[%s])}" % ("$s " * min(19990, (n - 40) // 3)), long_string),
+    "deprecated values of the schema": (lambda: deprecated_values(20000), lambda n: '{__type(name:"E"){%s}}' % filled(n - 22, lambda i: "k%d:enumValues{name}" % i)),
+    "a long key at all fields of the schema": (many_fields(200, 20), lambda n: "{__schema{types{fields{%s:name}}}}" % ("x" * (n - 37))),
+    "descriptions of the schema": (lambda: many_fields(200, 20, "Lorem ipsum dolor sit amet " * 4), lambda n: "{__schema{types{fields{%s}}}}" % filled(n - 28, lambda i: "k%d:description " % i)),
 }
 
 
@@ -708,7 +784,7 @@ def priced(program, folder, schema, document, variables):
         ran.returncode = status
         told.seek(0)
         line = told.read().decode(errors="replace").strip()
-    if os.WIFEXITED(status) and line and not line.startswith("plan 5 TooLarge"):
+    if os.WIFEXITED(status) and line and not re.fullmatch(r"(plan 5|local 5|local 4 Plan 5) TooLarge", line):
         sys.exit("a document is refused for what it isn't made for: " + line)
     return used.ru_utime + used.ru_stime, used.ru_maxrss / 1024, os.WIFEXITED(status)
 

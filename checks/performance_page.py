@@ -87,6 +87,11 @@ def hostile_plot(found):
                 Scale("processor seconds (open: stopped after 10)", powers([y for line in lines for _, y in line.points]), True), lines)
 
 
+def together(part):
+    many = part.get("together", 1)
+    return f"; {many} families were measured at a time" if many > 1 else ""
+
+
 def hostile_page(found):
     lengths = [it[0] for it in max(found.values(), key=len)]
     ordered = slowest(found)
@@ -112,13 +117,14 @@ def memory_page(found):
 # ---- the whole
 
 def about(part):
+    """With which program a part was measured, and where: parts may be measured apart from each other."""
     it = part["machine"]
-    return (f"{it['count']} processors ({it['processor']}), {it['memory']:.0f} GB of memory, {it['kernel']}; {it['day']}; other programs took {it['busy']:.0%} of the processors when this part began, and the load was {it['load']:.1f}"
+    return (f"with Tellcrock's {it['versions']['Tellcrock']} on {it['count']} processors ({it['processor']}), {it['memory']:.0f} GB of memory, {it['kernel']}; {it['day']}; other programs took {it['busy']:.0%} of the processors when this part began, and the load was {it['load']:.1f}"
             + ("; a short trial, whose figures say little" if part["quick"] else ""))
 
 
 def compared(part):
-    return "; ".join(f"{name} ({it})" for name, it in part["machine"]["versions"].items())
+    return "; ".join(f"{name} ({it})" for name, it in part["machine"]["versions"].items() if name != "Tellcrock")
 
 
 PAGE = """# Performance
@@ -126,14 +132,14 @@ PAGE = """# Performance
 Written by `checks/figures.py`, which measures all of it anew where it is run; every single run is in [figures/measures.json](figures/measures.json). Nothing on this page is
 proved, and another machine gives other figures.
 
-- Compared: {compared}.
-- Each part says on what machine it was measured. What is compared ran by turns, at the same priority, on the same processors.
+- Compared with: {compared}.
+- Each part says with which program, named by the beginning of its sum, on what machine and on which day it was measured. What is compared ran by turns, at the same priority, on the same processors.
 
 ## Pricing an operation
 
 ![Processor microseconds for an operation by its length](figures/pricing.svg)
 
-Measured on {about_pricing}.
+Measured {about_pricing}.
 
 - **Tellcrock** goes from the bytes of the request's body to the reservation in the client's account: it parses the operation, validates it, plans it, works out its bound and reserves it.
   What is told is a `replay` that begins many requests, less one that begins one, for each; reading the line of its script and writing that of its answer are in it.
@@ -156,7 +162,7 @@ And cold: processor milliseconds of a whole process that starts, reads the schem
 
 ![Requests a second by connections, Tellcrock and nginx](figures/serving.svg)
 
-Measured on {about_serving}.
+Measured {about_serving}.
 
 - The load is `wrk` with two threads (one for one connection), over loopback, for two seconds a run, the middle of five runs by turns. The request asks for `{{ user {{ id }} }}`; the upstream is an nginx of four
   processes that answers each request with the same 30 bytes. The load, the upstream and who serves share the processors.
@@ -173,9 +179,9 @@ Measured on {about_serving}.
 
 ![Processor seconds by length, of the slowest families](figures/hostile.svg)
 
-Measured on {about_hostile}.
+Measured {about_hostile}.
 
-`checks/hostile_documents.py` makes {families} families of documents that cost much for their length, up to the longest body that the gateway takes, 262,144 bytes. Told are processor seconds of `price`, of one run, less those of a document that costs nothing by the same schema. A run is stopped
+`checks/hostile_documents.py` makes {families} families of documents that cost much for their length, up to the longest body that the gateway takes, 262,144 bytes. Told are processor seconds of `price`, of one run, less those of a document that costs nothing by the same schema{together}. A run is stopped
 after 10 seconds, and where one was stopped no longer one was tried; in the plot an open mark is such a run. Lines at 0.01 seconds are at or below it. Limits for those who run a gateway are in [operating.md](operating.md#behind-a-proxy).
 
 {hostile}
@@ -186,7 +192,7 @@ after 10 seconds, and where one was stopped no longer one was tried; in the plot
 
 ![Megabytes held by requests served](figures/memory.svg)
 
-Measured on {about_memory}. The load and the upstream are those of the serving above; told is what the process has in memory (its resident set).
+Measured {about_memory}. The load and the upstream are those of the serving above; told is what the process has in memory (its resident set).
 
 {memory}
 """
@@ -202,6 +208,8 @@ def write(measures, docs):
         with open(os.path.join(docs, "figures", name + ".svg"), "w") as file:
             file.write(draw(part["found"]))
         words.update(tell(part["found"]), **{"about_" + name: about(part)})
+        if name == "hostile":
+            words["together"] = together(part)
     if set(PARTS) <= set(measures):
         with open(os.path.join(docs, "performance.md"), "w") as file:
             file.write(PAGE.format(compared=compared(measures["serving"]), **words))

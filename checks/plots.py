@@ -2,8 +2,9 @@
 import dataclasses
 import math
 
-WIDTH, HEIGHT = 760, 420
-LEFT, RIGHT, TOP, BOTTOM = 84, 236, 48, 60
+HEIGHT = 420
+# Where the axes end on each side; the legend stands to the right of them.
+LEFT, RIGHT, TOP, BOTTOM = 84, 524, 48, 60
 LIGHT = {"text": "#1f2328", "axis": "#57606a", "grid": "#d8dee4", "page": "#ffffff", "faint": "#b3bac2"}
 DARK = {"text": "#e6edf3", "axis": "#8b949e", "grid": "#30363d", "page": "#0d1117", "faint": "#555d66"}
 COLOURS = [("#0969da", "#58a6ff"), ("#bc4c00", "#f0883e"), ("#1a7f37", "#3fb950"), ("#8250df", "#bc8cff"), ("#a40e5c", "#f778ba"), ("#7d5c00", "#d4a72c")]
@@ -93,7 +94,7 @@ def plain(value):
 
 def frame(across, up, x_of, y_of):
     """The axes with their ticks and what they say."""
-    bottom, right = HEIGHT - BOTTOM, WIDTH - RIGHT
+    bottom, right = HEIGHT - BOTTOM, RIGHT
     grid, axis = f'class="grid" stroke="{LIGHT["grid"]}"', f'class="axis" stroke="{LIGHT["axis"]}"'
     for value in across.ticks:
         yield f'<path {grid} d="M{x_of(value):.1f} {TOP}V{bottom}"/>' + text(x_of(value), bottom + 18, plain(value), "middle")
@@ -116,7 +117,7 @@ def drawing(line, x_of, y_of):
 def legend(lines):
     """The names of all lines that have a colour, with their marks."""
     for n, line in enumerate(it for it in lines if it.name):
-        x, y = WIDTH - RIGHT + 16, TOP + 10 + 22 * n
+        x, y = RIGHT + 16, TOP + 10 + 22 * n
         dash = ' stroke-dasharray="6 4"' if line.dashed else ""
         yield f'<path {drawn("line", line.colour)} stroke-width="2"{dash} d="M{x} {y}h26"/>' + mark(line.colour, x + 13, y) + text(x + 34, y + 4, line.name)
 
@@ -124,13 +125,14 @@ def legend(lines):
 def plot(title, across, up, lines):
     """The text of a plot. Lines without a name aren't in the legend."""
     def x_of(value):
-        return LEFT + across.part(value) * (WIDTH - RIGHT - LEFT)
+        return LEFT + across.part(value) * (RIGHT - LEFT)
 
     def y_of(value):
         return HEIGHT - BOTTOM - up.part(value) * (HEIGHT - BOTTOM - TOP)
 
-    parts = [f'<svg xmlns="http://www.w3.org/2000/svg" width="{WIDTH}" height="{HEIGHT}" viewBox="0 0 {WIDTH} {HEIGHT}" role="img">', f"<title>{title}</title>", styles(),
-             f'<rect class="page" fill="{LIGHT["page"]}" width="{WIDTH}" height="{HEIGHT}"/>', text(LEFT, 26, title, size=15, more=' font-weight="bold"'), *frame(across, up, x_of, y_of)]
+    width = RIGHT + max(236, 58 + 7 * max(len(line.name) for line in lines))
+    parts = [f'<svg xmlns="http://www.w3.org/2000/svg" width="{width}" height="{HEIGHT}" viewBox="0 0 {width} {HEIGHT}" role="img">', f"<title>{title}</title>", styles(),
+             f'<rect class="page" fill="{LIGHT["page"]}" width="{width}" height="{HEIGHT}"/>', text(LEFT, 26, title, size=15, more=' font-weight="bold"'), *frame(across, up, x_of, y_of)]
     for line in lines:
         parts += drawing(line, x_of, y_of)
     return "\n".join([*parts, *legend(lines), "</svg>"]) + "\n"
