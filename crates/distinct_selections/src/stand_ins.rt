@@ -15,6 +15,9 @@ use variable_coercion::Variables;
 /// No variable stands in for one whose value has more nodes: values are compared at each place where a variable is written.
 const MANY: usize = 128;
 
+/// So many different values of one hash are told apart.
+const TURNS: u64 = 8;
+
 /// The values of an operation's variables, and for some variables another one that has the same value.
 #[derive(Drop)]
 pub struct StandIns<'a> {
@@ -23,18 +26,28 @@ pub struct StandIns<'a> {
     others: BTreeMap<&'a str, &'a str>,
 }
 
-/// Adds a value to a hash, where so many nodes are left, and gives how many are left then.
+/// Adds a text of some kind to a hash.
+fn hash_text(kind: usize, text: &str, hasher: &mut FoldHasher) {
+    hasher.write_usize(kind);
+    hasher.write_usize(text.len());
+    hasher.write(text.as_bytes());
+}
+
+/// Adds a value to a hash, where so many nodes are left, and gives how many are left then. Each kind of values has a number of its own.
 #[cycle(hash)]
 fn hash_value(value: &Coerced, left: usize, hasher: &mut FoldHasher) -> usize {
     if left == 0 {
         return 0;
     }
     match value {
-        Coerced::Null => hasher.write_usize(0),
-        Coerced::Int(number) => hasher.write_i128(*number),
-        Coerced::Str(text) => hasher.write(text.as_str().as_bytes()),
-        Coerced::Bool(truth) => hasher.write_usize(if *truth { 1 } else { 2 }),
-        Coerced::EnumName(name) => hasher.write(name.as_str().as_bytes()),
+        Coerced::Null => hasher.write_usize(1),
+        Coerced::Int(number) => {
+            hasher.write_usize(2);
+            hasher.write_i128(*number);
+        }
+        Coerced::Str(text) => hash_text(3, text.as_str(), hasher),
+        Coerced::Bool(truth) => hasher.write_usize(if *truth { 4 } else { 5 }),
+        Coerced::EnumName(name) => hash_text(6, name.as_str(), hasher),
         Coerced::List(items) => return hash_items(items.as_slice(), left - 1, hasher),
         Coerced::Object(fields) => return hash_fields(fields.as_slice(), left - 1, hasher),
         Coerced::Shared(held) => return hash_value(held, left, hasher),
@@ -44,6 +57,7 @@ fn hash_value(value: &Coerced, left: usize, hasher: &mut FoldHasher) -> usize {
 
 #[cycle(hash)]
 fn hash_items(items: &[Coerced], many: usize, hasher: &mut FoldHasher) -> usize {
+    hasher.write_usize(7);
     hasher.write_usize(items.len());
     let mut left = many;
     'items: for item in items {
@@ -57,13 +71,14 @@ fn hash_items(items: &[Coerced], many: usize, hasher: &mut FoldHasher) -> usize 
 
 #[cycle(hash)]
 fn hash_fields(fields: &[CoercedField], many: usize, hasher: &mut FoldHasher) -> usize {
+    hasher.write_usize(8);
     hasher.write_usize(fields.len());
     let mut left = many;
     'fields: for field in fields {
         if left == 0 {
             return 0;
         }
-        hasher.write(field.name.as_str().as_bytes());
+        hash_text(9, field.name.as_str(), hasher);
         left = hash_value(&field.value, left, hasher);
     }
     left
@@ -78,7 +93,7 @@ fn hash_of(value: Option<&Coerced>) -> Option<u64> {
                 return None;
             }
         }
-        None => hasher.write_usize(3),
+        None => hasher.write_usize(10),
     }
     Some(hasher.finish())
 }
@@ -97,22 +112,43 @@ fn have_same(value: Option<&Coerced>, other: Option<&Coerced>) -> bool
 }
 
 impl<'a> StandIns<'a> {
-    /// Notes a variable, if one was noted before that has a value of the same hash; else it may stand in for others.
+    /// The first place from a hash on that is free, or holds a variable of the same value.
+    fn place_for(&self, firsts: &BTreeMap<u64, &'a str>, hash: u64, name: &'a str) -> Option<u64> {
+        let value = self.variables.value(name);
+        for turn in 0..TURNS {
+            let place = hash.wrapping_add(turn);
+            match firsts.get(&place).copied() {
+                Some(first) => {
+                    if have_same(self.variables.value(first), value) {
+                        return Some(place);
+                    }
+                }
+                None => return Some(place),
+            }
+        }
+        None
+    }
+
+    /// Notes a variable: where one was noted before that has the same value, that one stands in for it; else it may stand in for
+    /// others.
     fn note(&mut self, firsts: &mut BTreeMap<u64, &'a str>, name: &'a str) -> Result<(), AllocError>
         ensures { self.new.variables ≡ self.old.variables }
     {
-        match hash_of(self.variables.value(name)) {
-            Some(hash) => match firsts.get(&hash).copied() {
-                Some(first) => {
-                    self.others.insert(name, first)?;
-                    Ok(())
-                }
-                None => {
-                    firsts.insert(hash, name)?;
-                    Ok(())
-                }
-            },
-            None => Ok(()),
+        let Some(hash) = hash_of(self.variables.value(name)) else {
+            return Ok(());
+        };
+        let Some(place) = self.place_for(firsts, hash, name) else {
+            return Ok(());
+        };
+        match firsts.get(&place).copied() {
+            Some(first) => {
+                self.others.insert(name, first)?;
+                Ok(())
+            }
+            None => {
+                firsts.insert(place, name)?;
+                Ok(())
+            }
         }
     }
 

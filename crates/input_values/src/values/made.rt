@@ -72,24 +72,27 @@ fn held_once(alloc: Global, value: Coerced) -> Result<Coerced, AllocError>
     Ok(Coerced::Shared(Arc::new(alloc, value)?))
 }
 
-// Whether a value holds others.
-fn is_composite(value: &Coerced) -> bool {
+// Strings of so many bytes are held once.
+const LONG: usize = 64;
+
+// Whether a value holds others, or a long string, so that a copy of it takes much.
+fn is_large(value: &Coerced) -> bool {
     match value {
         Coerced::List(_) | Coerced::Object(_) => true,
+        Coerced::Str(text) => text.as_str().len() >= LONG,
         Coerced::Null
         | Coerced::Int(_)
-        | Coerced::Str(_)
         | Coerced::Bool(_)
         | Coerced::EnumName(_)
         | Coerced::Shared(_) => false,
     }
 }
 
-/// The same value, whose copies share it where it is a list or an object. It fails for want of memory alone.
+/// The same value, whose copies share it where it is a list, an object or a long string. It fails for want of memory alone.
 pub fn shared(alloc: Global, value: Coerced) -> Result<Coerced, AllocError>
     ensures { IfOk result (λ v. coerced_tree v ≡ coerced_tree value) }
 {
-    if is_composite(&value) {
+    if is_large(&value) {
         held_once(alloc, value)
     } else {
         Ok(value)
