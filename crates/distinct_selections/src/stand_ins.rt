@@ -12,7 +12,7 @@ use std::collections::BTreeMap;
 use std::hash::{FoldHasher, Hasher};
 use variable_coercion::Variables;
 
-/// No variable stands in for one whose value has more nodes: values are compared at each place where a variable is written.
+/// No variable stands in for one whose value has so many nodes or more: values are compared at each place where a variable is written.
 const MANY: usize = 128;
 
 /// So many different values of one hash are told apart.
