@@ -731,7 +731,7 @@ FAMILIES = {
     "a block string": (SCALARS, lambda n: '{o(x:["""%s"""])}' % filled(n - 40, lambda i: " " * (i % 300) + "x\n")),
     "variables that aren't used": (ONE, lambda n: "query(%s$w:Int){n{b(x:$w)}}" % filled(n - 40, lambda i: "$v%d:Int=1" % i)),
     "room for what is kept": (ONE, room_for_kept),
-    "objects of a great input type": (lambda: optional_fields(20000), lambda n: "{o(i:[%s])}" % ("{}" * ((n - 10) // 2))),
+    "objects of a great input type": (lambda: optional_fields(20000), lambda n: "{o(i:[%s])}" % ("{}" * min(19990, (n - 10) // 2))),
     "names of sized fields": (lambda: sized_names(49000), lambda n: "{o{%s}}" % filled(n - 4, lambda i: "k%d:f%d{a}" % (i, 48999 - i % 10))),
     "a call of ten great lists": (lists_of_one_call(10), lists_again(10)),
     "variables at places of their own": (ONE, places_of_their_own("", "k%d:n{x%d:a ...F}")),
