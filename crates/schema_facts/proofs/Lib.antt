@@ -2,6 +2,7 @@ pub mod Appends
 pub mod Lists
 pub mod MakingSteps
 pub mod Listed
+pub mod ShownByNumbers
 pub mod Arguments
 pub mod TurnedLists
 pub mod PossibleSteps

@@ -99,10 +99,10 @@ number_named types name = or_past types (place_of_name known_name types name)
 
 -- ---- possible types, which are object types
 
--- the numbers of the types that pass a test, where the first has the number n
-abbrev pub numbers_from : ℕ → (KnownTree → Bool) → List KnownTree → List ℕ
+-- the numbers of those that pass a test, where the first has the number n
+abbrev pub numbers_from : {A : Type 0} → ℕ → (A → Bool) → List A → List ℕ
 numbers_from n test [] = []
-numbers_from n test (t ∷ types) = if test t then n ∷ numbers_from (n + 1) test types else numbers_from (n + 1) test types
+numbers_from n test (x ∷ others) = if test x then n ∷ numbers_from (n + 1) test others else numbers_from (n + 1) test others
 
 abbrev pub names_interface : NameText → BodyTree → Bool
 names_interface name (object_body interfaces fields) = list_any (bytes_eq name) interfaces

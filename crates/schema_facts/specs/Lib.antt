@@ -7,5 +7,6 @@ pub mod Things
 pub mod Table
 -- what serves proofs
 pub mod Making
+pub mod Shown
 pub mod Turning
 pub mod Possible

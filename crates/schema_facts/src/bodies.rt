@@ -1,14 +1,15 @@
 //! The fields of types that tell what stands in the bodies of their definitions.
 
-ghost use Rattle.std.specs.Prelude.{◌≡◌, ◌++◌, [], IfOk, map, option_map, Some, None};
+ghost use Rattle.std.specs.Prelude.{◌≡◌, ◌++◌, [], IfOk, map, option_map, Some, None, slice_get};
 ghost use Rattle.schema_reader.specs.Trees.{definition_tree, field_tree, input_tree, enum_value_tree, body_tree};
 ghost use Rattle.schema_facts.specs.Facts.{number_named, possible_types};
 ghost use Rattle.schema_facts.specs.FactsViews.{facts_data};
-ghost use Rattle.schema_facts.specs.Things.{thing_data, held_data, a_type, an_input};
-ghost use Rattle.schema_facts.specs.Table.{kind, kind_word, of_body, in_body, fields_in, shown_fields, interfaces_in, values_in, shown_values, inputs_in, specified_by, url_in, definition_at, possible, possible_at, kind_of_type};
-ghost use Rattle.schema_facts.specs.Making.{listed};
+ghost use Rattle.schema_facts.specs.Things.{thing_data, held_data, a_type, an_input, a_field, an_enum_value};
+ghost use Rattle.schema_facts.specs.Table.{kind, kind_word, of_body, in_body, fields_in, interfaces_in, values_in, inputs_in, specified_by, url_in, definition_at, possible, possible_at, kind_of_type};
+ghost use Rattle.schema_facts.specs.Making.{listed, shown_at};
+ghost use Rattle.schema_facts.specs.Shown.{shown_by, picked, fields_by, values_by};
 
-use crate::deprecations::{is_deprecated, url_of};
+use crate::deprecations::url_of;
 use crate::facts::SchemaFacts;
 use crate::held::{Held, maybe_word, word};
 use crate::things::{Thing, number_named};
@@ -51,37 +52,98 @@ pub fn kind_of<'f>(facts: &'f SchemaFacts, of: Thing<'f>) -> Held<'f>
     }
 }
 
-fn shown_fields<'f>(
-    alloc: Global,
-    all: bool,
-    fields: &'f [FieldDef],
-) -> Result<Vec<Thing<'f>>, AllocError>
-    ensures { IfOk result (λ things. map thing_data things.items ≡ shown_fields all (map field_tree fields.now)) }
+// The numbers of what isn't deprecated of the type of a number.
+fn shown_at(facts: &SchemaFacts, number: usize) -> &[usize]
+    ensures { result.now ≡ shown_at (facts_data facts.now) number }
+{
+    match facts.shown.get(number) {
+        Some(numbers) => numbers,
+        None => &[],
+    }
+}
+
+fn every_field<'f>(alloc: Global, fields: &'f [FieldDef]) -> Result<Vec<Thing<'f>>, AllocError>
+    ensures { IfOk result (λ things. map thing_data things.items ≡ map a_field (map field_tree fields.now)) }
 {
     let mut things = Vec::new(alloc);
     'fields: for field in fields {
-        if all || !is_deprecated(&field.directives) {
+        things.push(Thing::Field(field))?;
+    }
+    Ok(things)
+}
+
+#[tactic(auto, using(crate::proofs::Lists::gotten))]
+fn field_at<'f>(fields: &'f [FieldDef], number: usize) -> Option<&'f FieldDef>
+    ensures { option_map (λ d. field_tree d.now) result ≡ slice_get (map field_tree fields.now) number }
+{
+    fields.get(number)
+}
+
+fn picked_fields<'f>(
+    alloc: Global,
+    fields: &'f [FieldDef],
+    numbers: &[usize],
+) -> Result<Vec<Thing<'f>>, AllocError>
+    ensures { IfOk result (λ things. map thing_data things.items ≡ picked a_field (map field_tree fields.now) numbers.now) }
+{
+    let mut things = Vec::new(alloc);
+    'numbers: for number in numbers {
+        if let Some(field) = field_at(fields, *number) {
             things.push(Thing::Field(field))?;
         }
     }
     Ok(things)
 }
 
+// All fields, or those of these numbers.
+fn fields_by<'f>(
+    alloc: Global,
+    all: bool,
+    numbers: &[usize],
+    fields: &'f [FieldDef],
+) -> Result<Vec<Thing<'f>>, AllocError>
+    ensures { IfOk result (λ things. map thing_data things.items ≡ shown_by a_field all numbers.now (map field_tree fields.now)) }
+{
+    if all {
+        every_field(alloc, fields)
+    } else {
+        picked_fields(alloc, fields, numbers)
+    }
+}
+
 fn fields_in<'f>(
     alloc: Global,
     all: bool,
+    numbers: &[usize],
     definition: Option<&'f SchemaDef>,
 ) -> Result<Held<'f>, AllocError>
-    ensures { IfOk result (λ found. held_data found ≡ in_body (fields_in all) (option_map (λ d. definition_tree d.now) definition.entry)) }
+    ensures { IfOk result (λ found. held_data found ≡ in_body (fields_by all numbers.now) (option_map (λ d. definition_tree d.now) definition.entry)) }
 {
     match definition {
         Some(definition) => match &definition.body {
-            DefBody::Object { fields, .. } => Ok(Held::Many(shown_fields(alloc, all, fields)?)),
-            DefBody::Interface { fields, .. } => Ok(Held::Many(shown_fields(alloc, all, fields)?)),
+            DefBody::Object { fields, .. } => {
+                Ok(Held::Many(fields_by(alloc, all, numbers, fields)?))
+            }
+            DefBody::Interface { fields, .. } => {
+                Ok(Held::Many(fields_by(alloc, all, numbers, fields)?))
+            }
             _ => Ok(Held::Nothing),
         },
         None => Ok(Held::Nothing),
     }
+}
+
+// What of the type of a number is shown.
+fn fields_at<'f>(
+    alloc: Global,
+    facts: &'f SchemaFacts,
+    all: bool,
+    number: usize,
+) -> Result<Held<'f>, AllocError>
+    ensures { IfOk result (λ found. held_data found ≡ in_body (fields_in all) (definition_at (facts_data facts.now) number)) }
+{
+    let numbers = shown_at(facts, number);
+    fields_in(alloc, all, numbers, definition_at(facts, number))
 }
 
 pub fn fields<'f>(
@@ -93,7 +155,7 @@ pub fn fields<'f>(
     ensures { IfOk result (λ found. held_data found ≡ of_body (facts_data facts.now) (fields_in all) (thing_data of.entry)) }
 {
     match of {
-        Thing::TypeAt(number) => fields_in(alloc, all, definition_at(facts, number)),
+        Thing::TypeAt(number) => fields_at(alloc, facts, all, number),
         _ => Ok(Held::Nothing),
     }
 }
@@ -195,36 +257,83 @@ pub fn possible<'f>(
     }
 }
 
-fn shown_values<'f>(
-    alloc: Global,
-    all: bool,
-    values: &'f [EnumValueDef],
-) -> Result<Vec<Thing<'f>>, AllocError>
-    ensures { IfOk result (λ things. map thing_data things.items ≡ shown_values all (map enum_value_tree values.now)) }
+fn every_value<'f>(alloc: Global, values: &'f [EnumValueDef]) -> Result<Vec<Thing<'f>>, AllocError>
+    ensures { IfOk result (λ things. map thing_data things.items ≡ map an_enum_value (map enum_value_tree values.now)) }
 {
     let mut things = Vec::new(alloc);
     'values: for value in values {
-        if all || !is_deprecated(&value.directives) {
+        things.push(Thing::EnumValue(value))?;
+    }
+    Ok(things)
+}
+
+#[tactic(auto, using(crate::proofs::Lists::gotten))]
+fn value_at<'f>(values: &'f [EnumValueDef], number: usize) -> Option<&'f EnumValueDef>
+    ensures { option_map (λ d. enum_value_tree d.now) result ≡ slice_get (map enum_value_tree values.now) number }
+{
+    values.get(number)
+}
+
+fn picked_values<'f>(
+    alloc: Global,
+    values: &'f [EnumValueDef],
+    numbers: &[usize],
+) -> Result<Vec<Thing<'f>>, AllocError>
+    ensures { IfOk result (λ things. map thing_data things.items ≡ picked an_enum_value (map enum_value_tree values.now) numbers.now) }
+{
+    let mut things = Vec::new(alloc);
+    'numbers: for number in numbers {
+        if let Some(value) = value_at(values, *number) {
             things.push(Thing::EnumValue(value))?;
         }
     }
     Ok(things)
 }
 
+// All values, or those of these numbers.
+fn values_by<'f>(
+    alloc: Global,
+    all: bool,
+    numbers: &[usize],
+    values: &'f [EnumValueDef],
+) -> Result<Vec<Thing<'f>>, AllocError>
+    ensures { IfOk result (λ things. map thing_data things.items ≡ shown_by an_enum_value all numbers.now (map enum_value_tree values.now)) }
+{
+    if all {
+        every_value(alloc, values)
+    } else {
+        picked_values(alloc, values, numbers)
+    }
+}
+
 fn values_in<'f>(
     alloc: Global,
     all: bool,
+    numbers: &[usize],
     definition: Option<&'f SchemaDef>,
 ) -> Result<Held<'f>, AllocError>
-    ensures { IfOk result (λ found. held_data found ≡ in_body (values_in all) (option_map (λ d. definition_tree d.now) definition.entry)) }
+    ensures { IfOk result (λ found. held_data found ≡ in_body (values_by all numbers.now) (option_map (λ d. definition_tree d.now) definition.entry)) }
 {
     match definition {
         Some(definition) => match &definition.body {
-            DefBody::Enum(values) => Ok(Held::Many(shown_values(alloc, all, values)?)),
+            DefBody::Enum(values) => Ok(Held::Many(values_by(alloc, all, numbers, values)?)),
             _ => Ok(Held::Nothing),
         },
         None => Ok(Held::Nothing),
     }
+}
+
+// What of the type of a number is shown.
+fn values_at<'f>(
+    alloc: Global,
+    facts: &'f SchemaFacts,
+    all: bool,
+    number: usize,
+) -> Result<Held<'f>, AllocError>
+    ensures { IfOk result (λ found. held_data found ≡ in_body (values_in all) (definition_at (facts_data facts.now) number)) }
+{
+    let numbers = shown_at(facts, number);
+    values_in(alloc, all, numbers, definition_at(facts, number))
 }
 
 pub fn enum_values<'f>(
@@ -236,7 +345,7 @@ pub fn enum_values<'f>(
     ensures { IfOk result (λ found. held_data found ≡ of_body (facts_data facts.now) (values_in all) (thing_data of.entry)) }
 {
     match of {
-        Thing::TypeAt(number) => values_in(alloc, all, definition_at(facts, number)),
+        Thing::TypeAt(number) => values_at(alloc, facts, all, number),
         _ => Ok(Held::Nothing),
     }
 }

@@ -1,6 +1,7 @@
 //! What is known of a schema.
 
 ghost use Rattle.schema_facts.specs.Facts.{KnowsPossible};
+ghost use Rattle.schema_facts.specs.Shown.{KnowsShown};
 
 use crate::known::KnownType;
 use gql_base::{Indexed, Text};
@@ -13,6 +14,8 @@ pub struct SchemaFacts {
     pub(crate) types: Indexed<KnownType>,
     /// The numbers of the possible types of each type.
     pub(crate) possible: Vec<Vec<usize>>,
+    /// The numbers of the fields or values of each type that aren't deprecated.
+    pub(crate) shown: Vec<Vec<usize>>,
     /// The name of the type of queries.
     pub(crate) query_name: Text,
     pub(crate) query: usize,
@@ -20,4 +23,5 @@ pub struct SchemaFacts {
     pub(crate) subscription: Option<usize>,
     pub(crate) directives: Vec<SchemaDef>,
     ghost knows: { KnowsPossible possible.items types.items.items },
+    ghost shows: { KnowsShown shown.items types.items.items },
 }

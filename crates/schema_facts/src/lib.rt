@@ -13,6 +13,7 @@ mod meta_schema;
 mod possible;
 mod scalars;
 mod sharing;
+mod shown;
 mod sorting;
 mod table;
 mod things;

@@ -14,6 +14,7 @@ use crate::known::KnownType;
 use crate::meta_schema::{built_in_directives, meta_text};
 use crate::possible::all_possible;
 use crate::scalars::{add_scalar, is_mentioned};
+use crate::shown::all_shown;
 use crate::sorting::{add_meta_types, sort_definitions};
 use crate::types::number_in;
 use gql_base::{Indexed, OperationKind, Text, index_of, index_owned};
@@ -127,6 +128,7 @@ fn facts_with(
 {
     let types = index_owned(alloc, types)?;
     let possible = all_possible(alloc, &types)?;
+    let shown = all_shown(alloc, types.items())?;
     let query_name = Text::copy_of(alloc, or_empty(&told.query))?;
     Ok(SchemaFacts {
         description,
@@ -136,6 +138,7 @@ fn facts_with(
         subscription: maybe_number(&types, &told.subscription),
         types,
         possible,
+        shown,
         directives,
     })
 }
