@@ -2,6 +2,7 @@ pub mod ShapeSteps
 pub mod NamedDrafts
 pub mod PossibleTypes
 pub mod PossibleLaws
+pub mod AppliesLaws
 pub mod Arguments
 pub mod MarkSteps
 pub mod Narrowing

@@ -84,7 +84,7 @@ rising n test (t ∷ types) i j less h = by (rising (n + 1) test types) (test n 
 
 -- ---- of all types
 
-all_length : (n : ℕ) (all types : List TypeData) → length (all_possible n all types) ≡ length types
+pub all_length : (n : ℕ) (all types : List TypeData) → length (all_possible n all types) ≡ length types
 all_length n all [] = refl
 all_length n all (t ∷ types) = ap suc (all_length (n + 1) all types)
 

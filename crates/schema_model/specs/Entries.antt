@@ -10,6 +10,7 @@ use Rattle.schema_model.specs.declared.entries.FieldId.{FieldId}
 use Rattle.schema_model.specs.declared.entries.ListSize.{ListSize}
 use Rattle.schema_model.specs.declared.entries.FieldEntry.{FieldEntry}
 use Rattle.schema_model.specs.declared.entries.TypeEntry.{TypeEntry}
+use Rattle.schema_model.specs.declared.marks.TypeList.{TypeList}
 use Rattle.schema_model.specs.Numbers.{type_number}
 use Rattle.schema_model.specs.SchemaData.{SizeData, FieldData, TypeData, all_possible}
 
@@ -40,6 +41,9 @@ type_data t = record { name = t.name; kind = t.kind; names = t.names.items.items
 abbrev pub numbers_in : Vec TypeId Global → List ℕ
 numbers_in v = map type_number v.items
 
+abbrev pub numbers_listed : TypeList → List ℕ
+numbers_listed l = numbers_in l.numbers
+
 -- The possible types of each type stand in a list.
-abbrev pub KnowsPossible : List (Vec TypeId Global) → List TypeEntry → Type 0
-KnowsPossible possible types = map numbers_in possible ≡ all_possible 0 (map type_data types) (map type_data types)
+abbrev pub KnowsPossible : List TypeList → List TypeEntry → Type 0
+KnowsPossible possible types = map numbers_listed possible ≡ all_possible 0 (map type_data types) (map type_data types)

@@ -1,7 +1,7 @@
 //! What is looked up in a checked schema. The look-ups take no memory. They ask for numbers of this schema; at
 //! other numbers they answer as at a union without members, or a field, that has no name.
 
-ghost use Rattle.std.specs.Prelude.{◌≡◌, map, option_map, length, get_or};
+ghost use Rattle.std.specs.Prelude.{◌≡◌, ◌<◌, ◌↔◌, map, option_map, length, get_or, nat_eq, IfSome, IsTrue};
 ghost use Rattle.std.specs.List.{list_any};
 ghost use Rattle.gql_base.specs.names.Names.{first_of_name, has_name};
 ghost use Rattle.input_values.specs.inputs.Shapes.{shape_tree};
@@ -13,7 +13,7 @@ ghost use Rattle.schema_model.specs.Entries.{type_data, field_data, field_number
 ghost use Rattle.schema_model.specs.SchemaViews.{schema_data};
 
 use crate::entries::{FieldEntry, FieldId, ListSize, TypeEntry};
-use crate::marks::has_number;
+use crate::marks::{TypeList, has_number};
 use crate::schema::Schema;
 use gql_base::{Hashed, Text};
 use input_values::{InputDef, Shape, TypeId};
@@ -90,8 +90,46 @@ impl Schema {
         ensures { map type_number result.now ≡ possible (schema_data self.now) of.number }
     {
         match self.possible.get(of.number) {
-            Some(possible) => possible,
+            Some(possible) => &possible.numbers,
             None => &[],
+        }
+    }
+
+    /// The object types of a condition, where the other is one of the schema: the condition applies to these alone.
+    fn possible_beside(&self, condition: TypeId, object: TypeId) -> Option<&TypeList>
+        ensures { IfSome result (λ l. list_any (nat_eq object.number) (map type_number l.now.numbers.items) ≡ applies (schema_data self.now) condition.number object.number) }
+    {
+        match self.types.items().get(object.number) {
+            Some(entry) => {
+                if entry.kind.is_object() {
+                    self.possible.get(condition.number)
+                } else {
+                    None
+                }
+            }
+            None => None,
+        }
+    }
+
+    /// Whether a condition applies to a type, by what the two say.
+    fn applies_by_lists(&self, condition: TypeId, object: TypeId) -> bool
+        ensures { result ≡ applies (schema_data self.now) condition.number object.number }
+    {
+        match self.kind(condition) {
+            Kind::Object => condition.number == object.number,
+            Kind::Interface => has_number(self.interfaces(object), condition.number),
+            Kind::Union => has_number(&self.entry(condition).members, object.number),
+            Kind::Scalar | Kind::Enum | Kind::Input => false,
+        }
+    }
+
+    /// The same, looked for among the object types of the condition, where that tells it.
+    fn applies_by_marks(&self, condition: TypeId, object: TypeId) -> bool
+        ensures { result ≡ applies (schema_data self.now) condition.number object.number }
+    {
+        match self.possible_beside(condition, object) {
+            Some(possible) => possible.has(object.number),
+            None => self.applies_by_lists(condition, object),
         }
     }
 
@@ -102,9 +140,7 @@ impl Schema {
     {
         match self.kind(condition) {
             Kind::Object => condition.number == object.number,
-            Kind::Interface => has_number(self.interfaces(object), condition.number),
-            Kind::Union => has_number(&self.entry(condition).members, object.number),
-            Kind::Scalar | Kind::Enum | Kind::Input => false,
+            _ => self.applies_by_marks(condition, object),
         }
     }
 
@@ -132,6 +168,13 @@ impl Schema {
         ensures fields { result.1 ≡ length (schema_data self.now).fields }
     {
         (self.defined, self.fields.len())
+    }
+
+    /// Whether a number is that of a type.
+    pub fn has_type(&self, of: TypeId) -> bool
+        ensures { IsTrue result ↔ (of.number < length (schema_data self.now).types) }
+    {
+        of.number < self.types.items().len()
     }
 
     pub fn kind(&self, of: TypeId) -> Kind

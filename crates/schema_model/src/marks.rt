@@ -82,3 +82,36 @@ pub fn with_marks<'a>(
     let marks = marks_of(alloc, count, numbers)?;
     Ok(Marked { numbers, marks })
 }
+
+/// So many numbers are looked through, and more are marked.
+const FEW: usize = 64;
+
+/// Types by their numbers, of which one is found in few steps.
+#[derive(Drop)]
+pub struct TypeList {
+    pub numbers: Vec<TypeId>,
+    /// Some of the marks may be missing; then the numbers are looked at.
+    marks: Vec<bool>,
+    ghost tells: { Marks marks.items (map type_number numbers.items) },
+}
+
+impl TypeList {
+    /// Whether a number is among these.
+    pub fn has(&self, wanted: usize) -> bool
+        ensures { result ≡ list_any (nat_eq wanted) (map type_number self.now.numbers.items) }
+    {
+        match self.marks.get(wanted) {
+            Some(mark) => *mark,
+            None => has_number(&self.numbers, wanted),
+        }
+    }
+}
+
+/// Numbers that are below a count, which are marked where they are many. It fails for want of memory alone.
+pub fn listed(alloc: Global, count: usize, numbers: Vec<TypeId>) -> Result<TypeList, AllocError>
+    ensures { IfOk result (λ l. l.numbers.items ≡ numbers.items) }
+{
+    let places = if numbers.len() > FEW { count } else { 0 };
+    let marks = marks_of(alloc, places, &numbers)?;
+    Ok(TypeList { numbers, marks })
+}

@@ -4,10 +4,10 @@ ghost use Rattle.std.specs.Prelude.{◌≡◌, ◌<◌, map, length, nat_eq, IfO
 ghost use Rattle.std.specs.List.{list_any};
 ghost use Rattle.schema_rules.specs.Kinds.{is_object};
 ghost use Rattle.schema_model.specs.SchemaData.{applies_to, is_possible, possible_types, all_possible};
-ghost use Rattle.schema_model.specs.Entries.{type_data, numbers_in};
+ghost use Rattle.schema_model.specs.Entries.{type_data, numbers_in, numbers_listed};
 
 use crate::entries::TypeEntry;
-use crate::marks::{Marked, has_number, with_marks};
+use crate::marks::{Marked, TypeList, has_number, listed, with_marks};
 use input_values::TypeId;
 use schema_rules::Kind;
 use std::alloc::{AllocError, Global};
@@ -82,13 +82,13 @@ fn possible_types(
 }
 
 /// The possible types of each type. It fails for want of memory alone.
-pub fn all_possible(alloc: Global, types: &[TypeEntry]) -> Result<Vec<Vec<TypeId>>, AllocError>
-    ensures { IfOk result (λ v. map numbers_in v.items ≡ all_possible 0 (map type_data types.now) (map type_data types.now)) }
+pub fn all_possible(alloc: Global, types: &[TypeEntry]) -> Result<Vec<TypeList>, AllocError>
+    ensures { IfOk result (λ v. map numbers_listed v.items ≡ all_possible 0 (map type_data types.now) (map type_data types.now)) }
 {
     let mut all = Vec::new(alloc);
     for number in 0..types.len() {
         let possible = possible_types(alloc, types, number, &types[number])?;
-        all.push(possible)?;
+        all.push(listed(alloc, types.len(), possible)?)?;
     }
     Ok(all)
 }

@@ -3,6 +3,7 @@
 ghost use Rattle.schema_model.specs.Entries.{KnowsPossible};
 
 use crate::entries::{FieldEntry, TypeEntry};
+use crate::marks::TypeList;
 use gql_base::{Hashed, Text};
 use input_values::TypeId;
 
@@ -21,6 +22,6 @@ pub struct Schema {
     pub(crate) mutation: Option<TypeId>,
     pub(crate) subscription: Option<TypeId>,
     /// The object types of each type.
-    pub(crate) possible: Vec<Vec<TypeId>>,
+    pub(crate) possible: Vec<TypeList>,
     ghost knows: { KnowsPossible possible.items types.items.items },
 }
