@@ -31,6 +31,10 @@ abbrev pub inputs_seen : Option (Bor TypeWeight) → Option (List InputWeightDat
 inputs_seen None = None
 inputs_seen (Some t) = Some (map input_weight t.now.inputs.items.items)
 
+abbrev pub weighed_inputs : Option (Bor (List InputWeight)) → Option (List InputWeightData)
+weighed_inputs None = None
+weighed_inputs (Some inputs) = Some (map input_weight inputs.now)
+
 abbrev pub maybe_arg : Option (Bor Arg) → ArgData
 maybe_arg None = no_arg
 maybe_arg (Some arg) = arg_data arg.now

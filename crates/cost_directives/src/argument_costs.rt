@@ -39,8 +39,8 @@ fn object_cost(own: Option<u64>) -> u64
     }
 }
 
-// An input object type.
-fn object_at(types: &[TypeWeight], of: TypeId) -> Option<&TypeWeight>
+/// An input object type.
+pub fn object_at(types: &[TypeWeight], of: TypeId) -> Option<&TypeWeight>
     ensures { inputs_seen result ≡ get_or (map type_inputs types.now) of.number None }
 {
     match types.get(of.number) {
@@ -49,10 +49,10 @@ fn object_at(types: &[TypeWeight], of: TypeId) -> Option<&TypeWeight>
     }
 }
 
-// A value at this type, where the place has this weight of its own.
+/// A value at this type, where the place has this weight of its own.
 #[cycle(costs)]
 #[tactic(auto, using(crate::proofs::CoercedParts::coerced_parts))]
-fn value_cost(value: &Coerced, types: &[TypeWeight], shape: &Shape, own: Option<u64>) -> u64
+pub fn value_cost(value: &Coerced, types: &[TypeWeight], shape: &Shape, own: Option<u64>) -> u64
     ensures { result ≡ capped (value_cost (map type_inputs types.now) (shape_tree shape.now) own (coerced_tree value.now)) }
 {
     match value {

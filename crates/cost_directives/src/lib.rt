@@ -19,6 +19,7 @@ mod sources;
 mod weights;
 
 pub use above::{has_own_weight, inherited_size, inherited_weight};
+pub use entries::InputWeight;
 pub use fault::DirectiveFault;
 pub use laws::{
     lists_of_any_length_cost_nothing, look_ups_answer_by_the_rules, sizes_fit_their_fields,

@@ -1,19 +1,22 @@
 //! The weights and sizes of a schema, and what is looked up in them. The look-ups take no memory. They ask for numbers of the
 //! schema that the weights were built from; at other numbers they answer as at a type, or a field, that weighs nothing.
 
-ghost use Rattle.std.specs.Prelude.{◌≡◌};
+ghost use Rattle.std.specs.Prelude.{◌≡◌, map, get_or, None};
 ghost use Rattle.cost_num.specs.Capped.{capped};
+ghost use Rattle.input_values.specs.inputs.Shapes.{shape_tree};
+ghost use Rattle.input_values.specs.values.Coerced.{coerced_tree};
 ghost use Rattle.schema_model.specs.Arguments.{args_data};
-ghost use Rattle.cost_directives.specs.Weights.{type_in, field_in, argument_cost_in, declared_size_in};
+ghost use Rattle.cost_directives.specs.ArgumentCosts.{value_cost};
+ghost use Rattle.cost_directives.specs.Weights.{type_in, field_in, objects_in, argument_cost_in, declared_size_in};
 ghost use Rattle.cost_directives.specs.SizeSources.{size_source_in};
-ghost use Rattle.cost_directives.specs.WeightViews.{weights_data, field_seen};
+ghost use Rattle.cost_directives.specs.WeightViews.{weights_data, field_seen, input_weight, weighed_inputs};
 
-use crate::argument_costs::arguments_cost;
-use crate::entries::{FieldWeight, TypeWeight};
+use crate::argument_costs::{arguments_cost, object_at, value_cost};
+use crate::entries::{FieldWeight, InputWeight, TypeWeight};
 use crate::sizes::{Size, SizeFault, size_by};
 use crate::sources::{SizeSource, source_by};
 use gql_base::Text;
-use input_values::TypeId;
+use input_values::{Coerced, Shape, TypeId};
 use schema_model::{Args, FieldId};
 
 /// What types and fields weigh, what arguments cost and what sizes lists declare, in one schema.
@@ -72,6 +75,16 @@ impl Weights {
         }
     }
 
+    /// The places of the slicing arguments among those of a field, each once.
+    pub fn slicing(&self, of: FieldId) -> &[usize]
+        ensures { result.now ≡ (field_in (weights_data self.now) of.number).size.slicing }
+    {
+        match self.found(of) {
+            Some(found) => &found.size.slicing,
+            None => &[],
+        }
+    }
+
     /// What the arguments of a field cost, in millionths, or `CAP + 1` where that exceeds `CAP`. The arguments are the
     /// field's own, one for each that it defines.
     #[tactic(auto, using(crate::proofs::FoundInputs::objects_seen))]
@@ -115,6 +128,36 @@ impl Weights {
                 Some(size) => SizeSource::Handed(size),
                 None => SizeSource::Undeclared(self.undeclared),
             },
+        }
+    }
+
+    /// What a value costs at a place of this shape, where the place has this weight of its own: in millionths, or `CAP + 1`
+    /// where that exceeds `CAP`.
+    #[tactic(auto, using(crate::proofs::FoundInputs::objects_seen))]
+    pub fn value_cost(&self, shape: &Shape, own: Option<u64>, value: &Coerced) -> u64
+        ensures { result ≡ capped (value_cost (objects_in (weights_data self.now)) (shape_tree shape.now) own (coerced_tree value.now)) }
+    {
+        value_cost(value, &self.types, shape, own)
+    }
+
+    /// The arguments of a field, in the order of the text.
+    pub fn weighed_arguments(&self, of: FieldId) -> &[InputWeight]
+        ensures { map input_weight result.now ≡ (field_in (weights_data self.now) of.number).arguments }
+    {
+        match self.found(of) {
+            Some(found) => &found.arguments,
+            None => &[],
+        }
+    }
+
+    /// The fields of an input object type, in the order of the text; none of another type.
+    #[tactic(auto, using(crate::proofs::FoundInputs::objects_seen))]
+    pub fn weighed_fields(&self, of: TypeId) -> Option<&[InputWeight]>
+        ensures { weighed_inputs result ≡ get_or (objects_in (weights_data self.now)) of.number None }
+    {
+        match object_at(&self.types, of) {
+            Some(object) => Some(object.inputs.items()),
+            None => None,
         }
     }
 }

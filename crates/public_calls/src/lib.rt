@@ -10,6 +10,8 @@ mod forms;
 #[cfg(test)]
 mod links;
 #[cfg(test)]
+mod literals;
+#[cfg(test)]
 mod schemas;
 #[cfg(test)]
 mod texts;

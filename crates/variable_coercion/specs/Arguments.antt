@@ -24,6 +24,10 @@ abbrev pub argument_refusal : List ℕ → Unfit → Refusal
 argument_refusal name (unfit_at path) = bad_value name
 argument_refusal name unfit_size = too_large name
 
+-- without a value
+abbrev pub no_argument : ArgData
+no_argument = record { value = None; supplied = false }
+
 -- not supplied: it takes its default
 abbrev pub default_or_none : InputData → Option CoercedTree → Result (Option CoercedTree) Refusal
 default_or_none i (Some default) = Ok (Some default)

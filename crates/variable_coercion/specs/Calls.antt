@@ -1,10 +1,11 @@
 -- What the calls answer: what a definition says, or a fault that tells the first refusal. Want of memory tells nothing.
-use Rattle.std.specs.Prelude.{◌≡◌, List, map, Option, Some, None, option_map, Result, Ok, Err}
+use Rattle.std.specs.Prelude.{◌≡◌, ℕ, List, map, All, slice_get, Option, Some, None, option_map, Result, Ok, Err}
 use Rattle.input_values.specs.values.Coerced.{CoercedTree, coerced_tree}
 use Rattle.input_values.specs.declared.values.coerced.Coerced.{Coerced}
 use Rattle.input_values.specs.declared.coercion.variables.VariableValue.{VariableValue}
 use Rattle.input_values.specs.coercion.Literals.{Environment, values_of}
-use Rattle.schema_model.specs.Arguments.{ArgData, arg_data}
+use Rattle.schema_model.specs.Arguments.{ArgData, arg_data, args_data}
+use Rattle.schema_model.specs.declared.args.Args.{Args}
 use Rattle.schema_model.specs.declared.args.Arg.{Arg}
 use Rattle.variable_coercion.specs.declared.values.ValueFault.{ValueFault}
 use Rattle.variable_coercion.specs.declared.values.ValueFault.TheVariants.{BadValue as UnfitValue, TooLarge as UnfitSize, Memory as NoMemory}
@@ -42,6 +43,20 @@ argument_told (MissingArgument name) = Some (missing name)
 argument_told (BadArgument name) = Some (bad_value name)
 argument_told (LargeArgument name) = Some (too_large name)
 argument_told NoMemoryLeft = None
+
+-- At a place two lists have the same argument, or both have none.
+abbrev pub AgreeAt : List ArgData → List ArgData → ℕ → Type 0
+AgreeAt some args place = slice_get some place ≡ slice_get args place
+
+-- At some places these are the arguments; where they aren't given, memory was wanting.
+abbrev pub AreSomeOf : List ℕ → List ArgData → Result Args ArgFault → Type 0
+AreSomeOf places args (Ok some) = All (AgreeAt (args_data some) args) places
+AreSomeOf places args (Err fault) = argument_told fault ≡ None
+
+-- The argument at a place is put among some, and those that agree still do.
+abbrev pub PutsAt : List ArgData → List ArgData → List ArgData → ℕ → Result (Unit {0}) ArgFault → Type 0
+PutsAt old new args place (Ok done) = AgreeAt new args place × ((other : ℕ) → AgreeAt old args other → AgreeAt new args other)
+PutsAt old new args place (Err fault) = argument_told fault ≡ None
 
 -- what a value comes to
 abbrev pub AnswersValue : Result Coerced ValueFault → Result CoercedTree Unfit → Type 0

@@ -1,16 +1,16 @@
 //! The arguments of a field (GraphQL October 2021, 6.4.1).
 
-ghost use Rattle.std.specs.Prelude.{Some, Result, map};
+ghost use Rattle.std.specs.Prelude.{◌≡◌, List, Some, Result, Ok, IfOk, map, length, replicate, slice_set};
 ghost use Rattle.gql_base.specs.parts.Trees.{value_tree};
 ghost use Rattle.input_values.specs.values.Coerced.{CoercedTree, coerced_tree};
 ghost use Rattle.input_values.specs.inputs.Definitions.{input_data};
 ghost use Rattle.input_values.specs.coercion.Literals.{literal_given};
 ghost use Rattle.schema_model.specs.SchemaViews.{schema_data};
 ghost use Rattle.schema_model.specs.InputForms.{schema_forms};
-ghost use Rattle.schema_model.specs.Arguments.{arg_data, args_data};
+ghost use Rattle.schema_model.specs.Arguments.{ArgData, arg_data, args_data};
 ghost use Rattle.variable_coercion.specs.Refusals.{Unfit, given_value, no_value};
-ghost use Rattle.variable_coercion.specs.Arguments.{argument_given, argument_refusal, default_or_none, supplied_answer, unsupplied_answer, argument_answer, defined_answer, arguments_answer};
-ghost use Rattle.variable_coercion.specs.Calls.{AnswersRefusal, AnswersArgument, unfit_told, argument_told, value_data, environment};
+ghost use Rattle.variable_coercion.specs.Arguments.{no_argument, argument_given, argument_refusal, default_or_none, supplied_answer, unsupplied_answer, argument_answer, defined_answer, arguments_answer};
+ghost use Rattle.variable_coercion.specs.Calls.{AnswersRefusal, AreSomeOf, PutsAt, AnswersArgument, unfit_told, argument_told, value_data, environment};
 
 use crate::faults::ArgFault;
 use crate::values::{VALUE_LIMIT, ValueFault, coerced_literal};
@@ -19,7 +19,7 @@ use gql_base::{Argument, NameIndex, Text, Value, index_of};
 use input_values::places::is_nullable;
 use input_values::{Coerced, InputDef, Scope, copy_value, is_nothing};
 use schema_model::{Arg, Args, FieldId, Schema};
-use std::alloc::Global;
+use std::alloc::{AllocError, Global};
 
 /// The arguments that a field defines, in their order, where `written` is what is written at it: each by its value, or
 /// else its default. The values of variables are taken as they are.
@@ -37,6 +37,96 @@ pub fn coerce_arguments(
 {
     let index = index_of(alloc, written)?;
     all_arguments(alloc, schema, schema.arguments(of), &index, variables)
+}
+
+/// So many arguments without a value.
+fn no_arguments(alloc: Global, count: usize) -> Result<Vec<Arg>, AllocError>
+    ensures { IfOk result (λ list. map arg_data list.items ≡ replicate count no_argument) }
+{
+    let mut list = Vec::new(alloc);
+    for _at in 0..count {
+        list.push(Arg {
+            value: None,
+            supplied: false,
+        })?;
+    }
+    Ok(list)
+}
+
+/// Puts an argument at a place, if there is such a one.
+fn put_argument(list: &mut Vec<Arg>, place: usize, argument: Arg)
+    ensures { list.new.items ≡ slice_set list.old.items place argument }
+{
+    if place < list.len() {
+        list[place] = argument;
+    }
+}
+
+/// Coerces the argument at a place, and puts it there.
+fn coerce_at(
+    alloc: Global,
+    schema: &Schema,
+    inputs: &[InputDef],
+    written: &NameIndex<'_, Argument>,
+    place: usize,
+    variables: &Variables,
+    list: &mut Vec<Arg>,
+) -> Result<(), ArgFault>
+    ensures many { length list.new.items ≡ length list.old.items }
+    ensures put { (args : List ArgData) → defined_answer (schema_data schema.now) (map input_data inputs.now) written.now.items.now (environment variables.now) ≡ Ok args → length list.old.items ≡ length inputs.now → PutsAt (map arg_data list.old.items) (map arg_data list.new.items) args place result }
+{
+    match inputs.get(place) {
+        Some(input) => match coerce_argument(alloc, schema, input, written, variables) {
+            Ok(argument) => {
+                put_argument(list, place, argument);
+                Ok(())
+            }
+            Err(fault) => Err(fault),
+        },
+        None => Ok(()),
+    }
+}
+
+/// Of the arguments that a field defines those at some places, beside others without a value, where all of them are coerced.
+pub fn coerce_arguments_at(
+    alloc: Global,
+    schema: &Schema,
+    of: FieldId,
+    written: &[Argument],
+    places: &[usize],
+    variables: &Variables,
+) -> Result<Args, ArgFault>
+    ensures { (args : List ArgData) → arguments_answer (schema_data schema.now) of.number written.now (environment variables.now) ≡ Ok args → AreSomeOf places.now args result }
+{
+    let index = index_of(alloc, written)?;
+    arguments_at(
+        alloc,
+        schema,
+        schema.arguments(of),
+        &index,
+        places,
+        variables,
+    )
+}
+
+fn arguments_at(
+    alloc: Global,
+    schema: &Schema,
+    inputs: &[InputDef],
+    written: &NameIndex<'_, Argument>,
+    places: &[usize],
+    variables: &Variables,
+) -> Result<Args, ArgFault>
+    ensures { (args : List ArgData) → defined_answer (schema_data schema.now) (map input_data inputs.now) written.now.items.now (environment variables.now) ≡ Ok args → AreSomeOf places.now args result }
+{
+    let mut list = no_arguments(alloc, inputs.len())?;
+    'places: for place in places {
+        match coerce_at(alloc, schema, inputs, written, *place, variables, &mut list) {
+            Ok(()) => {}
+            Err(fault) => return Err(fault),
+        }
+    }
+    Ok(Args { list })
 }
 
 /// The arguments that are defined, in their order, up to the first that is refused.

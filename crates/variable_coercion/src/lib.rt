@@ -10,7 +10,7 @@ mod sharing;
 mod values;
 mod variables;
 
-pub use arguments::coerce_arguments;
+pub use arguments::{coerce_arguments, coerce_arguments_at};
 pub use faults::{ArgFault, CoerceFault};
 pub use laws::{what_arguments_are, what_arguments_see, what_is_refused_first, what_variables_are};
 pub use sharing::variables_are_shared;

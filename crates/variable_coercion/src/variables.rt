@@ -5,6 +5,7 @@ ghost use Rattle.gql_base.specs.parts.Trees.{maybe_value};
 ghost use Rattle.serde_json.specs.View.{view};
 ghost use Rattle.input_values.specs.values.Coerced.{CoercedTree, coerced_tree};
 ghost use Rattle.input_values.specs.inputs.Shapes.{shape_tree};
+ghost use Rattle.input_values.specs.coercion.Literals.{values_of};
 ghost use Rattle.schema_model.specs.SchemaViews.{schema_data};
 ghost use Rattle.schema_model.specs.InputForms.{schema_forms};
 ghost use Rattle.variable_coercion.specs.Refusals.{Unfit, given_value, no_value};
@@ -34,6 +35,13 @@ impl Variables {
         ensures { map variable_data result.now ≡ variables_data self.now }
     {
         self.values.items()
+    }
+
+    /// The variables with their values, by their names.
+    pub fn by_name(&self) -> &Indexed<VariableValue>
+        ensures { values_of result.now.items.items ≡ environment self.now }
+    {
+        &self.values
     }
 
     /// The value of the variable of this name, in the time of a search in a tree; none where it has no value.

@@ -1,0 +1,13 @@
+pub mod OpenedTrees
+pub mod SeenInputs
+pub mod NamedSums
+pub mod WrittenInputs
+pub mod InputsTogether
+pub mod LinearCosts
+pub mod LoadsOfPlaces
+pub mod ValuesTogether
+pub mod WrittenPlaces
+pub mod ItemsTogether
+pub mod KeptInputs
+pub mod SameAnswers
+pub mod SameInputs

@@ -1,0 +1,323 @@
+//! Whether what is written in two places comes to the same, seen without building it.
+
+ghost use Rattle.std.specs.Prelude.{◌≡◌, All, IsTrue, IfOk};
+ghost use Rattle.gql_base.specs.parts.Trees.{value_tree};
+ghost use Rattle.input_values.specs.values.Coerced.{coerced_tree};
+ghost use Rattle.input_values.specs.inputs.Shapes.{shape_tree};
+ghost use Rattle.input_values.specs.inputs.Definitions.{input_data};
+ghost use Rattle.input_values.specs.coercion.Given.{is_nothing};
+ghost use Rattle.input_values.specs.coercion.Literals.{literal_given};
+ghost use Rattle.literal_loads.specs.Loads.{ComesTo};
+ghost use Rattle.literal_loads.specs.KnownInputs.{scale_of, placed_in, IsKnown, AreRight};
+ghost use Rattle.literal_loads.specs.Comparing.{AreSame, AreSameLists, AreSameObjects, AreLike, IsDefault, IsSameAmong, IsAmong, AreSameInputs, AreSameArguments};
+
+use crate::held::is_leaf;
+use crate::inputs::{KnownInputs, Owner};
+use crate::loads::Loads;
+use crate::weighing::Weighing;
+use gql_base::{Argument, NameIndex, Value, index_of};
+use input_values::places::innermost;
+use input_values::{Coerced, InputDef, Shape, TypeId, value_of};
+use schema_model::{FieldId, Kind};
+use std::alloc::{AllocError, Global};
+
+/// Whether two literals are the same variable.
+#[tactic(auto, using(crate::proofs::OpenedTrees::opened_literals))]
+fn same_variable(value: &Value, other: &Value) -> bool
+    ensures { IsTrue result → AreLike value.now other.now }
+{
+    match value {
+        Value::Var(name) => match other {
+            Value::Var(same) => name.text.as_str() == same.text.as_str(),
+            _ => false,
+        },
+        _ => false,
+    }
+}
+
+/// Whether two values are the same that are neither lists nor objects; of values that are shared it says no.
+#[tactic(auto, using(crate::proofs::OpenedTrees::opened_values))]
+fn same_leaf_value(value: &Coerced, other: &Coerced) -> bool
+    ensures { IsTrue result → coerced_tree value.now ≡ coerced_tree other.now }
+{
+    match value {
+        Coerced::Null => match other {
+            Coerced::Null => true,
+            _ => false,
+        },
+        Coerced::Int(number) => match other {
+            Coerced::Int(same) => *number == *same,
+            _ => false,
+        },
+        Coerced::Str(text) => match other {
+            Coerced::Str(same) => text.as_str() == same.as_str(),
+            _ => false,
+        },
+        Coerced::Bool(truth) => match other {
+            Coerced::Bool(same) => *truth == *same,
+            _ => false,
+        },
+        Coerced::EnumName(name) => match other {
+            Coerced::EnumName(same) => name.as_str() == same.as_str(),
+            _ => false,
+        },
+        _ => false,
+    }
+}
+
+impl<'p> Weighing<'p> {
+    /// Whether neither of two literals is a variable without a value, or both are.
+    fn are_alike_absent(&self, literal: &Value, other: &Value) -> bool
+        ensures { IsTrue result → is_nothing (literal_given (scale_of self.now).values (value_tree literal.now)) ≡ is_nothing (literal_given (scale_of self.now).values (value_tree other.now)) }
+    {
+        self.is_absent(literal) == self.is_absent(other)
+    }
+
+    /// Whether a literal comes to neither a list nor an object, as far as that is seen without building it.
+    fn comes_to_leaf(&self, literal: &Value) -> bool {
+        match literal {
+            Value::List(_) => false,
+            Value::Object(_) => false,
+            Value::Var(name) => match value_of(self.variables, name.text.as_str()) {
+                Some(value) => is_leaf(value),
+                None => true,
+            },
+            _ => true,
+        }
+    }
+
+    /// Whether a literal comes to this value. Of lists and objects it says no.
+    fn comes_to(&self, alloc: Global, shape: &Shape, literal: &Value, value: &Coerced) -> bool
+        ensures { IsTrue result → ComesTo (scale_of self.now) (shape_tree shape.now) literal.now (coerced_tree value.now) }
+    {
+        if !self.comes_to_leaf(literal) {
+            return false;
+        }
+        match self.built(alloc, shape, literal) {
+            Some(built) => same_leaf_value(&built, value),
+            None => false,
+        }
+    }
+
+    /// Whether two literals are the same variable, or come to the same value. Of lists and objects it says no.
+    fn are_same_leaves(&self, alloc: Global, shape: &Shape, literal: &Value, other: &Value) -> bool
+        ensures { IsTrue result → AreSame (scale_of self.now) (shape_tree shape.now) literal.now other.now }
+    {
+        if same_variable(literal, other) {
+            return true;
+        }
+        if !self.comes_to_leaf(literal) {
+            return false;
+        }
+        match self.built(alloc, shape, literal) {
+            Some(built) => self.comes_to(alloc, shape, other, &built),
+            None => false,
+        }
+    }
+
+    /// Whether what is written for an input comes to what it is without it. Of lists and objects it says no.
+    fn is_default(&self, alloc: Global, input: &InputDef, literal: &Value) -> bool
+        ensures { IsTrue result → IsDefault (scale_of self.now) (input_data input.now) literal.now }
+    {
+        if self.is_absent(literal) {
+            return true;
+        }
+        match &input.default {
+            Some(default) => self.comes_to(alloc, &input.shape, literal, default),
+            None => false,
+        }
+    }
+}
+
+impl<'p> Loads<'p> {
+    /// Whether two literals come to the same at a place of this shape.
+    #[cycle(compares)]
+    #[tactic(auto, using(crate::proofs::OpenedTrees::opened_literals))]
+    fn are_same_literals(&self, alloc: Global, shape: &Shape, value: &Value, other: &Value) -> bool
+        ensures { AreRight self.now → IsTrue result → AreSame (scale_of self.now.of) (shape_tree shape.now) value.now other.now }
+    {
+        match value {
+            Value::List(items) => match other {
+                Value::List(others) => match shape {
+                    Shape::ListOf { item, .. } => {
+                        self.are_same_lists(alloc, &**item, items.as_slice(), others.as_slice())
+                    }
+                    Shape::Named { .. } => false,
+                },
+                _ => false,
+            },
+            Value::Object(fields) => match other {
+                Value::Object(others) => self.are_same_objects(
+                    alloc,
+                    innermost(shape),
+                    fields.as_slice(),
+                    others.as_slice(),
+                ),
+                _ => false,
+            },
+            _ => self.of.are_same_leaves(alloc, shape, value, other),
+        }
+    }
+
+    /// Whether two lists of as many items do, each item at a place of this shape.
+    #[cycle(compares)]
+    fn are_same_lists(&self, alloc: Global, item: &Shape, items: &[Value], others: &[Value]) -> bool
+        ensures { AreRight self.now → IsTrue result → AreSameLists (scale_of self.now.of) (shape_tree item.now) items.now others.now }
+    {
+        if items.len() != others.len() {
+            return false;
+        }
+        'items: for at in (0..items.len()).rev() {
+            if !self.are_same_literals(alloc, item, &items[at], &others[at]) {
+                return false;
+            }
+        }
+        true
+    }
+
+    /// Whether two objects do at an input object type.
+    #[cycle(compares)]
+    fn are_same_objects(
+        &self,
+        alloc: Global,
+        of: TypeId,
+        fields: &[Argument],
+        others: &[Argument],
+    ) -> bool
+        ensures { AreRight self.now → IsTrue result → AreSameObjects (scale_of self.now.of) of.number fields.now others.now }
+    {
+        match self.of.schema.kind(of) {
+            Kind::Input => match self.known(Owner::OfType(of)) {
+                Some(known) => self.are_same_inputs(alloc, known, fields, others),
+                None => false,
+            },
+            _ => false,
+        }
+    }
+
+    /// Whether the same is written for the inputs of a type or of a field.
+    #[cycle(compares)]
+    fn are_same_inputs(
+        &self,
+        alloc: Global,
+        known: &KnownInputs<'p>,
+        written: &[Argument],
+        others: &[Argument],
+    ) -> bool
+        ensures { AreRight self.now → IsKnown (scale_of self.now.of) known.now → IsTrue result → AreSameInputs (scale_of self.now.of) (placed_in known.now) written.now others.now }
+    {
+        match index_of(alloc, written) {
+            Ok(index) => match index_of(alloc, others) {
+                Ok(among) => {
+                    if !index.are_distinct() {
+                        return false;
+                    }
+                    if !among.are_distinct() {
+                        return false;
+                    }
+                    if !self.are_among(alloc, known, &index, others) {
+                        return false;
+                    }
+                    'written: for argument in written {
+                        if !self.is_same_among(alloc, known, argument, &among) {
+                            return false;
+                        }
+                    }
+                    true
+                }
+                Err(_) => false,
+            },
+            Err(_) => false,
+        }
+    }
+
+    /// Whether what is written for an input is the same as what stands among others.
+    #[cycle(compares)]
+    fn is_same_among(
+        &self,
+        alloc: Global,
+        known: &KnownInputs<'p>,
+        argument: &Argument,
+        others: &NameIndex<'_, Argument>,
+    ) -> bool
+        ensures { AreRight self.now → IsKnown (scale_of self.now.of) known.now → IsTrue result → IsSameAmong (scale_of self.now.of) (placed_in known.now) others.now.items.now argument.now }
+    {
+        let name = argument.name.text.as_str();
+        match known.named(name) {
+            Some(placed) => match others.first_named(name) {
+                Some(other) => {
+                    if !self.of.are_alike_absent(&argument.value, &other.value) {
+                        return false;
+                    }
+                    self.are_same_literals(
+                        alloc,
+                        &placed.input.shape,
+                        &argument.value,
+                        &other.value,
+                    )
+                }
+                None => self.of.is_default(alloc, placed.input, &argument.value),
+            },
+            None => false,
+        }
+    }
+
+    /// Whether what stands among others for an input is written too, or is the same without it.
+    fn is_among(
+        &self,
+        alloc: Global,
+        known: &KnownInputs<'p>,
+        written: &NameIndex<'_, Argument>,
+        other: &Argument,
+    ) -> bool
+        ensures { IsTrue result → IsAmong (scale_of self.now.of) (placed_in known.now) written.now.items.now other.now }
+    {
+        let name = other.name.text.as_str();
+        match known.named(name) {
+            Some(placed) => {
+                if written.has(name) {
+                    return true;
+                }
+                self.of.is_default(alloc, placed.input, &other.value)
+            }
+            None => false,
+        }
+    }
+
+    /// Whether that holds of each of them.
+    fn are_among(
+        &self,
+        alloc: Global,
+        known: &KnownInputs<'p>,
+        written: &NameIndex<'_, Argument>,
+        others: &[Argument],
+    ) -> bool
+        ensures { IsTrue result → All (IsAmong (scale_of self.now.of) (placed_in known.now) written.now.items.now) others.now }
+    {
+        for other in others {
+            if !self.is_among(alloc, known, written, other) {
+                return false;
+            }
+        }
+        true
+    }
+
+    /// Whether the arguments of a field come to the same values as others. Where that isn't seen it says no.
+    pub fn are_same(
+        &mut self,
+        alloc: Global,
+        of: FieldId,
+        written: &'p [Argument],
+        others: &[Argument],
+    ) -> Result<bool, AllocError>
+        ensures of { self.new.of ≡ self.old.of }
+        ensures right { AreRight self.old → AreRight self.new }
+        ensures same { AreRight self.old → IfOk result (λ same. IsTrue same → AreSameArguments (scale_of self.old.of) of.number written.now others.now) }
+    {
+        self.learn_inputs(alloc, Owner::OfField(of), written)?;
+        match self.known(Owner::OfField(of)) {
+            Some(known) => Ok(self.are_same_inputs(alloc, known, written, others)),
+            None => Ok(false),
+        }
+    }
+}
