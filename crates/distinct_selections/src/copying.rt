@@ -5,6 +5,7 @@ ghost use Rattle.gql_base.specs.parts.Trees.{value_tree, named_value};
 ghost use Rattle.input_values.specs.coercion.Literals.{literal_given};
 ghost use Rattle.variable_coercion.specs.Calls.{environment};
 ghost use Rattle.plan_model.specs.GivenAlike.{given_argument, AreGivenSame};
+ghost use Rattle.distinct_selections.specs.SameVariables.{AreRight};
 
 use crate::stand_ins::StandIns;
 use gql_base::{Argument, Name, Text, Value};
@@ -25,7 +26,7 @@ fn copy_variable<'a>(
     stand_ins: &StandIns<'a>,
     name: &'a Name,
 ) -> Result<Name, AllocError>
-    ensures { IfOk result (λ copy. environment stand_ins.now.variables.now copy.text ≡ environment stand_ins.now.variables.now name.now.text) }
+    ensures { AreRight stand_ins.now → IfOk result (λ copy. environment stand_ins.now.variables.now copy.text ≡ environment stand_ins.now.variables.now name.now.text) }
 {
     let own = name.text.as_str();
     let text = stand_ins.name_for(own);
@@ -51,7 +52,7 @@ fn copy_value<'a>(
     stand_ins: &StandIns<'a>,
     value: &'a Value,
 ) -> Result<Value, AllocError>
-    ensures { IfOk result (λ copy. literal_given (environment stand_ins.now.variables.now) (value_tree value.now) ≡ literal_given (environment stand_ins.now.variables.now) (value_tree copy)) }
+    ensures { AreRight stand_ins.now → IfOk result (λ copy. literal_given (environment stand_ins.now.variables.now) (value_tree value.now) ≡ literal_given (environment stand_ins.now.variables.now) (value_tree copy)) }
 {
     match value {
         Value::Var(name) => Ok(Value::Var(copy_variable(alloc, stand_ins, name)?)),
@@ -73,7 +74,7 @@ fn copy_items<'a>(
     stand_ins: &StandIns<'a>,
     items: &'a [Value],
 ) -> Result<Vec<Value>, AllocError>
-    ensures { IfOk result (λ copies. map (literal_given (environment stand_ins.now.variables.now)) (map value_tree items.now) ≡ map (literal_given (environment stand_ins.now.variables.now)) (map value_tree copies.items)) }
+    ensures { AreRight stand_ins.now → IfOk result (λ copies. map (literal_given (environment stand_ins.now.variables.now)) (map value_tree items.now) ≡ map (literal_given (environment stand_ins.now.variables.now)) (map value_tree copies.items)) }
 {
     let mut copies = Vec::new(alloc);
     'items: for item in items {
@@ -89,7 +90,7 @@ fn copy_argument<'a>(
     stand_ins: &StandIns<'a>,
     argument: &'a Argument,
 ) -> Result<Argument, AllocError>
-    ensures { IfOk result (λ copy. given_argument (environment stand_ins.now.variables.now) (named_value argument.now) ≡ given_argument (environment stand_ins.now.variables.now) (named_value copy)) }
+    ensures { AreRight stand_ins.now → IfOk result (λ copy. given_argument (environment stand_ins.now.variables.now) (named_value argument.now) ≡ given_argument (environment stand_ins.now.variables.now) (named_value copy)) }
 {
     Ok(Argument {
         name: copy_name(alloc, &argument.name)?,
@@ -103,7 +104,7 @@ pub fn copy_arguments<'a>(
     stand_ins: &StandIns<'a>,
     arguments: &'a [Argument],
 ) -> Result<Vec<Argument>, AllocError>
-    ensures { IfOk result (λ copies. AreGivenSame (environment stand_ins.now.variables.now) (map named_value arguments.now) (map named_value copies.items)) }
+    ensures { AreRight stand_ins.now → IfOk result (λ copies. AreGivenSame (environment stand_ins.now.variables.now) (map named_value arguments.now) (map named_value copies.items)) }
 {
     let mut copies = Vec::new(alloc);
     'arguments: for argument in arguments {

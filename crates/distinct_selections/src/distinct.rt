@@ -7,6 +7,7 @@ ghost use Rattle.document_rules.specs.Parts.{fragment_data};
 ghost use Rattle.variable_coercion.specs.Calls.{environment};
 ghost use Rattle.plan_model.specs.Shortening.{AreShortened, IsShortenedFragment, AreShortenedFragments};
 ghost use Rattle.distinct_selections.specs.Adding.{fragment_seen, IsFieldWith, AddsOne, AddsIncluded, AddsSpread, AddsInline};
+ghost use Rattle.distinct_selections.specs.SameVariables.{AreRight};
 
 use crate::copying::{copy_arguments, copy_maybe_name, copy_name};
 use crate::included::is_included;
@@ -39,7 +40,7 @@ fn shorten_set<'a>(
     selections: &'a [Selection],
     numbers: &mut Numbers<'a>,
 ) -> Result<Shortened, AllocError>
-    ensures { IfOk result (λ set. AreShortened (environment stand_ins.now.variables.now) (set_tree selections.now) (set_tree set.selections.items)) }
+    ensures { AreRight stand_ins.now → IfOk result (λ set. AreShortened (environment stand_ins.now.variables.now) (set_tree selections.now) (set_tree set.selections.items)) }
 {
     let mut kept = Kept::new(alloc);
     'set: for selection in selections {
@@ -65,7 +66,7 @@ fn add_selection<'a>(
     numbers: &mut Numbers<'a>,
     kept: &mut Kept,
 ) -> Result<(), AllocError>
-    ensures { OnOk result (AddsOne (environment stand_ins.now.variables.now) (selection_tree selection.now) (map selection_tree kept.old.selections.items) (map selection_tree kept.new.selections.items)) }
+    ensures { AreRight stand_ins.now → OnOk result (AddsOne (environment stand_ins.now.variables.now) (selection_tree selection.now) (map selection_tree kept.old.selections.items) (map selection_tree kept.new.selections.items)) }
 {
     match selection {
         Selection::Field(field) => {
@@ -104,7 +105,7 @@ fn field_with<'a>(
     field: &'a Field,
     selections: Vec<Selection>,
 ) -> Result<Field, AllocError>
-    ensures { IfOk result (λ f. IsFieldWith (environment stand_ins.now.variables.now) field.now (set_tree selections.items) (field_tree f)) }
+    ensures { AreRight stand_ins.now → IfOk result (λ f. IsFieldWith (environment stand_ins.now.variables.now) field.now (set_tree selections.items) (field_tree f)) }
 {
     Ok(Field {
         alias: copy_maybe_name(alloc, &field.alias)?,
@@ -123,7 +124,7 @@ fn add_field<'a>(
     numbers: &mut Numbers<'a>,
     kept: &mut Kept,
 ) -> Result<(), AllocError>
-    ensures { OnOk result (AddsIncluded (environment stand_ins.now.variables.now) (field_tree field.now) (map selection_tree kept.old.selections.items) (map selection_tree kept.new.selections.items)) }
+    ensures { AreRight stand_ins.now → OnOk result (AddsIncluded (environment stand_ins.now.variables.now) (field_tree field.now) (map selection_tree kept.old.selections.items) (map selection_tree kept.new.selections.items)) }
 {
     let below = shorten_set(alloc, stand_ins, field.selections.as_slice(), numbers)?;
     let number = numbers.of_field(alloc, stand_ins, field, below.number)?;
@@ -161,7 +162,7 @@ fn add_inline<'a>(
     numbers: &mut Numbers<'a>,
     kept: &mut Kept,
 ) -> Result<(), AllocError>
-    ensures { OnOk result (AddsInline (environment stand_ins.now.variables.now) (maybe_identifier on.now) (set_tree selections.now) (map selection_tree kept.old.selections.items) (map selection_tree kept.new.selections.items)) }
+    ensures { AreRight stand_ins.now → OnOk result (AddsInline (environment stand_ins.now.variables.now) (maybe_identifier on.now) (set_tree selections.now) (map selection_tree kept.old.selections.items) (map selection_tree kept.new.selections.items)) }
 {
     let below = shorten_set(alloc, stand_ins, selections, numbers)?;
     let number = numbers.of_inline(alloc, on, below.number)?;
@@ -185,7 +186,7 @@ fn shorten_fragment<'a>(
     fragment: &'a Fragment,
     numbers: &mut Numbers<'a>,
 ) -> Result<Fragment, AllocError>
-    ensures { IfOk result (λ f. IsShortenedFragment (environment stand_ins.now.variables.now) (fragment_data fragment.now) (fragment_data f)) }
+    ensures { AreRight stand_ins.now → IfOk result (λ f. IsShortenedFragment (environment stand_ins.now.variables.now) (fragment_data fragment.now) (fragment_data f)) }
 {
     let below = shorten_set(alloc, stand_ins, fragment.selections.as_slice(), numbers)?;
     let Shortened { selections, .. } = below;
@@ -203,7 +204,7 @@ fn shorten_fragments<'a>(
     fragments: &[&'a Fragment],
     numbers: &mut Numbers<'a>,
 ) -> Result<Vec<Fragment>, AllocError>
-    ensures { IfOk result (λ fs. AreShortenedFragments (environment stand_ins.now.variables.now) (map fragment_seen fragments.now) (map fragment_data fs.items)) }
+    ensures { AreRight stand_ins.now → IfOk result (λ fs. AreShortenedFragments (environment stand_ins.now.variables.now) (map fragment_seen fragments.now) (map fragment_data fs.items)) }
 {
     let mut shortened = Vec::new(alloc);
     for fragment in fragments {

@@ -1,9 +1,10 @@
 //! Variables in whose place others stand that have the same values (GraphQL October 2021, 6.1.2). Calls that are given different variables
 //! of the same value are written alike then.
 
-ghost use Rattle.std.specs.Prelude.{◌≡◌, IsTrue, IfOk, option_map};
+ghost use Rattle.std.specs.Prelude.{◌≡◌, IsTrue, IfOk, IfSome, option_map};
 ghost use Rattle.variable_coercion.specs.Calls.{environment};
 ghost use Rattle.input_values.specs.values.Coerced.{coerced_tree};
+ghost use Rattle.distinct_selections.specs.SameVariables.{AreRight};
 
 use crate::same_values::same_value;
 use input_values::{Coerced, CoercedField};
@@ -12,25 +13,51 @@ use std::collections::BTreeMap;
 use std::hash::{FoldHasher, Hasher};
 use variable_coercion::Variables;
 
-/// No variable stands in for one whose value has so many nodes or more: values are compared at each place where a variable is written.
+/// A value of so many nodes or more is great. The nodes of all great values together are bounded.
 const MANY: usize = 128;
+
+/// So many nodes of great values are looked at. A body can't write so many; values that objects have by the schema's defaults may have more. No
+/// variable stands in for one whose value is behind them.
+const GREAT: usize = 8_000_000;
+
+/// A text counts as one node more for so many bytes, so that long ones are passed over too.
+const BYTES: usize = 32;
 
 /// So many different values of one hash are told apart.
 const TURNS: u64 = 8;
+
+/// A variable, and another one that has the same value.
+#[derive(Drop)]
+pub struct StandIn<'a> {
+    pub name: &'a str,
+    pub other: &'a str,
+}
 
 /// The values of an operation's variables, and for some variables another one that has the same value.
 #[derive(Drop)]
 pub struct StandIns<'a> {
     pub variables: &'a Variables,
-    /// By the names of variables, those of others. Nothing rests on it, since the values are compared.
-    others: BTreeMap<&'a str, &'a str>,
+    pub others: Vec<StandIn<'a>>,
+    /// By the names of variables, their places among these. Nothing rests on it, since the names are compared.
+    places: BTreeMap<&'a str, usize>,
 }
 
-/// Adds a text of some kind to a hash.
-fn hash_text(kind: usize, text: &str, hasher: &mut FoldHasher) {
-    hasher.write_usize(kind);
-    hasher.write_usize(text.len());
-    hasher.write(text.as_bytes());
+/// A hash of a value, and how many nodes were left behind it; none where it has more.
+#[derive(Clone, Copy)]
+struct Hashed {
+    hash: u64,
+    left: usize,
+}
+
+/// Adds a text of some kind to a hash, where so many nodes are left, and gives how many are left then. It isn't read where none are.
+fn hash_text(kind: usize, text: &str, left: usize, hasher: &mut FoldHasher) -> usize {
+    let after = left.saturating_sub(text.len() / BYTES);
+    if after > 0 {
+        hasher.write_usize(kind);
+        hasher.write_usize(text.len());
+        hasher.write(text.as_bytes());
+    }
+    after
 }
 
 /// Adds a value to a hash, where so many nodes are left, and gives how many are left then. Each kind of values has a number of its own.
@@ -45,9 +72,9 @@ fn hash_value(value: &Coerced, left: usize, hasher: &mut FoldHasher) -> usize {
             hasher.write_usize(2);
             hasher.write_i128(*number);
         }
-        Coerced::Str(text) => hash_text(3, text.as_str(), hasher),
+        Coerced::Str(text) => return hash_text(3, text.as_str(), left - 1, hasher),
         Coerced::Bool(truth) => hasher.write_usize(if *truth { 4 } else { 5 }),
-        Coerced::EnumName(name) => hash_text(6, name.as_str(), hasher),
+        Coerced::EnumName(name) => return hash_text(6, name.as_str(), left - 1, hasher),
         Coerced::List(items) => return hash_items(items.as_slice(), left - 1, hasher),
         Coerced::Object(fields) => return hash_fields(fields.as_slice(), left - 1, hasher),
         Coerced::Shared(held) => return hash_value(held, left, hasher),
@@ -78,24 +105,40 @@ fn hash_fields(fields: &[CoercedField], many: usize, hasher: &mut FoldHasher) ->
         if left == 0 {
             return 0;
         }
-        hash_text(9, field.name.as_str(), hasher);
+        left = hash_text(9, field.name.as_str(), left, hasher);
         left = hash_value(&field.value, left, hasher);
     }
     left
 }
 
-/// A hash of a variable's value, or of none; none where it has many nodes.
-fn hash_of(value: Option<&Coerced>) -> Option<u64> {
+/// A hash of a variable's value, or of none, where it may have so many nodes.
+fn hash_within(value: Option<&Coerced>, many: usize) -> Hashed {
     let mut hasher = FoldHasher::default();
-    match value {
-        Some(value) => {
-            if hash_value(value, MANY, &mut hasher) == 0 {
-                return None;
-            }
+    let left = match value {
+        Some(value) => hash_value(value, many, &mut hasher),
+        None => {
+            hasher.write_usize(10);
+            many
         }
-        None => hasher.write_usize(10),
+    };
+    Hashed {
+        hash: hasher.finish(),
+        left,
     }
-    Some(hasher.finish())
+}
+
+/// The hash of a variable's value, and how many nodes of great values may still be looked at where so many may.
+fn hash_of(value: Option<&Coerced>, great: usize) -> (Option<u64>, usize) {
+    let few = hash_within(value, MANY);
+    if few.left > 0 {
+        return (Some(few.hash), great);
+    }
+    let whole = hash_within(value, great);
+    if whole.left > 0 {
+        (Some(whole.hash), whole.left)
+    } else {
+        (None, 0)
+    }
 }
 
 /// Whether two variables have the same value, or both have none.
@@ -129,22 +172,52 @@ impl<'a> StandIns<'a> {
         None
     }
 
-    /// Notes a variable: where one was noted before that has the same value, that one stands in for it; else it may stand in for
-    /// others.
-    fn note(&mut self, firsts: &mut BTreeMap<u64, &'a str>, name: &'a str) -> Result<(), AllocError>
-        ensures { self.new.variables ≡ self.old.variables }
+    /// Whether two variables have the same value.
+    fn are_same(&self, name: &str, other: &str) -> bool
+        ensures { IsTrue result → environment self.now.variables.now other.now ≡ environment self.now.variables.now name.now }
     {
-        let Some(hash) = hash_of(self.variables.value(name)) else {
-            return Ok(());
-        };
+        let variables = self.variables;
+        have_same(variables.value(other), variables.value(name))
+    }
+
+    /// Notes a variable that stands in for another one, whose value it has.
+    fn put(&mut self, name: &'a str, other: &'a str) -> Result<(), AllocError>
+        ensures variables { self.new.variables ≡ self.old.variables }
+        ensures right { environment self.old.variables.now other.now ≡ environment self.old.variables.now name.now → AreRight self.old → AreRight self.new }
+    {
+        let at = self.others.len();
+        self.others.push(StandIn { name, other })?;
+        self.places.insert(name, at)?;
+        Ok(())
+    }
+
+    /// The same, where it has.
+    fn put_same(&mut self, name: &'a str, other: &'a str) -> Result<(), AllocError>
+        ensures variables { self.new.variables ≡ self.old.variables }
+        ensures right { AreRight self.old → AreRight self.new }
+    {
+        if self.are_same(name, other) {
+            return self.put(name, other);
+        }
+        Ok(())
+    }
+
+    /// Notes a variable by the hash of its value: where one was noted before that has the same value, that one stands in for it; else it
+    /// may stand in for others.
+    fn note(
+        &mut self,
+        firsts: &mut BTreeMap<u64, &'a str>,
+        hash: u64,
+        name: &'a str,
+    ) -> Result<(), AllocError>
+        ensures variables { self.new.variables ≡ self.old.variables }
+        ensures right { AreRight self.old → AreRight self.new }
+    {
         let Some(place) = self.place_for(firsts, hash, name) else {
             return Ok(());
         };
         match firsts.get(&place).copied() {
-            Some(first) => {
-                self.others.insert(name, first)?;
-                Ok(())
-            }
+            Some(first) => self.put_same(name, first),
             None => {
                 firsts.insert(place, name)?;
                 Ok(())
@@ -154,32 +227,60 @@ impl<'a> StandIns<'a> {
 
     /// For each variable the first that has its value, as far as they are found.
     pub fn of(alloc: Global, variables: &'a Variables) -> Result<StandIns<'a>, AllocError>
-        ensures { IfOk result (λ made. made.variables.now ≡ variables.now) }
+        ensures variables { IfOk result (λ made. made.variables.now ≡ variables.now) }
+        ensures right { IfOk result AreRight }
     {
         let mut made = StandIns {
             variables,
-            others: BTreeMap::new(alloc),
+            others: Vec::new(alloc),
+            places: BTreeMap::new(alloc),
         };
         let mut firsts = BTreeMap::new(alloc);
+        let mut great = GREAT;
         for variable in variables.list() {
-            made.note(&mut firsts, variable.name.as_str())?;
+            let name = variable.name.as_str();
+            let (hash, left) = hash_of(variables.value(name), great);
+            great = left;
+            match hash {
+                Some(hash) => made.note(&mut firsts, hash, name)?,
+                None => {}
+            }
         }
         Ok(made)
     }
 
-    /// A variable that has the value of this one, which may be itself.
-    pub fn name_for(&self, name: &'a str) -> &'a str
-        ensures { environment self.now.variables.now result.now ≡ environment self.now.variables.now name.now }
+    /// The one that stands in for a variable, if it is noted at this place.
+    fn other_at(&self, at: usize, name: &str) -> Option<&'a str>
+        ensures { AreRight self.now → IfSome result (λ other. environment self.now.variables.now other.now ≡ environment self.now.variables.now name.now) }
     {
-        match self.others.get(name).copied() {
-            Some(other) => {
-                let variables = self.variables;
-                if have_same(variables.value(other), variables.value(name)) {
-                    other
+        match self.others.get(at) {
+            Some(one) => {
+                if one.name == name {
+                    Some(one.other)
                 } else {
-                    name
+                    None
                 }
             }
+            None => None,
+        }
+    }
+
+    /// The one that stands in for a variable, if one does.
+    fn other_for(&self, name: &str) -> Option<&'a str>
+        ensures { AreRight self.now → IfSome result (λ other. environment self.now.variables.now other.now ≡ environment self.now.variables.now name.now) }
+    {
+        match self.places.get(name).copied() {
+            Some(at) => self.other_at(at, name),
+            None => None,
+        }
+    }
+
+    /// A variable that has the value of this one, which may be itself.
+    pub fn name_for(&self, name: &'a str) -> &'a str
+        ensures { AreRight self.now → environment self.now.variables.now result.now ≡ environment self.now.variables.now name.now }
+    {
+        match self.other_for(name) {
+            Some(other) => other,
             None => name,
         }
     }
