@@ -5,7 +5,7 @@ use Rattle.std.specs.Prelude.{SomeIff}
 use Rattle.std.proofs.lemmas.Bool.{lt-ltb, ltb-true, cases_lt}
 use Rattle.std.proofs.lemmas.Grind.{flat_map-append}
 use Rattle.std.proofs.lemmas.List.{length-map, take_more, take_all}
-use Rattle.std.proofs.lemmas.Option.{none-some, slice_get-map, get_or_from_slice_get}
+use Rattle.std.proofs.lemmas.Option.{none-some, slice_get-map, slice_get_read, get_or_from_slice_get}
 use Rattle.plan_model.specs.Repeats.{Holds, IsThinned, LeavesOutRepeats}
 use Rattle.plan_model.proofs.Thinning.{in_two}
 use Rattle.collected_fields.specs.declared.joins.Joins.{Joins}
@@ -142,17 +142,9 @@ pub new_stands : (old new : Joins) (list : List ℕ) (place : ℕ) (number : Opt
 new_stands old new list place number P is grown at = found_stands new list place number P is
     (ap (λ ls. slice_get ls place) grown ∙ last_there (lists_of_joins old) list place (at ∙ sym (length-map old.lists.items (λ l. l.items))))
 
-pub got_here : {A : Type 0} (xs : List A) (n : ℕ) (x : A) → n < length xs → x ≡ get_or xs n x → slice_get xs n ≡ Some x
-got_here [] n x h is = absurd (none_less n h)
-  where
-    none_less : (n : ℕ) → n < 0 → ⊥
-    none_less n h = omega arith
-got_here (y ∷ xs) zero x h is = ap Some (sym is)
-got_here (y ∷ xs) (suc n) x h is = got_here xs n x (omega arith) is
-
 pub list_there : (j : Joins) (seen : List (Vec ℕ Global)) (place : ℕ) (other : Vec ℕ Global) (list : List ℕ) → seen ≡ j.lists.items → place < length seen → other ≡ get_or seen place other → other.items ≡ list → slice_get (lists_of_joins j) place ≡ Some list
 list_there j seen place other list same less here is =
-    slice_get-map (λ (l : Vec ℕ Global). l.items) j.lists.items place ∙ (ap (seen_as (λ (l : Vec ℕ Global). l.items)) (ap (λ (ls : List (Vec ℕ Global)). slice_get ls place) (sym same) ∙ got_here seen place other less here) ∙ ap Some is)
+    slice_get-map (λ (l : Vec ℕ Global). l.items) j.lists.items place ∙ (ap (seen_as (λ (l : Vec ℕ Global). l.items)) (ap (λ (ls : List (Vec ℕ Global)). slice_get ls place) (sym same) ∙ slice_get_read seen (length seen) place other refl less here) ∙ ap Some is)
 
 -- the list of a number that is one of a list
 module _ (j : Joins) (number : ℕ) (seen : List (Vec ℕ Global)) (past : j.count ≤ number) (same : seen ≡ j.lists.items) (less : number - j.count < length seen) where

@@ -1,4 +1,5 @@
 pub mod Fields
+pub mod EachLaws
 pub mod StepLaws
 pub mod PrepareLaws
 pub mod WalkLaws
@@ -16,3 +17,4 @@ pub mod ReachingLaws
 pub mod AlikeLaws
 pub mod JoinLaws
 pub mod SpreadLaws
+pub mod KindLaws

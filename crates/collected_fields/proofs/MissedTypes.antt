@@ -1,7 +1,7 @@
 -- Types that are missed, and those that are among others.
-use Rattle.std.proofs.Common.{◌≡◌, ◌⊎◌, inl, inr, ⊎_elim, ◌<◌, ◌≤◌, ◌+◌, ℕ, zero, suc, List, [], ◌∷◌, ◌++◌, map, filter, drop, length, get_or, slice_set, Bool, true, false, true≢false, ◌&&◌, ◌||◌, nat_eq, Option, Some, None, refl, sym, ap, ◌∙◌, subst, append_assoc, append-nil, arith}
+use Rattle.std.proofs.Common.{◌≡◌, ◌⊎◌, inl, inr, ⊎_elim, ◌<◌, ◌≤◌, ◌+◌, ℕ, zero, suc, List, [], ◌∷◌, ◌++◌, map, filter, drop, length, get_or, slice_set, Bool, true, false, true≢false, ◌&&◌, nat_eq, Option, Some, None, refl, sym, ap, ◌∙◌, append_assoc, append-nil, arith}
 use Rattle.std.specs.List.{list_any}
-use Rattle.std.proofs.lemmas.Bool.{cases_lt, eq-eqb, ne_eqb}
+use Rattle.std.proofs.lemmas.Bool.{cases_lt, ne_eqb}
 use Rattle.std.proofs.lemmas.List.{drop_all, get_or_past}
 use Rattle.std.proofs.lemmas.Option.{same_Some}
 use Rattle.gql_base.proofs.Lists.{at_front}
@@ -14,23 +14,17 @@ use Rattle.collected_fields.specs.Reached.{IsObjectType, is_marked_in}
 -- ---- types to which a condition applies
 
 module _ (s : SchemaData) (on : ℕ) where
-  some_possible : (types : List TypeId) → map type_number types ≡ possible s on → (length types ≡ 0 → ⊥) → on < length s.types
-  some_possible [] is some = absurd (some refl)
-  some_possible (x ∷ types) is some =
-      let there : IsPossibleType s on x.number = (possible_iff s on x.number).0 (subst (λ (ns : List ℕ). list_any (nat_eq x.number) ns ≡ true) is (ap (λ b. b || list_any (nat_eq x.number) (map type_number types)) (eq-eqb x.number x.number refl))) in
-      there.condition
-
-  not_possible : (types : List TypeId) (T : ℕ) → map type_number types ≡ possible s on → (length types ≡ 0 → ⊥) → IsObjectType s T → list_any (nat_eq T) (map type_number types) ≡ false → applies s on T ≡ false
-  not_possible types T is some object missing = unless (applies s on T) refl
+  not_possible : (types : List TypeId) (T : ℕ) → map type_number types ≡ possible s on → on < length s.types → IsObjectType s T → list_any (nat_eq T) (map type_number types) ≡ false → applies s on T ≡ false
+  not_possible types T is there object missing = unless (applies s on T) refl
     where
       unless : (b : Bool) → applies s on T ≡ b → applies s on T ≡ false
       unless true h =
-          let there : IsPossibleType s on T = record { condition = some_possible types is some; type = object.there; object = object.object; applies_there = h } in
-          absurd (true≢false (sym ((possible_iff s on T).1 there) ∙ (ap (list_any (nat_eq T)) (sym is) ∙ missing)))
+          let found : IsPossibleType s on T = record { condition = there; type = object.there; object = object.object; applies_there = h } in
+          absurd (true≢false (sym ((possible_iff s on T).1 found) ∙ (ap (list_any (nat_eq T)) (sym is) ∙ missing)))
       unless false h = h
 
-  pub missed_where : (types : List TypeId) (T : ℕ) (b : Bool) → map type_number types ≡ possible s on → (length types ≡ 0 → ⊥) → IsObjectType s T → (b && list_any (nat_eq T) (map type_number types)) ≡ false → applies s on T ≡ true → b ≡ false
-  missed_where types T b is some object missing applied = unless (list_any (nat_eq T) (map type_number types)) refl
+  pub missed_where : (types : List TypeId) (T : ℕ) (b : Bool) → map type_number types ≡ possible s on → on < length s.types → IsObjectType s T → (b && list_any (nat_eq T) (map type_number types)) ≡ false → applies s on T ≡ true → b ≡ false
+  missed_where types T b is there object missing applied = unless (list_any (nat_eq T) (map type_number types)) refl
     where
       both : (a : Bool) → (a && true) ≡ false → a ≡ false
       both true h = h
@@ -38,7 +32,7 @@ module _ (s : SchemaData) (on : ℕ) where
 
       unless : (x : Bool) → list_any (nat_eq T) (map type_number types) ≡ x → b ≡ false
       unless true h = both b (ap (λ x. b && x) (sym h) ∙ missing)
-      unless false h = absurd (true≢false (sym applied ∙ not_possible types T is some object h))
+      unless false h = absurd (true≢false (sym applied ∙ not_possible types T is there object h))
 
 -- ---- types among others
 

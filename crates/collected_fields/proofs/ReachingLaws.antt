@@ -15,6 +15,7 @@ use Rattle.collected_fields.specs.declared.tables.Tables.{Tables}
 use Rattle.collected_fields.specs.Prepared.{EntryData, list_data, entry_data}
 use Rattle.collected_fields.specs.Reached.{IsObjectType, reaches, Misses, MissesMore, MissesWhere}
 use Rattle.collected_fields.specs.Reaching.{steps_listed, enter_plain, CollectNothing, FragmentCollectsNothing, SetsCollectNothing, Passes, Reaching, ReachesSteps, ReachesStep, ReachesFragment, ReachesWhere, ReachesSets, found_of, AreReached, AreListsReached, AreAllReached, FindsOne}
+use Rattle.collected_fields.specs.Kinds.{KnowsKinds}
 use Rattle.collected_fields.specs.Lists.{lists_of_joins, sets_in_joins, IsNumberIn, HasMore}
 use Rattle.collected_fields.specs.Serving.{sets_of}
 use Rattle.collected_fields.specs.declared.steps.Step.{Step}
@@ -164,10 +165,11 @@ module _ (t : Tables) where
   list_reached j old new other number found right is h T object misses = let here = h T misses in (here.0, (right number other is).1 T object here.1)
 
   -- nothing was found
-  pub none_found : (j : Joins) (all : AllReaches) → ((set : ℕ) → found_of all.sets set ≡ None) → ((number : ℕ) → found_of all.lists number ≡ None) → AreAllReached t j all
-  none_found j all no_sets no_lists = record {
+  pub none_found : (j : Joins) (all : AllReaches) → ((set : ℕ) → found_of all.sets set ≡ None) → ((number : ℕ) → found_of all.lists number ≡ None) → KnowsKinds t all.kinds → AreAllReached t j all
+  none_found j all no_sets no_lists kinds = record {
     sets = λ set reach h. absurd (none-some reach (sym (no_sets set) ∙ h));
     lists = λ number reach h. absurd (none-some reach (sym (no_lists number) ∙ h));
+    kinds = kinds;
   }
 
   pub reached_still : (a b : Joins) (all : AllReaches) → HasMore a b → AreAllReached t a all → AreAllReached t b all
@@ -177,18 +179,20 @@ module _ (t : Tables) where
         let here = right.lists number reach h in
         let there = more number here.0 in
         (there.0, λ T object misses. subst (λ (xs : List ℕ). SetsCollectNothing t T xs) (sym there.1) (here.1 T object misses));
+    kinds = right.kinds;
   }
 
   -- of sets alone more was found
-  pub more_sets : (j : Joins) (old new : AllReaches) → new.lists ≡ old.lists → (AreReached t old.sets → AreReached t new.sets) → AreAllReached t j old → AreAllReached t j new
-  more_sets j old new same still right = record { sets = still right.sets; lists = subst (λ (r : Reaches). AreListsReached t j r) (sym same) right.lists }
+  pub more_sets : (j : Joins) (old new : AllReaches) → new.lists ≡ old.lists → new.kinds ≡ old.kinds → (AreReached t old.sets → AreReached t new.sets) → AreAllReached t j old → AreAllReached t j new
+  more_sets j old new same kinds still right = record { sets = still right.sets; lists = subst (λ (r : Reaches). AreListsReached t j r) (sym same) right.lists; kinds = subst (KnowsKinds t) (sym kinds) right.kinds }
 
   -- of sets more was found, and then of a list
-  pub list_more : (j : Joins) (old new : AllReaches) (none reach : Reach) (number : ℕ) (sets : List ℕ) → (AreReached t old.sets → AreReached t new.sets) → FindsOne old.lists new.lists number reach → IsNumberIn j number → sets ≡ sets_in_joins j number → (AreReached t old.sets → ReachesSets t none reach sets)
+  pub list_more : (j : Joins) (old new : AllReaches) (none reach : Reach) (number : ℕ) (sets : List ℕ) → new.kinds ≡ old.kinds → (AreReached t old.sets → AreReached t new.sets) → FindsOne old.lists new.lists number reach → IsNumberIn j number → sets ≡ sets_in_joins j number → (AreReached t old.sets → ReachesSets t none reach sets)
       → AreAllReached t j old → AreAllReached t j new
-  list_more j old new none reach number sets still one there is adds right = record {
+  list_more j old new none reach number sets kinds still one there is adds right = record {
     sets = still right.sets;
     lists = lists_right j old.lists new.lists none reach number sets right.lists one there is (adds right.sets);
+    kinds = subst (KnowsKinds t) (sym kinds) right.kinds;
   }
 
   -- the set of a number that is that of a set

@@ -19,7 +19,8 @@ use Rattle.plan_model.specs.MergingWalk.{OneRanked, AreRanked}
 use Rattle.plan_model.specs.Repeats.{Holds, IsThinned}
 use Rattle.cost_directives.proofs.FirstsFound.{never, found_passes}
 use Rattle.plan_model.proofs.Thinning.{held_left, held_right, held_either, IsIn, seen_more, all_stay, in_two}
-use Rattle.collected_fields.specs.Steps.{StepData, field_step, spread_step, inline_step, fields_of_steps, IsClosed, Stands, fields_of_fragment, by_number, StepsRanked, LeavesOutUnknown, StandsFor}
+use Rattle.collected_fields.specs.Steps.{StepData, field_step, spread_step, inline_step, fields_of_steps, IsClosed, Stands, fields_of_fragment, by_number, StepsRanked, LeavesOutUnknown, SameStep, SameSteps, StandsFor}
+use Rattle.collected_fields.proofs.EachLaws.{each_apart}
 use Rattle.collected_fields.specs.Prepared.{spread_steps, steps_of_spread, conditional_steps, steps_where, steps_of_inline}
 
 module _ (s : SchemaData) (T : ℕ) (spread : ℕ → List CollectedField) where
@@ -70,11 +71,13 @@ Gives e before parent t steps = (T : ℕ) (spread : List ℕ → List CollectedF
     → IsThinned (fields_of_steps e.schema T (by_number e spread) 0 before) (fields_of e T spread parent t) (fields_of_steps e.schema T (by_number e spread) 0 steps)
 
 one_stands : (e : Setting) (before : List StepData) (parent : Option ℕ) (t : SelectionTree) (steps : List StepData) → is_included e.values t ≡ true → Gives e before parent t steps → IsClosed steps
-    → ((rank : List ℕ → ℕ) (bound : ℕ) → OneRanked rank bound t → StepsRanked e rank bound steps) → StandsFor e before parent (t ∷ []) steps
-one_stands e before parent t steps stays gives closed ranks = record {
+    → ((rank : List ℕ → ℕ) (bound : ℕ) → OneRanked rank bound t → StepsRanked e rank bound steps)
+    → ((T U : ℕ) (spread : List ℕ → List CollectedField) → SameSteps e.schema T U steps → fields_of e T spread parent t ≡ fields_of e U spread parent t) → StandsFor e before parent (t ∷ []) steps
+one_stands e before parent t steps stays gives closed ranks alike = record {
   fields = λ T spread unknown. subst (λ (fs : List CollectedField). IsThinned (fields_of_steps e.schema T (by_number e spread) 0 before) fs (fields_of_steps e.schema T (by_number e spread) 0 steps)) (sym (fields_alone e T spread parent t stays)) (gives T spread unknown);
   closed = closed;
   ranks = λ rank bound r. ranks rank bound r.0;
+  alike = λ T U spread same. fields_alone e T spread parent t stays ∙ (alike T U spread same ∙ sym (fields_alone e U spread parent t stays));
 }
 
 pub left_out : (e : Setting) (before : List StepData) (parent : Option ℕ) (t : SelectionTree) → is_included e.values t ≡ false → StandsFor e before parent (t ∷ []) []
@@ -82,6 +85,7 @@ left_out e before parent t goes = record {
   fields = λ T spread unknown. rw (goes) tt;
   closed = λ s T spread others. refl;
   ranks = λ rank bound r. tt;
+  alike = λ T U spread same. rw (goes) refl;
 }
 
 module _ (e : Setting) (before : List StepData) (parent : Option ℕ) where
@@ -91,28 +95,28 @@ module _ (e : Setting) (before : List StepData) (parent : Option ℕ) where
   pub field_stands : (names : FieldNames) (arguments : List NamedValue) (directives : List DirectiveTree) (below : SelectionTrees) (number : ℕ) → is_included e.values (field_selection names arguments directives below) ≡ true
       → StandsFor e before parent (field_selection names arguments directives below ∷ []) (field_step (the_field names arguments below) number ∷ [])
   field_stands names arguments directives below number stays = one_stands e before parent (field_selection names arguments directives below) (field_step (the_field names arguments below) number ∷ []) stays
-      (λ T spread unknown. inl (refl, tt)) (λ s T spread others. refl) (λ rank bound r. tt)
+      (λ T spread unknown. inl (refl, tt)) (λ s T spread others. refl) (λ rank bound r. tt) (λ T U spread same. refl)
 
   pub repeat_stands : (names : FieldNames) (arguments : List NamedValue) (directives : List DirectiveTree) (below : SelectionTrees) → is_included e.values (field_selection names arguments directives below) ≡ true
       → Stands before (the_field names arguments below) → StandsFor e before parent (field_selection names arguments directives below ∷ []) []
   repeat_stands names arguments directives below stays stands = one_stands e before parent (field_selection names arguments directives below) [] stays
-      (λ T spread unknown. (stands e.schema T (by_number e spread), tt)) (λ s T spread others. refl) (λ rank bound r. tt)
+      (λ T spread unknown. (stands e.schema T (by_number e spread), tt)) (λ s T spread others. refl) (λ rank bound r. tt) (λ T U spread same. refl)
 
 -- ---- spreads
 
 -- the fragment of a number that a name has
-record IsNamed (e : Setting) (name : List ℕ) (number : ℕ) : Type 0 where
-  fragment : FragmentData
-  there : slice_get e.fragments number ≡ Some fragment
-  same : fragment_name fragment ≡ name
-  first : fragment_named e name ≡ Some fragment
+pub record IsNamed (e : Setting) (name : List ℕ) (number : ℕ) : Type 0 where
+  pub fragment : FragmentData
+  pub there : slice_get e.fragments number ≡ Some fragment
+  pub same : fragment_name fragment ≡ name
+  pub first : fragment_named e name ≡ Some fragment
 
 got_within : {A : Type 0} (xs : List A) (n : ℕ) → n < length xs → (x : A) × (slice_get xs n ≡ Some x)
 got_within [] n h = absurd (never n h)
 got_within (x ∷ xs) zero h = (x, refl)
 got_within (x ∷ xs) (suc n) h = got_within xs n (omega arith)
 
-named_at : (e : Setting) (name : List ℕ) (number : ℕ) → place_of_name fragment_name e.fragments name ≡ Some number → IsNamed e name number
+pub named_at : (e : Setting) (name : List ℕ) (number : ℕ) → place_of_name fragment_name e.fragments name ≡ Some number → IsNamed e name number
 unfolding fragment_named
 named_at e name number is =
     let test : FragmentData → Bool = λ f. bytes_eq (fragment_name f) name in
@@ -135,7 +139,7 @@ module _ (e : Setting) (before : List StepData) (parent : Option ℕ) where
       → StandsFor e before parent (fragment_spread name directives ∷ []) (spread_steps o)
   spread_alone name directives None stays is = one_stands e before parent (fragment_spread name directives) [] stays
       (λ T spread unknown. subst (λ (fs : List CollectedField). IsThinned (fields_of_steps e.schema T (by_number e spread) 0 before) fs []) (sym (unknown name.0 (unnamed_at e name.0 is))) tt)
-      (λ s T spread others. refl) (λ rank bound r. tt)
+      (λ s T spread others. refl) (λ rank bound r. tt) (λ T U spread same. refl)
   spread_alone name directives (Some number) stays is =
       let n = named_at e name.0 number is in
       one_stands e before parent (fragment_spread name directives) (spread_step number ∷ []) stays
@@ -143,7 +147,7 @@ module _ (e : Setting) (before : List StepData) (parent : Option ℕ) where
       (ap spread (sym n.same) ∙ (ap (fields_of_fragment spread) (sym n.there) ∙ sym (append-nil (by_number e spread number))))
       (all_stay (fields_of_steps e.schema T (by_number e spread) 0 before) (spread name.0)))
       (λ s T spread others. ap (λ (fs : List CollectedField). fs ++ fields_of_steps s T spread 0 others) (sym (append-nil (spread number))))
-      (λ rank bound r. (record { fragment = n.fragment; there = n.there; first = ap (fragment_named e) n.same ∙ n.first; less = subst (λ (m : List ℕ). rank m < bound) (sym n.same) r }, tt))
+      (λ rank bound r. (record { fragment = n.fragment; there = n.there; first = ap (fragment_named e) n.same ∙ n.first; less = subst (λ (m : List ℕ). rank m < bound) (sym n.same) r }, tt)) (λ T U spread same. refl)
 
   pub spread_stands : (name : Identifier) (directives : List DirectiveTree) → is_included e.values (fragment_spread name directives) ≡ true
       → StandsFor e before parent (fragment_spread name directives ∷ []) (steps_of_spread e name.0)
@@ -206,10 +210,31 @@ module _ (e : Setting) (parent : Option ℕ) (ts : List SelectionTree) (steps : 
   inline_ranks None rank bound r = stands.ranks rank bound r
   inline_ranks (Some on) rank bound r = conditional_ranks (type_named e.schema on.0) rank bound (stands.ranks rank bound r)
 
+  -- where the conditions apply to both types or to neither
+  alike_where : (T U : ℕ) (spread : List ℕ → List CollectedField) (b c : Bool) → b ≡ c → SameSteps e.schema T U steps → (if b then fields_in e T spread parent (selections_from ts) else []) ≡ (if c then fields_in e U spread parent (selections_from ts) else [])
+  alike_where T U spread b c is same =
+      ap (λ (x : Bool). if x then fields_in e T spread parent (selections_from ts) else []) is ∙ ap (λ (fs : List CollectedField). if c then fs else []) (stands.alike T U spread same)
+
+  conditional_alike : (o : Option ℕ) (T U : ℕ) (spread : List ℕ → List CollectedField) → SameSteps e.schema T U (conditional_steps o steps)
+      → (if applies_where e.schema T o then fields_in e T spread parent (selections_from ts) else []) ≡ (if applies_where e.schema U o then fields_in e U spread parent (selections_from ts) else [])
+  conditional_alike None T U spread same = refl
+  conditional_alike (Some on) T U spread same = alike_where T U spread (applies e.schema on T) (applies e.schema on U) same.0 same.1
+
+  named_alike : (name : List ℕ) (T U : ℕ) (spread : List ℕ → List CollectedField) → SameSteps e.schema T U (steps_where e.schema name steps)
+      → (if applies_by_name e.schema T name then fields_in e T spread parent (selections_from ts) else []) ≡ (if applies_by_name e.schema U name then fields_in e U spread parent (selections_from ts) else [])
+  unfolding applies_by_name
+  named_alike name T U spread same = conditional_alike (type_named e.schema name) T U spread same
+
+  inline_alike : (on : Option Identifier) (T U : ℕ) (spread : List ℕ → List CollectedField) → SameSteps e.schema T U (steps_of_inline e.schema on steps)
+      → (if applies_if_named e.schema T on then fields_in e T spread parent (selections_from ts) else []) ≡ (if applies_if_named e.schema U on then fields_in e U spread parent (selections_from ts) else [])
+  inline_alike None T U spread same = stands.alike T U spread same
+  inline_alike (Some on) T U spread same = named_alike on.0 T U spread same
+
 pub inline_stands : (e : Setting) (before : List StepData) (parent : Option ℕ) (on : Option Identifier) (directives : List DirectiveTree) (ts : List SelectionTree) (steps : List StepData) → is_included e.values (inline_fragment on directives (selections_from ts)) ≡ true
     → StandsFor e [] (below_inline e.schema parent on) ts steps → StandsFor e before parent (inline_fragment on directives (selections_from ts) ∷ []) (steps_of_inline e.schema on steps)
 inline_stands e before parent on directives ts steps stays stands = one_stands e before parent (inline_fragment on directives (selections_from ts)) (steps_of_inline e.schema on steps) stays
     (inline_where e (below_inline e.schema parent on) ts steps stands before on) (inline_closed e (below_inline e.schema parent on) ts steps stands on) (inline_ranks e (below_inline e.schema parent on) ts steps stands on)
+    (inline_alike e (below_inline e.schema parent on) ts steps stands on)
 
 -- ---- one selection behind others
 
@@ -230,7 +255,7 @@ steps_ranked e rank bound (spread_step number ∷ xs) ys r q = (r.0, steps_ranke
 steps_ranked e rank bound (inline_step on count ∷ xs) ys r q = steps_ranked e rank bound xs ys r q
 
 pub nothing_stands : (e : Setting) (parent : Option ℕ) → StandsFor e [] parent [] []
-nothing_stands e parent = record { fields = λ T spread unknown. tt; closed = λ s T spread others. refl; ranks = λ rank bound r. tt }
+nothing_stands e parent = record { fields = λ T spread unknown. tt; closed = λ s T spread others. refl; ranks = λ rank bound r. tt; alike = λ T U spread same. refl }
 
 pub next_stands : (e : Setting) (parent : Option ℕ) (ts : List SelectionTree) (t : SelectionTree) (xs ys : List StepData) → StandsFor e [] parent ts xs → StandsFor e xs parent (t ∷ []) ys → StandsFor e [] parent (ts ++ (t ∷ [])) (xs ++ ys)
 next_stands e parent ts t xs ys a b = record {
@@ -242,4 +267,9 @@ next_stands e parent ts t xs ys a b = record {
       (in_two [] (fields_in e T spread parent (selections_from ts)) fx (fields_in e T spread parent (selections_from (t ∷ []))) fy (a.fields T spread unknown) (b.fields T spread unknown)));
   closed = closed_both xs ys a.closed b.closed;
   ranks = λ rank bound r. let both = ranked_apart rank bound ts (t ∷ []) r in steps_ranked e rank bound xs ys (a.ranks rank bound both.0) (b.ranks rank bound both.1);
+  alike = λ T U spread same.
+      let both = each_apart (SameStep e.schema T U) xs ys same in
+      fields_in_two e T spread parent ts (t ∷ [])
+      ∙ (ap (λ (fs : List CollectedField). fs ++ fields_in e T spread parent (selections_from (t ∷ []))) (a.alike T U spread both.0)
+      ∙ (ap (λ (fs : List CollectedField). fields_in e U spread parent (selections_from ts) ++ fs) (b.alike T U spread both.1) ∙ sym (fields_in_two e U spread parent ts (t ∷ []))));
 }

@@ -17,3 +17,4 @@ pub mod Joining
 -- For objects of which types there are fields.
 pub mod Reached
 pub mod Reaching
+pub mod Kinds

@@ -8,6 +8,7 @@ use Rattle.collected_fields.specs.declared.reaching.AllReaches.{AllReaches}
 use Rattle.collected_fields.specs.declared.reaching.Reaches.{Reaches}
 use Rattle.collected_fields.specs.declared.tables.Tables.{Tables}
 use Rattle.collected_fields.specs.Lists.{sets_in_joins, IsNumberIn}
+use Rattle.collected_fields.specs.Kinds.{KnowsKinds}
 use Rattle.collected_fields.specs.Prepared.{list_data, entry_data}
 use Rattle.collected_fields.specs.Reached.{Misses, IsObjectType}
 use Rattle.collected_fields.specs.Steps.{StepData}
@@ -76,6 +77,7 @@ AreListsReached t j found = (number : ℕ) (reach : Reach) → found_of found nu
 pub record AreAllReached (t : Tables) (j : Joins) (all : AllReaches) : Type 0 where
   pub sets : AreReached t all.sets
   pub lists : AreListsReached t j all.lists
+  pub kinds : KnowsKinds t all.kinds
 
 -- What was found was found before, or is this of this number.
 abbrev pub FindsOne : Reaches → Reaches → ℕ → Reach → Type 0

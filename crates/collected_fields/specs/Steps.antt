@@ -83,9 +83,26 @@ StepsRanked e rank bound (inline_step on count ∷ xs) = StepsRanked e rank boun
 abbrev pub LeavesOutUnknown : Setting → (List ℕ → List CollectedField) → Type 0
 LeavesOutUnknown e spread = (name : List ℕ) → fragment_named e name ≡ None → spread name ≡ []
 
+-- ---- types between which conditions make no difference
+
+-- so it is of each element
+abbrev pub Each : {A : Type 0} → (A → Type 0) → List A → Type 0
+Each P [] = Unit {0}
+Each P (x ∷ xs) = P x × Each P xs
+
+-- The condition of a step applies to both types, or to neither.
+abbrev pub SameStep : SchemaData → ℕ → ℕ → StepData → Type 0
+SameStep s T U (field_step f below) = Unit {0}
+SameStep s T U (spread_step number) = Unit {0}
+SameStep s T U (inline_step on count) = applies s on T ≡ applies s on U
+
+abbrev pub SameSteps : SchemaData → ℕ → ℕ → List StepData → Type 0
+SameSteps s T U steps = Each (SameStep s T U) steps
+
 -- Behind others, steps come to the fields of selections that are written on a type, where repeats are left out.
 pub record StandsFor (e : Setting) (before : List StepData) (parent : Option ℕ) (selections : List SelectionTree) (steps : List StepData) : Type 0 where
   pub fields : (T : ℕ) (spread : List ℕ → List CollectedField) → LeavesOutUnknown e spread
       → IsThinned (fields_of_steps e.schema T (by_number e spread) 0 before) (fields_in e T spread parent (selections_from selections)) (fields_of_steps e.schema T (by_number e spread) 0 steps)
   pub closed : IsClosed steps
   pub ranks : (rank : List ℕ → ℕ) (bound : ℕ) → AreRanked rank bound (selections_from selections) → StepsRanked e rank bound steps
+  pub alike : (T U : ℕ) (spread : List ℕ → List CollectedField) → SameSteps e.schema T U steps → fields_in e T spread parent (selections_from selections) ≡ fields_in e U spread parent (selections_from selections)

@@ -11,6 +11,7 @@ mod group;
 mod hashes;
 mod joins;
 mod key_hashing;
+mod kinds;
 mod lookups;
 mod met;
 mod order;

@@ -4,7 +4,7 @@ use input_values::TypeId;
 use std::alloc::{AllocError, Global};
 
 /// What takes no more steps is found again rather than kept.
-const SHORT: usize = 8;
+pub(crate) const SHORT: usize = 8;
 
 /// Whether so many steps are many for so few fields.
 pub(crate) fn are_many(steps: usize, fields: usize) -> bool {
@@ -24,6 +24,8 @@ pub struct Met {
     /// How many steps were walked for which none was spent yet on finding numbers apart. So finding them takes no longer than the
     /// walks that gave rise to it.
     credit: usize,
+    /// How many steps were walked altogether.
+    walked: usize,
 }
 
 impl Met {
@@ -31,16 +33,23 @@ impl Met {
         Met {
             times: Vec::new(alloc),
             credit: 0,
+            walked: 0,
         }
     }
 
     /// Notes that so many steps were walked: for a position, or to find a number apart, by which they are spent.
     pub(crate) fn walked(&mut self, steps: usize, apart: bool) {
+        self.walked = self.walked.saturating_add(steps);
         self.credit = if apart {
             self.credit.saturating_sub(steps)
         } else {
             self.credit.saturating_add(steps)
         };
+    }
+
+    /// How many steps were walked.
+    pub(crate) fn steps(&self) -> usize {
+        self.walked
     }
 
     /// Whether a number, which is met for a type, is to be found apart: where it was met once before, and something is left to be

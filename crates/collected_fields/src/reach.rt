@@ -24,7 +24,7 @@ pub enum Reach {
 }
 
 /// Whether a type is among others.
-fn is_among(of: TypeId, types: &[TypeId]) -> bool
+pub fn is_among(of: TypeId, types: &[TypeId]) -> bool
     ensures { result ≡ list_any (nat_eq of.number) (map type_number types.now) }
 {
     for other in types {
@@ -207,16 +207,16 @@ impl Reach {
         Ok(())
     }
 
-    /// Adds all objects to which a condition applies, or all types where it applies to none.
+    /// Adds all objects to which a condition applies, or all types where it is of none of the schema.
     fn add_possible(&mut self, schema: &Schema, on: TypeId) -> Result<(), AllocError>
         ensures { OnOk result (MissesPossible (schema_data schema.now) on.number self.old self.new (λ T. true)) }
     {
         let types = schema.possible(on);
-        if types.is_empty() {
-            self.widen();
-            return Ok(());
+        if schema.has_type(on) {
+            return self.add_all(types);
         }
-        self.add_all(types)
+        self.widen();
+        Ok(())
     }
 
     /// The same of those that are marked.
@@ -232,11 +232,11 @@ impl Reach {
         if marks.is_empty() {
             return Ok(());
         }
-        if types.is_empty() {
-            self.widen();
-            return Ok(());
+        if schema.has_type(on) {
+            return self.add_those(types, marks);
         }
-        self.add_those(types, marks)
+        self.widen();
+        Ok(())
     }
 
     /// Adds those types of another to which a condition applies.

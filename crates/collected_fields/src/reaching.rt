@@ -8,6 +8,7 @@ ghost use Rattle.collected_fields.specs.Lists.{sets_in_joins};
 ghost use Rattle.collected_fields.specs.Reaching.{ReachesSteps, ReachesStep, ReachesFragment, ReachesWhere, ReachesSets, found_of, AreReached, AreAllReached, FindsOne, ReachesNumbers};
 
 use crate::joins::Joins;
+use crate::kinds::Kinds;
 use crate::order::order_of;
 use crate::reach::Reach;
 use crate::room::Room;
@@ -59,11 +60,12 @@ impl Reaches {
     }
 }
 
-/// What was found of selection sets and of lists of them.
+/// What was found of selection sets and of lists of them, and of types.
 #[derive(Drop)]
 pub struct AllReaches {
     pub sets: Reaches,
     pub lists: Reaches,
+    pub kinds: Kinds,
     /// Whether all fragments were looked into.
     fragments: bool,
     room: Room,
@@ -76,9 +78,11 @@ impl AllReaches {
     {
         let sets = Reaches::new(alloc);
         let lists = Reaches::new(alloc);
+        let kinds = Kinds::new(alloc);
         AllReaches {
             sets,
             lists,
+            kinds,
             fragments: false,
             room: Room::new(),
         }
@@ -309,6 +313,7 @@ fn find_fragments(
 /// takes no calls in one another for fragments.
 fn begin(alloc: Global, tables: &Tables<'_>, all: &mut AllReaches) -> Result<(), AllocError>
     ensures lists { all.new.lists ≡ all.old.lists }
+    ensures kinds { all.new.kinds ≡ all.old.kinds }
     ensures still { AreReached tables.now all.old.sets → AreReached tables.now all.new.sets }
 {
     if all.fragments {

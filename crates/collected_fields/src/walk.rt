@@ -13,6 +13,7 @@ ghost use Rattle.collected_fields.specs.Walks.{walk_data, numbered, is_marked, m
 use crate::collected::Collected;
 use crate::findings::Findings;
 use crate::joins::Joins;
+use crate::met::SHORT;
 use crate::state::Walk;
 use crate::steps::Step;
 use crate::tables::{Entry, Tables};
@@ -61,6 +62,8 @@ impl<'a> Walk<'a> {
             entered: Vec::new(alloc),
             fields: Vec::new(alloc),
             steps: 0,
+            long: Vec::new(alloc),
+            left: 0,
         })
     }
 
@@ -71,6 +74,8 @@ impl<'a> Walk<'a> {
         unmark(&mut self.marks, &mut self.entered);
         self.fields.clear();
         self.steps = 0;
+        self.long.clear();
+        self.left = 0;
     }
 
     fn is_marked(&self, number: usize) -> bool
@@ -112,6 +117,18 @@ impl<'a> Walk<'a> {
         ensures { walk_data self.new ≡ walk_data self.old }
     {
         self.steps = self.steps.wrapping_add(steps);
+        self.left = self.left.wrapping_add(steps);
+    }
+
+    /// Notes a fragment that took many steps, where so many were in none that was noted before it was entered.
+    fn note(&mut self, number: usize, before: usize) -> Result<(), AllocError>
+        ensures { OnOk result (walk_data self.new ≡ walk_data self.old) }
+    {
+        if self.left.saturating_sub(before) > SHORT {
+            self.long.push(number)?;
+            self.left = before;
+        }
+        Ok(())
     }
 }
 
@@ -251,7 +268,9 @@ fn walk_fragment<'a>(
         return Ok(());
     }
     walk.mark(number)?;
-    walk_entry(tables, known, of, depth - 1, number, walk)
+    let before = walk.left;
+    walk_entry(tables, known, of, depth - 1, number, walk)?;
+    walk.note(number, before)
 }
 
 /// The selections of the fragment of a number, where its type applies.
