@@ -1,7 +1,7 @@
 -- One node: its outcome, its row, and what stands below it.
 use Rattle.std.proofs.Common.{◌≡◌, ℕ, zero, suc, ◌+◌, ◌-◌, ◌<◌, ◌≤◌, List, [], ◌∷◌, ◌++◌, map, flat_map, Bool, true, false, append_assoc, Option, Some, None, Result, Ok, Err, OnOk, refl, sym, ap, ◌∙◌, subst, arith, if◌then◌else◌}
 use Rattle.std.specs.List.{list_any}
-use Rattle.std.specs.Prelude.{All}
+use Rattle.std.specs.Prelude.{All, IfSome}
 use Rattle.cost_num.specs.Capped.{capped}
 use Rattle.response_model.specs.Plan.{Form}
 use Rattle.input_values.specs.declared.inputs.shape.TypeId.{TypeId}
@@ -31,7 +31,7 @@ use Rattle.merged_selections.specs.declared.node.Looked.{Looked}
 use Rattle.merged_selections.specs.declared.building.Building.{Building}
 use Rattle.merged_selections.specs.declared.calls.Calls.{Calls}
 use Rattle.merged_selections.specs.NodeParts.{handed_data, types_at, when_true}
-use Rattle.merged_selections.specs.NodeTests.{IsThere, IsFound, AreKept}
+use Rattle.merged_selections.specs.NodeTests.{IsThere, IsFound, IsLookedAt, AreKept}
 use Rattle.merged_selections.specs.Outcomes.{Outcome, has_left, used_up, unless_fault, outcome, under_outcome, IsStop}
 use Rattle.merged_selections.specs.Stages.{levels_from, key_seen, types_rows, node_visits, node_row, node_rows, frame, setting_built, position_built, node_seen, group_position, CanBuild, BuildsRows, BuildsTypes, row_looked, PushesRow}
 use Rattle.merged_selections.proofs.VisitedParts.{node_past_limit, deep_past_limit, deep_outcome, node_outcome, same_stop}
@@ -210,11 +210,18 @@ can_after old c planning written more ready can = record {
 pub kept_before : (old : Building) (pl : Planning) → pl ≡ planning_of old.collector → CanBuild old → AreKept (setting_of_planning pl) old.calls
 kept_before old pl is can = subst (λ (x : Planning). AreKept (setting_of_planning x) old.calls) (sym is) can.calls
 
+pub kept_still : (old : Building) (pl : Planning) (calls : Calls) → pl ≡ planning_of old.collector → (AreKept (setting_of_planning pl) old.calls → AreKept (setting_of_planning pl) calls) → CanBuild old → AreKept (setting_built old) calls
+kept_still old pl calls is kept can = subst (λ (x : Planning). AreKept (setting_of_planning x) calls) is (kept (kept_before old pl is can))
+
+-- what was found of it before
+pub seen_before : (old : Building) (pl : Planning) (T : ℕ) (handed : HandedSize) (fields : List CollectedField) (looked : Option Looked) → pl ≡ planning_of old.collector → IfSome looked (IsLookedAt (setting_built old) T handed fields) → IfSome looked (IsLookedAt (setting_of_planning pl) T handed fields)
+seen_before old pl T handed fields looked is seen = subst (λ (x : Planning). IfSome looked (IsLookedAt (setting_of_planning x) T handed fields)) (sym is) seen
+
 pub can_still : (old : Building) (pl : Planning) (left : ℕ) (calls : Calls) → pl ≡ planning_of old.collector → (AreKept (setting_of_planning pl) old.calls → AreKept (setting_of_planning pl) calls) → CanBuild old
     → CanBuild (record { collector = old.collector; plan = old.plan; left = left; calls = calls; keys = old.keys; known = old.known })
 can_still old pl left calls is kept can = record {
   collector = can.collector;
   plan = can.plan;
-  calls = subst (λ (x : Planning). AreKept (setting_of_planning x) calls) is (kept (kept_before old pl is can));
+  calls = kept_still old pl calls is kept can;
   known = can.known;
 }

@@ -1,6 +1,7 @@
 -- Building goes on, stops and ends.
 use Rattle.std.proofs.Common.{◌≡◌, inl, inr, ℕ, ◌+◌, ◌<◌, ◌≤◌, List, [], ◌∷◌, ◌++◌, map, flat_map, drop, length, get_or, All, Bool, true, false, append_assoc, append-nil, Option, None, Result, Ok, Err, refl, sym, ap, ◌∙◌, subst, arith}
 use Rattle.std.specs.Prelude.{IfSome}
+use Rattle.std.specs.List.{slice_get}
 use Rattle.std.proofs.lemmas.List.{drop_all}
 use Rattle.std.proofs.lemmas.List.Elements.{All-head, All-tail, All-cons, All-get_or}
 use Rattle.gql_base.proofs.Lists.{at_front}
@@ -22,7 +23,6 @@ use Rattle.collected_fields.specs.Groups.{GroupData, AreGroupsOf}
 use Rattle.collected_fields.specs.Lists.{HasMore}
 use Rattle.collected_fields.specs.Gathering.{Gathers, IsReady, setting_at, IsNumber, meaning_at, written_at, group_seen, groups_seen, IsGroupAt, GivesGroups}
 use Rattle.collected_fields.specs.Alone.{SpreadsAlone}
-use Rattle.collected_fields.specs.declared.planning.Planning.{Planning}
 use Rattle.schema_model.specs.SchemaData.{SchemaData}
 use Rattle.collected_fields.proofs.GrowingLaws.{same_meanings, still_known}
 use Rattle.merged_selections.specs.declared.stop.Stop.{Stop}
@@ -30,8 +30,12 @@ use Rattle.merged_selections.specs.declared.building.Building.{Building}
 use Rattle.merged_selections.specs.Outcomes.{has_left, outcome, IsStop}
 use Rattle.merged_selections.specs.Stages.{levels_from, type_visits, type_rows, types_rows, node_visits, node_rows, groups_visits, groups_rows, Frame, frame, setting_built, position_built, CanBuild, CanBuildAt, CanBuildGroup, BuildsRows, BuildsTypes, BuildsType, BuildsGroups, BuildsGroup}
 use Rattle.merged_selections.proofs.VisitedParts.{goes_on, stays_stopped, same_stop, none_visited}
-use Rattle.merged_selections.specs.Again.{ComeToSame, IsSound, StandFor, MayBeKnown, FindsFor}
-use Rattle.merged_selections.proofs.MetAgain.{visited_equal, position_still, acyclic_before, told_still, may_still, found_stand}
+use Rattle.merged_selections.specs.declared.node.Looked.{Looked}
+use Rattle.merged_selections.specs.declared.known.FoundGroups.{FoundGroups}
+use Rattle.merged_selections.specs.NodeTests.{IsLookedAt}
+use Rattle.merged_selections.specs.Again.{ComeToSame, IsSound, StandFor, AreLooked, MayBeKnown, FindsFor}
+use Rattle.merged_selections.proofs.LookedNodes.{none_looked, looked_here}
+use Rattle.merged_selections.proofs.MetAgain.{visited_equal, position_still, acyclic_before, told_still, may_still, found_looked, found_stand}
 use Rattle.merged_selections.proofs.BuiltParts.{visits_next, no_visits, rows_next, no_rows, gathered_visits, gathered_rows}
 
 -- ---- lists of visits, and of rows
@@ -100,10 +104,10 @@ module _ (old now : Building) (same : frame now ≡ frame old) (more : HasMore o
     abbrev GroupRows : ℕ → Bool → HandedSize → Setting → GroupData → Type 0
     GroupRows T first handed x g = BuildsRows result now new (node_visits x T handed (levels_from depth) g) (node_rows x T handed (levels_from depth) depth first g)
 
-    one_group : (T : ℕ) (first : Bool) (g : Group) (handed : HandedSize) → (CanBuild old → CanBuild now) → BuildsGroup now depth result new T first g handed → CanBuild old → CanBuildGroup old g
+    one_group : (T : ℕ) (first : Bool) (g : Group) (looked : Option Looked) (handed : HandedSize) → (CanBuild old → CanBuild now) → BuildsGroup now depth result new T first g looked handed → IfSome looked (IsLookedAt (setting_built old) T handed (map collected_field g.fields.items)) → CanBuild old → CanBuildGroup old g
         → BuildsRows result now new (node_visits (setting_built old) T handed (levels_from depth) (group_seen old.collector g)) (node_rows (setting_built old) T handed (levels_from depth) depth first (group_seen old.collector g))
-    one_group T first g handed ready h can can_g =
-        subst (λ (x : Setting). GroupRows T first handed x (group_seen old.collector g)) same_setting (subst (λ (d : GroupData). GroupRows T first handed (setting_built now) d) (same_group g can_g.below.0) (h (ready can, can_group g can_g)))
+    one_group T first g looked handed ready h seen can can_g =
+        subst (λ (x : Setting). GroupRows T first handed x (group_seen old.collector g)) same_setting (subst (λ (d : GroupData). GroupRows T first handed (setting_built now) d) (same_group g can_g.below.0) (h (subst (λ (x : Setting). IfSome looked (IsLookedAt x T handed (map collected_field g.fields.items))) (sym same_setting) seen) (ready can, can_group g can_g)))
 
 -- ---- types one after another
 
@@ -150,7 +154,7 @@ module _ (old now new : Building) (depth : ℕ) (types : List TypeId) (lists : L
 
 -- ---- keys one after another
 
-module _ (old now new : Building) (depth T : ℕ) (groups : List Group) (handed : HandedSize) (at : ℕ) (first : Bool) where
+module _ (old now new : Building) (depth T : ℕ) (groups : List Group) (looked : List Looked) (handed : HandedSize) (at : ℕ) (first : Bool) where
   abbrev e' : Setting
   e' = setting_built old
 
@@ -161,7 +165,7 @@ module _ (old now new : Building) (depth T : ℕ) (groups : List Group) (handed 
   rows_from start gs = groups_rows e' T handed (levels_from depth) depth start (groups_seen old.collector gs)
 
   abbrev GroupsSoFar : ℕ → Bool → Building → Type 0
-  GroupsSoFar i start b = CanBuild old × All (CanBuildGroup old) groups → (outcome old.left (visits_of_groups groups) ≡ outcome b.left (visits_of_groups (drop i groups))) × (table_rows b.plan ++ rows_from start (drop i groups) ≡ table_rows old.plan ++ rows_from true groups)
+  GroupsSoFar i start b = AreLooked e' T handed groups looked → CanBuild old × All (CanBuildGroup old) groups → (outcome old.left (visits_of_groups groups) ≡ outcome b.left (visits_of_groups (drop i groups))) × (table_rows b.plan ++ rows_from start (drop i groups) ≡ table_rows old.plan ++ rows_from true groups)
 
   module _ (same : frame now ≡ frame old) (more : HasMore old.collector.joins now.collector.joins) (ready : CanBuild old → CanBuild now) (so_far : GroupsSoFar at first now) where
     module _ (g : Group) (within : at < length groups) (is : g ≡ get_or groups at g) where
@@ -174,21 +178,24 @@ module _ (old now new : Building) (depth T : ℕ) (groups : List Group) (handed 
       can_here : All (CanBuildGroup old) groups → CanBuildGroup old g
       can_here all = subst (λ x. CanBuildGroup old x) (sym is) (All-get_or (CanBuildGroup old) groups at g within all)
 
-      pub groups_stop : (stop : Stop) → BuildsGroup now depth (Err stop) new T first g handed → BuildsGroups old depth (Err stop) new T groups handed
-      groups_stop stop h can = visits_stop old.left now.left (visits_of_groups groups) (visits_of_groups (drop at groups)) one_visits (visits_of_groups (drop (at + 1) groups)) ((so_far can).0) (ap visits_of_groups (at_front groups at g within is)) stop
-          (one_group old now same more depth (Err stop) new T first g handed ready h can.0 (can_here can.1))
+      seen_here : AreLooked e' T handed groups looked → IfSome (slice_get looked at) (IsLookedAt e' T handed (map collected_field g.fields.items))
+      seen_here seen = looked_here e' T handed groups looked at g within is seen
 
-      pub groups_go : (done : Unit {0}) → BuildsGroup now depth (Ok done) new T first g handed → GroupsSoFar (at + 1) false new
-      groups_go done h can =
-          let here = one_group old now same more depth (Ok done) new T first g handed ready h can.0 (can_here can.1) in (
-            visits_go old.left now.left (visits_of_groups groups) (visits_of_groups (drop at groups)) one_visits (visits_of_groups (drop (at + 1) groups)) ((so_far can).0) (ap visits_of_groups (at_front groups at g within is)) new.left here.0,
-            rows_go (table_rows old.plan) (table_rows now.plan) (table_rows new.plan) (rows_from true groups) (rows_from first (drop at groups)) one_rows (rows_from false (drop (at + 1) groups)) ((so_far can).1) (ap (rows_from first) (at_front groups at g within is)) here.1,
+      pub groups_stop : (stop : Stop) → BuildsGroup now depth (Err stop) new T first g (slice_get looked at) handed → BuildsGroups old depth (Err stop) new T groups looked handed
+      groups_stop stop h seen can = visits_stop old.left now.left (visits_of_groups groups) (visits_of_groups (drop at groups)) one_visits (visits_of_groups (drop (at + 1) groups)) ((so_far seen can).0) (ap visits_of_groups (at_front groups at g within is)) stop
+          (one_group old now same more depth (Err stop) new T first g (slice_get looked at) handed ready h (seen_here seen) can.0 (can_here can.1))
+
+      pub groups_go : (done : Unit {0}) → BuildsGroup now depth (Ok done) new T first g (slice_get looked at) handed → GroupsSoFar (at + 1) false new
+      groups_go done h seen can =
+          let here = one_group old now same more depth (Ok done) new T first g (slice_get looked at) handed ready h (seen_here seen) can.0 (can_here can.1) in (
+            visits_go old.left now.left (visits_of_groups groups) (visits_of_groups (drop at groups)) one_visits (visits_of_groups (drop (at + 1) groups)) ((so_far seen can).0) (ap visits_of_groups (at_front groups at g within is)) new.left here.0,
+            rows_go (table_rows old.plan) (table_rows now.plan) (table_rows new.plan) (rows_from true groups) (rows_from first (drop at groups)) one_rows (rows_from false (drop (at + 1) groups)) ((so_far seen can).1) (ap (rows_from first) (at_front groups at g within is)) here.1,
           )
 
-    pub groups_end : length groups ≤ at → (done : Unit {0}) → BuildsGroups old depth (Ok done) now T groups handed
-    groups_end past done can = (
-      (so_far can).0 ∙ (ap (λ gs. outcome now.left (visits_of_groups gs)) (drop_all at groups past) ∙ none_visited now.left),
-      rows_end (table_rows old.plan) (table_rows now.plan) (rows_from true groups) (rows_from first (drop at groups)) ((so_far can).1) (ap (rows_from first) (drop_all at groups past)),
+    pub groups_end : length groups ≤ at → (done : Unit {0}) → BuildsGroups old depth (Ok done) now T groups looked handed
+    groups_end past done seen can = (
+      (so_far seen can).0 ∙ (ap (λ gs. outcome now.left (visits_of_groups gs)) (drop_all at groups past) ∙ none_visited now.left),
+      rows_end (table_rows old.plan) (table_rows now.plan) (rows_from true groups) (rows_from first (drop at groups)) ((so_far seen can).1) (ap (rows_from first) (drop_all at groups past)),
     )
 
 -- ---- the keys of a type
@@ -245,7 +252,7 @@ gathered_can old mid same T lists groups gives ready acyclic =
         All-cons (CanBuildGroup mid) x gs (record { filled = here.0; below = (here.1.0, subst (λ (s : Setting). IsAcyclic s (position_built mid x.below.items None)) (sym (ap setting_of same)) here.1.1) }) (all_can gs (All-tail P x gs a))
 
 module _ (old mid new : Building) (same : frame mid ≡ frame old) (left : mid.left ≡ old.left) (table : table_rows mid.plan ≡ table_rows old.plan) (depth T : ℕ) (lists : List ℕ) (handed : HandedSize) (groups : List Group) where
-  pub type_built : (result : Result (Unit {0}) Stop) → (CanBuild old → CanBuild mid) → GivesGroups old.collector mid.collector T lists groups → BuildsGroups mid depth result new T groups handed → BuildsType old depth result new T lists handed
+  pub type_built : (result : Result (Unit {0}) Stop) → (CanBuild old → CanBuild mid) → GivesGroups old.collector mid.collector T lists groups → BuildsGroups mid depth result new T groups [] handed → BuildsType old depth result new T lists handed
   type_built result ready gives h can =
       let e : Setting = setting_built old in
       let none : Position = position_built old lists None in
@@ -255,7 +262,7 @@ module _ (old mid new : Building) (same : frame mid ≡ frame old) (left : mid.l
       let setting_there : setting_built mid ≡ e = ap setting_of same in
       let can_groups : All (CanBuildGroup mid) groups = gathered_can old mid same T lists groups gives can.0.collector can.1.1 in
       moved result (groups_visits e T handed (levels_from depth) (groups_seen mid.collector groups)) (type_visits e (levels_from depth) p T) (groups_rows e T handed (levels_from depth) depth true (groups_seen mid.collector groups)) (type_rows e (levels_from depth) depth p T)
-      (subst (λ (x : Setting). BuildsRows result mid new (groups_visits x T handed (levels_from depth) (groups_seen mid.collector groups)) (groups_rows x T handed (levels_from depth) depth true (groups_seen mid.collector groups))) setting_there (h (ready can.0, can_groups)))
+      (subst (λ (x : Setting). BuildsRows result mid new (groups_visits x T handed (levels_from depth) (groups_seen mid.collector groups)) (groups_rows x T handed (levels_from depth) depth true (groups_seen mid.collector groups))) setting_there (h (none_looked (setting_built mid) T handed groups) (ready can.0, can_groups)))
       (gathered_visits e T p (groups_seen mid.collector groups) gathers (levels_from depth)) (gathered_rows e T p (groups_seen mid.collector groups) gathers (levels_from depth) depth)
     where
       moved : (result : Result (Unit {0}) Stop) (vs us : List Visit) (rows others : List Row) → BuildsRows result mid new vs rows → vs ≡ us → rows ≡ others → BuildsRows result old new us others
@@ -271,18 +278,19 @@ can_groups : (b : Building) (groups : List Group) → All (IsSound b.collector) 
 can_groups b groups sound = λ k d less. let here = sound k d less in record { filled = here.0.filled; below = (here.0.known, here.1) }
 
 -- of a position that is met again
-pub known_built : (old new : Building) (depth T : ℕ) (lists : List ℕ) (handed : HandedSize) (spread : Option (List ℕ)) (groups : List Group) (s : SchemaData) (result : Result (Unit {0}) Stop) → (setting_at old.collector).schema ≡ s → FindsFor s old.known T lists spread groups
-    → IfSome spread (SpreadsAlone old.collector lists) → BuildsGroups old depth result new T groups handed → BuildsType old depth result new T lists handed
-known_built old new depth T lists handed spread groups s result schema found alone h can =
-    let stand : StandFor old.collector T lists groups = found_stand old.collector old.known s T lists spread groups schema can.0.known found alone can.1.1 in
+pub known_built : (old new : Building) (depth T : ℕ) (lists : List ℕ) (handed : HandedSize) (spread : Option (List ℕ)) (f : FoundGroups) (s : SchemaData) (result : Result (Unit {0}) Stop) → (setting_at old.collector).schema ≡ s → FindsFor s old.known T lists spread handed f
+    → IfSome spread (SpreadsAlone old.collector lists) → BuildsGroups old depth result new T f.groups.items f.looked.items handed → BuildsType old depth result new T lists handed
+known_built old new depth T lists handed spread f s result schema found alone h can =
+    let groups : List Group = f.groups.items in
+    let stand : StandFor old.collector T lists groups = found_stand old.collector old.known s T lists spread handed f schema can.0.known found alone can.1.1 in
     subst (λ (vs : List Visit). BuildsRows result old new vs (type_rows (setting_built old) (levels_from depth) depth (position_built old lists handed) T)) (stand.come.visits handed (levels_from depth))
     (subst (λ (rows : List Row). BuildsRows result old new (groups_visits (setting_built old) T handed (levels_from depth) (groups_seen old.collector groups)) rows) (stand.come.rows handed (levels_from depth) depth)
-    (h (can.0, can_groups old groups stand.sound)))
+    (h (found_looked old.collector old.known s T lists spread handed f schema can.0.known found) (can.0, can_groups old groups stand.sound)))
 
 -- Where nodes were built of the groups of a position, these stand for it.
 module _ (old mid new : Building) (same : frame mid ≡ frame old) (after : frame new ≡ frame mid) (more : HasMore old.collector.joins mid.collector.joins) (more_after : HasMore mid.collector.joins new.collector.joins) (ready : CanBuild old) (can : CanBuild mid) where
   pub built_known : (depth T : ℕ) (lists : List ℕ) (handed : HandedSize) (spread : Option (List ℕ)) (groups : List Group) (done : Unit {0}) → All (IsNumber old.collector) lists → IfSome spread (SpreadsAlone old.collector lists) → GivesGroups old.collector mid.collector T lists groups
-      → BuildsGroups mid depth (Ok done) new T groups handed → MayBeKnown new.collector T lists spread groups
+      → BuildsGroups mid depth (Ok done) new T groups [] handed → MayBeKnown new.collector T lists spread groups
   built_known depth T lists handed spread groups done known alone gives built =
       may_still mid.collector new.collector (ap (λ (f : Frame). f.0) after) (ap (λ (f : Frame). f.1) after) more_after T lists spread groups (record {
         numbers = still_known old.collector mid.collector (ap (λ (f : Frame). f.1) same) more lists known;
@@ -295,7 +303,7 @@ module _ (old mid new : Building) (same : frame mid ≡ frame old) (after : fram
             let g : Gathers e T none (groups_seen mid.collector groups) = gives.found ready.collector before in
             record {
               sound = sound_groups mid groups groups_can;
-              equal = visited_equal (setting_built mid) T handed mid.left new.left (levels_from depth) (groups_seen mid.collector groups) (built (can, groups_can)).0;
+              equal = visited_equal (setting_built mid) T handed mid.left new.left (levels_from depth) (groups_seen mid.collector groups) (built (none_looked (setting_built mid) T handed groups) (can, groups_can)).0;
               come = subst (λ (x : Setting). ComeToSame x T (groups_seen mid.collector groups) (position_built mid lists None)) (sym (ap setting_of same))
                   (subst (λ (p : Position). ComeToSame e T (groups_seen mid.collector groups) p) (sym (position_still old.collector mid.collector (ap (λ (f : Frame). f.0) same) (ap (λ (f : Frame). f.1) same) more lists known)) (record {
                     visits = λ h levels. gathered_visits e T (position_built old lists h) (groups_seen mid.collector groups) (record { fields = g.fields; repeats = g.repeats; grouped = g.grouped }) levels;

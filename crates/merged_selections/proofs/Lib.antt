@@ -1,6 +1,7 @@
 pub mod AlikeArguments
 pub mod EqualCalls
 pub mod KeptCalls
+pub mod MadeCalls
 pub mod ComparedCalls
 pub mod BuiltNodes
 pub mod BuiltParts
@@ -11,4 +12,5 @@ pub mod NodeFaults
 pub mod NodeSizes
 pub mod VisitedParts
 pub mod SomeFields
+pub mod LookedNodes
 pub mod MetAgain

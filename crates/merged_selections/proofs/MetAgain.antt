@@ -1,5 +1,5 @@
 -- Groups that are known for positions, while there come to be more numbers, and where a position is met again.
-use Rattle.std.proofs.Common.{◌≡◌, ◌<◌, ℕ, zero, suc, Bool, true, false, List, [], ◌∷◌, ◌++◌, map, flat_map, All, Option, Some, None, Ok, refl, sym, ap, ◌∙◌, subst, arith}
+use Rattle.std.proofs.Common.{◌≡◌, ◌<◌, ℕ, zero, suc, true, List, [], ◌∷◌, ◌++◌, map, flat_map, All, Option, Some, None, refl, sym, ap, ◌∙◌, subst, arith}
 use Rattle.std.specs.Prelude.{IfSome}
 use Rattle.std.specs.Borrow.{Bor}
 use Rattle.std.specs.List.{slice_get}
@@ -13,22 +13,24 @@ use Rattle.plan_model.specs.Merging.{Position, fields_at, keys_of, fields_of_key
 use Rattle.plan_model.specs.MergingWalk.{IsAcyclic, AllRanked}
 use Rattle.plan_model.specs.Plans.{with_capped, type_weight}
 use Rattle.plan_model.specs.Visits.{NodeFault, fault_of, Visit, visits_of, visits, too_deep_at, planned_nodes}
-use Rattle.plan_table.specs.Rows.{Row, rows_of_nodes}
-use Rattle.collected_fields.specs.declared.planning.Planning.{Planning}
+use Rattle.plan_table.specs.Rows.{rows_of_nodes}
 use Rattle.collected_fields.specs.declared.collector.Collector.{Collector}
 use Rattle.collected_fields.specs.declared.collected.Group.{Group}
 use Rattle.collected_fields.specs.Views.{setting_of_planning, collected_field}
 use Rattle.collected_fields.specs.Groups.{GroupData}
 use Rattle.collected_fields.specs.Lists.{HasMore}
-use Rattle.collected_fields.specs.Gathering.{planning_of, setting_at, written_at, position_at, meaning_at, IsNumber, group_seen, groups_seen}
+use Rattle.collected_fields.specs.Gathering.{planning_of, setting_at, written_at, position_at, IsNumber, group_seen, groups_seen}
 use Rattle.collected_fields.specs.Alone.{SpreadsAlone}
 use Rattle.collected_fields.proofs.GrowingLaws.{same_meanings, still_known}
 use Rattle.merged_selections.specs.declared.known.Known.{Known}
 use Rattle.merged_selections.specs.declared.known.KnownGroups.{KnownGroups}
 use Rattle.merged_selections.specs.Outcomes.{Outcome, has_left, outcome, unless_fault}
 use Rattle.merged_selections.specs.Nodes.{type_visits, planned_below, type_rows, node_visits, groups_visits}
-use Rattle.merged_selections.specs.Again.{AreEqualFields, AreEqualGroups, HaveSome, ComeToSame, IsSound, StandFor, MayBeKnown, IsKnown, AreKnown, name_in, IsSamePlace, FindsFor}
+use Rattle.merged_selections.specs.declared.known.FoundGroups.{FoundGroups}
+use Rattle.merged_selections.specs.NodeParts.{handed_data}
+use Rattle.merged_selections.specs.Again.{AreEqualFields, AreEqualGroups, HaveSome, ComeToSame, IsSound, StandFor, AreLooked, MayBeKnown, IsKnown, AreKnown, name_in, IsSamePlace, FindsFor}
 use Rattle.merged_selections.proofs.SomeFields.{faultless_equal, stand_shorter}
+use Rattle.merged_selections.proofs.LookedNodes.{looked_shorter, taken}
 
 -- ---- nodes that have no fault
 
@@ -173,8 +175,14 @@ module _ (c d : Collector) (planning : planning_of d ≡ planning_of c) (written
     stand = λ acyclic. stand_still T numbers groups may.numbers (may.stand (acyclic_before numbers may.numbers acyclic));
   }
 
+  known_one : (k : KnownGroups) → IsKnown c k → IsKnown d k
+  known_one k is = record {
+    groups = may_still k.of.number k.lists.items (name_in k.spread) k.groups.items is.groups;
+    looked = subst (λ (x : Setting). AreLooked x k.of.number (handed_data k.handed) k.groups.items k.looked.items) (sym setting_still) is.looked;
+  }
+
   pub known_still : (known : Known) → AreKnown c known → AreKnown d known
-  known_still known all = λ k default less. may_still _ _ _ _ (all k default less)
+  known_still known all = λ k default less. known_one _ (all k default less)
 
 -- ---- groups that are kept
 
@@ -206,12 +214,24 @@ module _ (c : Collector) (own numbers : List ℕ) where
 known_at : (c : Collector) (all : List KnownGroups) (at : ℕ) (k : KnownGroups) → slice_get all at ≡ Some k → All (IsKnown c) all → IsKnown c k
 known_at c all at k is known = subst (IsKnown c) (get_or_from_slice_get all at k k is) (known at k (slice_get_within all at k is))
 
-pub found_stand : (c : Collector) (known : Known) (s : SchemaData) (T : ℕ) (numbers : List ℕ) (spread : Option (List ℕ)) (groups : List Group) → (setting_at c).schema ≡ s → AreKnown c known → FindsFor s known T numbers spread groups
-    → IfSome spread (SpreadsAlone c numbers) → IsAcyclic (setting_at c) (position_at c numbers) → StandFor c T numbers groups
-found_stand c known s T numbers spread groups schema all found alone acyclic =
+-- what is found of their nodes
+pub found_looked : (c : Collector) (known : Known) (s : SchemaData) (T : ℕ) (numbers : List ℕ) (spread : Option (List ℕ)) (handed : HandedSize) (f : FoundGroups) → (setting_at c).schema ≡ s → AreKnown c known → FindsFor s known T numbers spread handed f
+    → AreLooked (setting_at c) T handed f.groups.items f.looked.items
+found_looked c known s T numbers spread handed f schema all found =
+    let k : KnownGroups = found.one in
+    let is : IsKnown c k = known_at c known.made.items found.at k found.there all in
+    subst (λ (n : ℕ). AreLooked (setting_at c) n handed f.groups.items f.looked.items) found.for_it.0
+    (looked_shorter (setting_at c) k.of.number handed k.groups.items f.groups.items f.looked.items (subst (λ (x : SchemaData). HaveSome x k.groups.items f.groups.items) (sym schema) found.some)
+    (taken (setting_at c) k handed k.groups.items f.looked.items found.looked is.looked))
+
+pub found_stand : (c : Collector) (known : Known) (s : SchemaData) (T : ℕ) (numbers : List ℕ) (spread : Option (List ℕ)) (handed : HandedSize) (f : FoundGroups) → (setting_at c).schema ≡ s → AreKnown c known → FindsFor s known T numbers spread handed f
+    → IfSome spread (SpreadsAlone c numbers) → IsAcyclic (setting_at c) (position_at c numbers) → StandFor c T numbers f.groups.items
+found_stand c known s T numbers spread handed f schema all found alone acyclic =
     let k : KnownGroups = found.one in
     let own : List ℕ = k.lists.items in
-    let may : IsKnown c k = known_at c known.made.items found.at k found.there all in
+    let groups : List Group = f.groups.items in
+    let is : IsKnown c k = known_at c known.made.items found.at k found.there all in
+    let may : MayBeKnown c k.of.number own (name_in k.spread) k.groups.items = is.groups in
     let is_there = there c own numbers (name_in k.spread) spread may.spread found.for_it.1 alone acyclic in
     let stand : StandFor c k.of.number own groups = stand_shorter c k.of.number own k.groups.items groups (subst (λ (x : SchemaData). HaveSome x k.groups.items groups) (sym schema) found.some) (may.stand is_there.0) in
     subst (λ (n : ℕ). StandFor c n numbers groups) found.for_it.0 (record {

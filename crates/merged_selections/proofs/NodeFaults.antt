@@ -2,7 +2,7 @@
 use Rattle.std.proofs.Common.{◌≡◌, ℕ, Bool, true, false, not, ◌&&◌, ◌||◌, if◌then◌else◌, List, [], ◌∷◌, bytes_eq, Option, Some, None, Result, Ok, Err, refl, sym, ap, ◌∙◌, subst}
 use Rattle.std.specs.Prelude.{option_map}
 use Rattle.std.specs.List.{list_any}
-use Rattle.std.proofs.lemmas.Bool.{not-false}
+use Rattle.std.proofs.lemmas.Bool.{not-false, or_parts}
 use Rattle.std.proofs.lemmas.Slice.Eq.{bytes_eq-Decides}
 use Rattle.cost_num.specs.Capped.{capped}
 use Rattle.response_model.specs.Plan.{Form, single, listed}
@@ -32,10 +32,6 @@ same_themselves args = (same_as_equal args args).1 refl
 mapped_or : {A B : Type 0} (f : A → B) (o p : Option A) → or_else (option_map f o) (option_map f p) ≡ option_map f (or_else o p)
 mapped_or f None p = refl
 mapped_or f (Some x) p = refl
-
-or_parts : (a b : Bool) → a || b ≡ false → (a ≡ false) × (b ≡ false)
-or_parts true b h = absurd (cc)
-or_parts false b h = (refl, h)
 
 module _ (e : Setting) (T : ℕ) (m : Meaning) where
   -- ---- the tests by the meaning of the name

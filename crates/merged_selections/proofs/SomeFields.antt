@@ -1,18 +1,20 @@
 -- Fields of one key without those that change nothing, and what is visited and planned of them.
-use Rattle.std.proofs.Common.{◌≡◌, ◌<◌, ◌≤◌, ◌+◌, ◌||◌, ℕ, zero, suc, drop, take, get_or, Bool, true, false, not, true≢false, List, [], ◌∷◌, ◌++◌, map, flat_map, length, All, Option, Some, None, refl, sym, ap, ◌∙◌, subst, arith}
+use Rattle.std.proofs.Common.{◌≡◌, ◌<◌, ◌≤◌, ◌+◌, ◌||◌, ℕ, zero, suc, drop, take, get_or, Bool, true, false, not, true≢false, List, [], ◌∷◌, ◌++◌, map, flat_map, length, All, Option, Some, None, refl, sym, ap, ◌∙◌, subst}
 use Rattle.std.specs.List.{list_any}
-use Rattle.std.specs.Prelude.{option_to_list}
+use Rattle.std.specs.Prelude.{option_to_list, is_some}
+use Rattle.std.proofs.lemmas.Bool.{or_parts, or_from}
 use Rattle.std.specs.Str.{bytes_eq}
 use Rattle.std.proofs.lemmas.List.Elements.{All-head, All-tail, All-cons}
 use Rattle.std.proofs.lemmas.List.{drop_all, take_more, take_all}
 use Rattle.gql_base.proofs.Lists.{at_front}
 use Rattle.schema_model.specs.SchemaData.{SchemaData}
 use Rattle.schema_rules.specs.First.{or_else, fault_where, first_of}
+use Rattle.schema_rules.proofs.FirstFaults.{neither, not_told}
 use Rattle.response_model.specs.Plan.{Plan as PlanTree}
 use Rattle.plan_model.specs.SelectedFields.{Setting, FieldCall, HandedSize, types_of, lacks_types, place_at, form_at, size_at, weight_at, cost_at, hands_at, arguments_at, if_coerced}
 use Rattle.plan_model.specs.Collecting.{CollectedField, WrittenSelections}
 use Rattle.plan_model.specs.SameArguments.{same_arguments}
-use Rattle.plan_model.specs.Merging.{Position, first_call, selected_by}
+use Rattle.plan_model.specs.Merging.{first_call}
 use Rattle.plan_model.specs.MergingWalk.{IsAcyclic}
 use Rattle.plan_model.specs.Plans.{with_capped, type_weight}
 use Rattle.plan_model.specs.Visits.{NodeFault, conflict, no_possible_type, argument_fault, arguments_differ, names_differ, size_fault, fault_of, Visit, visits_of, visits, too_deep_at}
@@ -22,18 +24,11 @@ use Rattle.collected_fields.specs.declared.collected.Collected.{Collected}
 use Rattle.collected_fields.specs.declared.collected.Group.{Group}
 use Rattle.collected_fields.specs.Views.{collected_field, asks_in}
 use Rattle.collected_fields.specs.Groups.{GroupData}
-use Rattle.collected_fields.specs.Gathering.{setting_at, position_at, meaning_at, IsNumber, IsGroupAt, group_seen, groups_seen}
+use Rattle.collected_fields.specs.Gathering.{setting_at, position_at, meaning_at, IsNumber, group_seen, groups_seen}
+use Rattle.merged_selections.specs.declared.node.Looked.{Looked}
+use Rattle.merged_selections.specs.NodeTests.{IsFound, IsLookedAt}
 use Rattle.merged_selections.specs.Nodes.{key_seen, planned_below, node_visits, node_rows, groups_visits, groups_rows}
 use Rattle.merged_selections.specs.Again.{AreEqualFields, AreEqualGroups, AreSome, IsFirstAsking, HasSome, HaveSome, IsSound, StandFor}
-
--- ---- tests
-
-either_false : (a b : Bool) → (a || b) ≡ false → (a ≡ false) × (b ≡ false)
-either_false true b h = absurd (true≢false h)
-either_false false b h = (refl, h)
-
-neither : (a b : Bool) → a ≡ false → b ≡ false → (a || b) ≡ false
-neither a b h k = ap (λ (x : Bool). x || b) h ∙ k
 
 -- ---- the first of some fields, and one that asks
 
@@ -42,7 +37,7 @@ module _ (s : SchemaData) (f : CollectedField) (others : List CollectedField) wh
   others_ask = list_any (asks_in s) others
 
   first_passes : (test : CollectedField → Bool) → list_any test (f ∷ others) ≡ false → list_any test (f ∷ []) ≡ false
-  first_passes test none = neither (test f) false (either_false (test f) (list_any test others) none).0 refl
+  first_passes test none = or_from (test f) false (or_parts (test f) (list_any test others) none).0 refl
 
   pub first_alone : asks_in s f ≡ true → AreSome s (f ∷ others) (f ∷ [])
   first_alone asks = record {
@@ -63,42 +58,30 @@ module _ (s : SchemaData) (f : CollectedField) (others : List CollectedField) wh
     key = refl;
     call = refl;
     asked = ap (λ (b : Bool). b || (asks_in s g || false)) isnt ∙ (ap (λ (b : Bool). b || false) is.0 ∙ sym (ap (λ (b : Bool). b || others_ask) isnt ∙ is.1));
-    among = λ test none. let h = either_false (test f) (list_any test others) none in neither (test f) (test g || false) h.0 (neither (test g) false (is.2 test h.1) refl);
+    among = λ test none. let h = or_parts (test f) (list_any test others) none in or_from (test f) (test g || false) h.0 (or_from (test g) false (is.2 test h.1) refl);
   }
 
 -- one of the fields asks, or none of them does
 pub asks_first : (s : SchemaData) (f : CollectedField) (fields : List CollectedField) → asks_in s f ≡ true → IsFirstAsking s (f ∷ fields) (Some f)
-asks_first s f fields asks = (asks, ap (λ (b : Bool). b || list_any (asks_in s) fields) asks, λ test none. (either_false (test f) (list_any test fields) none).0)
+asks_first s f fields asks = (asks, ap (λ (b : Bool). b || list_any (asks_in s) fields) asks, λ test none. (or_parts (test f) (list_any test fields) none).0)
 
 pub asks_later : (s : SchemaData) (f : CollectedField) (fields : List CollectedField) (one : Option CollectedField) → asks_in s f ≡ false → IsFirstAsking s fields one → IsFirstAsking s (f ∷ fields) one
-asks_later s f fields None isnt none = neither (asks_in s f) (list_any (asks_in s) fields) isnt none
-asks_later s f fields (Some g) isnt is = (is.0, ap (λ (b : Bool). b || list_any (asks_in s) fields) isnt ∙ is.1, λ test none. is.2 test (either_false (test f) (list_any test fields) none).1)
+asks_later s f fields None isnt none = or_from (asks_in s f) (list_any (asks_in s) fields) isnt none
+asks_later s f fields (Some g) isnt is = (is.0, ap (λ (b : Bool). b || list_any (asks_in s) fields) isnt ∙ is.1, λ test none. is.2 test (or_parts (test f) (list_any test fields) none).1)
 
 -- ---- no fault
 
-abbrev is_there : {A : Type 0} → Option A → Bool
-is_there None = false
-is_there (Some x) = true
-
-both_none : {A : Type 0} (o rest : Option A) → or_else o rest ≡ None → (o ≡ None) × (rest ≡ None)
-both_none None rest h = (refl, h)
-both_none (Some x) rest h = absurd (cc)
-
-not_there : {A B : Type 0} (p : A → Option B) (xs : List A) → first_of p xs ≡ None → list_any (λ x. is_there (p x)) xs ≡ false
+not_there : {A B : Type 0} (p : A → Option B) (xs : List A) → first_of p xs ≡ None → list_any (λ x. is_some (p x)) xs ≡ false
 not_there p [] h = refl
-not_there p (x ∷ xs) h = let b = both_none (p x) (first_of p xs) h in neither (is_there (p x)) (list_any (λ x. is_there (p x)) xs) (ap is_there b.0) (not_there p xs b.1)
+not_there p (x ∷ xs) h = let b = neither (p x) (first_of p xs) h in or_from (is_some (p x)) (list_any (λ x. is_some (p x)) xs) (ap is_some b.0) (not_there p xs b.1)
 
-none_there : {B : Type 0} (o : Option B) → is_there o ≡ false → o ≡ None
+none_there : {B : Type 0} (o : Option B) → is_some o ≡ false → o ≡ None
 none_there None h = refl
 none_there (Some x) h = absurd (true≢false h)
 
-none_first : {A B : Type 0} (p : A → Option B) (xs : List A) → list_any (λ x. is_there (p x)) xs ≡ false → first_of p xs ≡ None
+none_first : {A B : Type 0} (p : A → Option B) (xs : List A) → list_any (λ x. is_some (p x)) xs ≡ false → first_of p xs ≡ None
 none_first {B = B} p [] h = refl
-none_first {B = B} p (x ∷ xs) h = let b = either_false (is_there (p x)) (list_any (λ x. is_there (p x)) xs) h in ap (λ (o : Option B). or_else o (first_of p xs)) (none_there (p x) b.0) ∙ none_first p xs b.1
-
-no_fault_where : {A : Type 0} (b : Bool) (x : A) → fault_where b x ≡ None → b ≡ false
-no_fault_where true x h = absurd (cc)
-no_fault_where false x h = refl
+none_first {B = B} p (x ∷ xs) h = let b = or_parts (is_some (p x)) (list_any (λ x. is_some (p x)) xs) h in ap (λ (o : Option B). or_else o (first_of p xs)) (none_there (p x) b.0) ∙ none_first p xs b.1
 
 module _ (e : Setting) (T : ℕ) where
   abbrev fault_left : HandedSize → FieldCall → Option NodeFault
@@ -108,10 +91,10 @@ module _ (e : Setting) (T : ℕ) where
   pub faultless_equal : (handed : HandedSize) (fields : List CollectedField) → fault_of e T handed fields ≡ None → AreEqualFields e T fields
   faultless_equal handed fields none =
       let after_arguments : Option NodeFault = or_else (fault_where (arguments_differ e T fields) conflict) (fault_left handed (first_call fields)) in
-      let names = both_none (fault_where (names_differ fields) conflict) (or_else (first_of (argument_fault e T) fields) after_arguments) none in
-      let coerced = both_none (first_of (argument_fault e T) fields) after_arguments names.1 in
-      let arguments = both_none (fault_where (arguments_differ e T fields) conflict) (fault_left handed (first_call fields)) coerced.1 in
-      record { names = no_fault_where (names_differ fields) conflict names.0; coerced = coerced.0; arguments = no_fault_where (arguments_differ e T fields) conflict arguments.0 }
+      let names = neither (fault_where (names_differ fields) conflict) (or_else (first_of (argument_fault e T) fields) after_arguments) none in
+      let coerced = neither (first_of (argument_fault e T) fields) after_arguments names.1 in
+      let arguments = neither (fault_where (arguments_differ e T fields) conflict) (fault_left handed (first_call fields)) coerced.1 in
+      record { names = not_told (names_differ fields) conflict names.0; coerced = coerced.0; arguments = not_told (arguments_differ e T fields) conflict arguments.0 }
 
   -- and the fault of equal ones is that of the first
   equal_fault : (handed : HandedSize) (fields : List CollectedField) → AreEqualFields e T fields → fault_of e T handed fields ≡ fault_left handed (first_call fields)
@@ -124,10 +107,18 @@ module _ (e : Setting) (T : ℕ) where
   pub some_equal : (fields some : List CollectedField) → AreEqualFields e T fields → AreSome e.schema fields some → AreEqualFields e T some
   some_equal fields some h s = record {
     names = ap (λ (c : FieldCall). list_any (λ f. not (bytes_eq f.call.name c.name)) some) s.call ∙ s.among (λ f. not (bytes_eq f.call.name (first_call fields).name)) h.names;
-    coerced = none_first (argument_fault e T) some (s.among (λ f. is_there (argument_fault e T f)) (not_there (argument_fault e T) fields h.coerced));
+    coerced = none_first (argument_fault e T) some (s.among (λ f. is_some (argument_fault e T f)) (not_there (argument_fault e T) fields h.coerced));
     arguments = ap (λ (c : FieldCall). list_any (λ f. not (same_arguments (if_coerced (arguments_at e T c)) (if_coerced (arguments_at e T f.call)))) some) s.call
         ∙ s.among (λ f. not (same_arguments (if_coerced (arguments_at e T (first_call fields))) (if_coerced (arguments_at e T f.call)))) h.arguments;
   }
+
+  -- what is found of a node is found by some of its fields
+  pub looked_by_some : (handed : HandedSize) (fields some : List CollectedField) (looked : Looked) → AreSome e.schema fields some → IsLookedAt e T handed fields looked → IsLookedAt e T handed some looked
+  looked_by_some handed fields some looked s h =
+      let equal : AreEqualFields e T fields = faultless_equal handed fields h.0 in (
+        (equal_fault handed some (some_equal fields some equal s) ∙ (ap (fault_left handed) s.call ∙ sym (equal_fault handed fields equal))) ∙ h.0,
+        subst (λ (c : FieldCall). IsFound e T handed c looked) (sym s.call) h.1,
+      )
 
   -- ---- one node
 

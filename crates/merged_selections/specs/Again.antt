@@ -17,6 +17,10 @@ use Rattle.collected_fields.specs.Gathering.{setting_at, position_at, IsNumber, 
 use Rattle.collected_fields.specs.Alone.{SpreadsAlone}
 use Rattle.merged_selections.specs.declared.known.Known.{Known}
 use Rattle.merged_selections.specs.declared.known.KnownGroups.{KnownGroups}
+use Rattle.merged_selections.specs.declared.known.FoundGroups.{FoundGroups}
+use Rattle.merged_selections.specs.declared.node.Looked.{Looked}
+use Rattle.merged_selections.specs.NodeParts.{handed_data}
+use Rattle.merged_selections.specs.NodeTests.{IsLookedAt}
 use Rattle.merged_selections.specs.Nodes.{key_seen, type_visits, type_rows, groups_visits, groups_rows}
 
 -- ---- fields of one key of which the first says all
@@ -79,8 +83,14 @@ pub record MayBeKnown (c : Collector) (T : ℕ) (lists : List ℕ) (name : Optio
   pub spread : IfSome name (SpreadsAlone c lists)
   pub stand : IsAcyclic (setting_at c) (position_at c lists) → StandFor c T lists groups
 
-abbrev pub IsKnown : Collector → KnownGroups → Type 0
-IsKnown c k = MayBeKnown c k.of.number k.lists.items (name_in k.spread) k.groups.items
+-- This was found of the nodes of the first of the groups.
+abbrev pub AreLooked : Setting → ℕ → HandedSize → List Group → List Looked → Type 0
+AreLooked e T handed groups looked =
+    (at : ℕ) (g : Group) (one : Looked) → slice_get groups at ≡ Some g → slice_get looked at ≡ Some one → IsLookedAt e T handed (map collected_field g.fields.items) one
+
+pub record IsKnown (c : Collector) (k : KnownGroups) : Type 0 where
+  pub groups : MayBeKnown c k.of.number k.lists.items (name_in k.spread) k.groups.items
+  pub looked : AreLooked (setting_at c) k.of.number (handed_data k.handed) k.groups.items k.looked.items
 
 abbrev pub AreKnown : Collector → Known → Type 0
 AreKnown c known = All (IsKnown c) known.made.items
@@ -93,10 +103,16 @@ IsSamePlace (Some name) numbers others spread = spread ≡ Some name
 abbrev pub IsFor : KnownGroups → ℕ → List ℕ → Option (List ℕ) → Type 0
 IsFor k T numbers spread = (k.of.number ≡ T) × IsSamePlace (name_in k.spread) k.lists.items numbers spread
 
--- Some of the fields of groups that are known for a position.
-pub record FindsFor (s : SchemaData) (known : Known) (T : ℕ) (numbers : List ℕ) (spread : Option (List ℕ)) (groups : List Group) : Type 0 where
+-- What was found where this size was handed down, or nothing.
+abbrev pub TakesLooked : KnownGroups → HandedSize → List Looked → Type 0
+TakesLooked k handed [] = Unit {0}
+TakesLooked k handed (looked ∷ others) = (handed_data k.handed ≡ handed) × (k.looked.items ≡ looked ∷ others)
+
+-- Some of the fields of groups that are known for a position, and what was found of their nodes.
+pub record FindsFor (s : SchemaData) (known : Known) (T : ℕ) (numbers : List ℕ) (spread : Option (List ℕ)) (handed : HandedSize) (found : FoundGroups) : Type 0 where
   pub at : ℕ
   pub one : KnownGroups
   pub there : slice_get known.made.items at ≡ Some one
   pub for_it : IsFor one T numbers spread
-  pub some : HaveSome s one.groups.items groups
+  pub some : HaveSome s one.groups.items found.groups.items
+  pub looked : TakesLooked one handed found.looked.items

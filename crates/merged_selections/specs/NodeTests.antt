@@ -1,12 +1,13 @@
 -- The tests of a node, one after another, and what is found of it where it passes them.
-use Rattle.std.specs.Prelude.{◌≡◌, ◌≤◌, ℕ, Bool, true, false, not, List, ◌∷◌, map, length, get_or, option_map, ◌++◌, All, IfSome, slice_get, Option, None, Some, Result, Ok, Err}
+use Rattle.std.specs.Prelude.{◌≡◌, ◌≤◌, ℕ, Bool, true, false, not, List, ◌∷◌, map, length, get_or, option_map, ◌++◌, All, IfSome, slice_get, Option, None, Some, Result, Ok, Err, ◌||◌}
 use Rattle.std.specs.List.{list_any}
 use Rattle.std.specs.Str.{bytes_eq}
 use Rattle.cost_num.specs.Capped.{capped}
 use Rattle.schema_rules.specs.First.{or_else, fault_where, first_of}
 use Rattle.input_values.specs.values.Coerced.{CoercedTree}
+use Rattle.schema_model.specs.declared.args.Args.{Args}
 use Rattle.schema_model.specs.Arguments.{ArgData, args_data}
-use Rattle.cost_directives.specs.Weights.{argument_cost_in}
+use Rattle.cost_directives.specs.Weights.{argument_cost_in, declared_size_in}
 use Rattle.cost_directives.specs.declared.sizes.Size.{Size}
 use Rattle.cost_directives.specs.declared.sizes.SizeFault.{SizeFault}
 use Rattle.cost_directives.specs.declared.sources.SizeSource.{SizeSource}
@@ -26,8 +27,12 @@ use Rattle.collected_fields.specs.declared.collected.Collected.{Collected}
 use Rattle.collected_fields.specs.Views.{setting_of_planning, collected_field}
 use Rattle.plan_table.specs.ListSizes.{size_from}
 use Rattle.plan_table.specs.Tables.{meaning_of}
+use Rattle.literal_loads.specs.Loads.{Scale}
+use Rattle.literal_loads.specs.KnownInputs.{scale_of, AreRight}
+use Rattle.literal_loads.specs.declared.loads.Loads.{Loads}
 use Rattle.merged_selections.specs.declared.call.Call.{Call}
 use Rattle.merged_selections.specs.declared.calls.Calls.{Calls}
+use Rattle.merged_selections.specs.declared.calls.BuiltAt.{BuiltAt}
 use Rattle.merged_selections.specs.declared.lookups.Handed.{Handed}
 use Rattle.merged_selections.specs.declared.node.Looked.{Looked}
 use Rattle.merged_selections.specs.declared.why.Why.{Why}
@@ -68,6 +73,19 @@ handed_by e field args = option_map (λ n. (sized_by e (known_field field), n)) 
 module _ (e : Setting) (field : ℕ) where
   abbrev pub coerced_of : CollectedField → Result (List ArgData) Refusal
   coerced_of f = coerced_arguments e.schema field f.call.arguments e.values
+
+  -- its arguments, or none where one is refused
+  abbrev pub args_given : CollectedField → List ArgData
+  args_given f = if_coerced (coerced_of f)
+
+  -- All of them are coerced.
+  abbrev pub IsCoerced : CollectedField → Type 0
+  IsCoerced f = coerced_of f ≡ Ok (args_given f)
+
+  -- What they cost, or what they are refused for.
+  abbrev pub Costs : CollectedField → Result ℕ ArgFault → Type 0
+  Costs f (Ok cost) = IsCoerced f × (cost ≡ capped (argument_cost_in e.weights field (args_given f)))
+  Costs f (Err fault) = IsTold (argument_told fault) (coerced_of f)
 
   abbrev pub refused_in : CollectedField → Option Refusal
   refused_in f = refusal_of (coerced_of f)
@@ -112,12 +130,22 @@ module _ (e : Setting) (field : ℕ) where
 
 -- ---- a field's call
 
--- The arguments of the call are those of the field of this number where it is written so; what they cost, and the size that
--- it hands down.
+-- The arguments of the field that a call was made of.
+abbrev pub args_in : Setting → Call → List ArgData
+args_in e call = args_given e call.of.number (collected_field call.field)
+
+-- A field's size and its source, and the size that it hands down, are the same by these arguments as by others.
+pub record SizesAlike (e : Setting) (field : ℕ) (args others : List ArgData) : Type 0 where
+  pub sizes : (handed : Option ℕ) → declared_size_in e.weights field args handed ≡ declared_size_in e.weights field others handed
+  pub sources : (handed : Option ℕ) → size_source_in e.weights field args handed ≡ size_source_in e.weights field others handed
+
+-- The arguments of the field of this number, where it is written so, are those of the call; what its size is found by, what they
+-- cost, and the size that it hands down.
 pub record IsCall (e : Setting) (field : ℕ) (f : CollectedField) (call : Call) : Type 0 where
-  pub coerced : coerced_of e field f ≡ Ok (args_data call.args)
-  pub cost : call.cost ≡ capped (argument_cost_in e.weights field (args_data call.args))
-  pub hands : handed_data call.hands ≡ handed_by e field (args_data call.args)
+  pub coerced : coerced_of e field f ≡ Ok (args_in e call)
+  pub sized : SizesAlike e field (args_data call.sizes) (args_in e call)
+  pub cost : call.cost ≡ capped (argument_cost_in e.weights field (args_in e call))
+  pub hands : handed_data call.hands ≡ handed_by e field (args_in e call)
 
 -- A call that is kept is that of its own field.
 abbrev pub IsKept : Setting → Call → Type 0
@@ -128,37 +156,89 @@ abbrev pub IsThereWith : (Call → Type 0) → Option Call → Type 0
 IsThereWith Holds None = ⊥
 IsThereWith Holds (Some call) = Holds call
 
--- whether the arguments of two calls are equal
-abbrev pub same_calls : Call → Call → Bool
-same_calls call other = same_arguments (args_data call.args) (args_data other.args)
+-- Literals are weighed by the schema, the weights and the variables of the setting, and what is kept of them is right.
+abbrev pub scale_at : Setting → Scale
+scale_at e = record { schema = e.schema; weights = e.weights; values = e.values }
 
--- the values of a call's arguments, and those of the call at a place
-abbrev pub values_in : Call → List (Option CoercedTree)
-values_in call = map value_of (args_data call.args)
+pub record IsScaled (e : Setting) (loads : Loads) : Type 0 where
+  pub scale : scale_of loads.of ≡ scale_at e
+  pub right : AreRight loads
 
-abbrev pub values_at : List Call → ℕ → Option (List (Option CoercedTree))
-values_at calls at = option_map values_in (slice_get calls at)
+module _ (e : Setting) where
+  -- whether the arguments of two calls are equal
+  abbrev pub same_calls : Call → Call → Bool
+  same_calls call other = same_arguments (args_in e call) (args_in e other)
 
--- For each call one is noted whose arguments are equal, or itself.
-pub record AreEqual (calls : List Call) (equal : List ℕ) : Type 0 where
-  pub short : length equal ≤ length calls
-  pub values : (at : ℕ) → values_at calls (get_or equal at at) ≡ values_at calls at
+  -- whether these arguments are those of a field; of one whose arguments are coerced it isn't told for want of memory alone
+  abbrev pub ComparesArgs : List ArgData → ℕ → CollectedField → Result Bool ArgFault → Type 0
+  ComparesArgs args field f (Ok same) = same ≡ same_arguments args (args_given e field f)
+  ComparesArgs args field f (Err fault) = IsCoerced e field f → argument_told fault ≡ None
 
--- The call at a place is equal to this one.
-abbrev pub IsSameAsAt : List Call → ℕ → Call → Type 0
-IsSameAsAt calls at other = IsThereWith (λ call. same_calls call other ≡ true) (slice_get calls at)
+  -- the values of a call's arguments, and those of the call at a place
+  abbrev pub values_in : Call → List (Option CoercedTree)
+  values_in call = map value_of (args_in e call)
 
--- So are they all, and those that are noted are equal.
-abbrev pub AreKept : Setting → Calls → Type 0
-AreKept e calls = All (IsKept e) calls.made.items × AreEqual calls.made.items calls.equal.items
+  module _ (calls : List Call) where
+    abbrev pub values_at : ℕ → Option (List (Option CoercedTree))
+    values_at at = option_map values_in (slice_get calls at)
 
--- whether the calls at two places are equal
-abbrev pub AreSameAt : List Call → ℕ → ℕ → Bool → Type 0
-AreSameAt calls at place same = IfSome (slice_get calls at) (λ call. IfSome (slice_get calls place) (λ other. same ≡ same_calls call other))
+    -- For each call one is noted whose arguments are equal, or itself.
+    pub record AreEqual (equal : List ℕ) : Type 0 where
+      pub short : length equal ≤ length calls
+      pub values : (at : ℕ) → values_at (get_or equal at at) ≡ values_at at
+
+    -- The call at a place is equal to this one.
+    abbrev pub IsSameAsAt : ℕ → Call → Type 0
+    IsSameAsAt at other = IsThereWith (λ call. same_calls call other ≡ true) (slice_get calls at)
+
+    -- The arguments of a field are those of the call at a place.
+    abbrev pub IsSameField : ℕ → ℕ → CollectedField → Type 0
+    IsSameField at field f = IfSome (slice_get calls at) (λ call. same_arguments (args_in e call) (args_given e field f) ≡ true)
+
+    -- whether they are
+    abbrev pub ComparesField : ℕ → ℕ → CollectedField → Result Bool ArgFault → Type 0
+    ComparesField at field f result = IfSome (slice_get calls at) (λ call. ComparesArgs (args_in e call) field f result)
+
+    -- whether the calls at two places are equal
+    module _ (at place : ℕ) where
+      abbrev pub AreSameAt : Bool → Type 0
+      AreSameAt same = IfSome (slice_get calls at) (λ call. IfSome (slice_get calls place) (λ other. same ≡ same_calls call other))
+
+      abbrev pub ComparesPlaces : Result Bool ArgFault → Type 0
+      ComparesPlaces (Ok same) = AreSameAt same
+      ComparesPlaces (Err fault) = argument_told fault ≡ None
+
+    -- These are the arguments of the call at a place, or memory was wanting.
+    abbrev pub GivesAt : ℕ → Result Args ArgFault → Type 0
+    GivesAt at (Ok args) = IsThereWith (λ call. coerced_of e call.of.number (collected_field call.field) ≡ Ok (args_data args)) (slice_get calls at)
+    GivesAt at (Err fault) = argument_told fault ≡ None
+
+    abbrev pub IsBuiltAt : BuiltAt → Type 0
+    IsBuiltAt b = GivesAt b.at (Ok b.args)
+
+  -- Calls are those of their fields, those that are noted are equal, literals are weighed rightly, and what was built last are the
+  -- arguments of the call at its place.
+  abbrev pub AreKept : Calls → Type 0
+  AreKept calls = All (IsKept e) calls.made.items × AreEqual calls.made.items calls.equal.items × IsScaled e calls.loads × IfSome calls.built (IsBuiltAt calls.made.items)
 
 -- The call is of the field of this number, whose arguments are given alike.
 abbrev pub IsAlike : Call → ℕ → CollectedField → Type 0
 IsAlike call field f = (call.of.number ≡ field) × AreGivenAlike (collected_field call.field).call.arguments f.call.arguments
+
+-- The field's size is found by these as by all its arguments; where they aren't found, memory was wanting.
+abbrev pub FindsSizes : Setting → ℕ → CollectedField → Result Args ArgFault → Type 0
+FindsSizes e field f (Ok sizes) = SizesAlike e field (args_data sizes) (args_given e field f)
+FindsSizes e field f (Err fault) = argument_told fault ≡ None
+
+-- The arguments of the field are coerced, or this is what they are refused for.
+abbrev pub TellsRefusal : Setting → ℕ → CollectedField → Result (Unit {0}) ArgFault → Type 0
+TellsRefusal e field f (Ok done) = refused_in e field f ≡ None
+TellsRefusal e field f (Err fault) = IsThere (argument_told fault) (refused_in e field f)
+
+-- A call by what its size is found by and what its arguments cost, where they are coerced.
+abbrev pub MakesBy : Setting → ℕ → CollectedField → List ArgData → ℕ → Call → Type 0
+MakesBy e field f sizes cost call =
+    SizesAlike e field sizes (args_given e field f) → Costs e field f (Ok cost) → IsCall e field f call × IsKept e call
 
 -- A call of a field that may be kept, or what its arguments are refused for.
 abbrev pub MakesCall : Setting → ℕ → CollectedField → Result Call ArgFault → Type 0
@@ -196,11 +276,16 @@ module _ (p : Planning) (of : FieldId) where
     -- whether another field's arguments differ from those of the call
     abbrev pub ComparesAt : Collected → Result Bool ArgFault → Type 0
     ComparesAt other result =
-        ForCallAt (λ call. Compares result (refused_in setting_seen of.number (collected_field other)) (differs_from setting_seen of.number (args_data call.args) (collected_field other)))
+        ForCallAt (λ call. Compares result (refused_in setting_seen of.number (collected_field other)) (differs_from setting_seen of.number (args_in setting_seen call) (collected_field other)))
+
+    -- where some differ already
+    abbrev pub ComparesWith : Bool → Collected → Result Bool ArgFault → Type 0
+    ComparesWith differ other result =
+        ForCallAt (λ call. Compares result (refused_in setting_seen of.number (collected_field other)) (differ || differs_from setting_seen of.number (args_in setting_seen call) (collected_field other)))
 
     abbrev pub ComparesAll : List Collected → Result Bool ArgFault → Type 0
     ComparesAll others result =
-        ForCallAt (λ call. Compares result (first_refused setting_seen of.number (map collected_field others)) (differ_from setting_seen of.number (args_data call.args) (map collected_field others)))
+        ForCallAt (λ call. Compares result (first_refused setting_seen of.number (map collected_field others)) (differ_from setting_seen of.number (args_in setting_seen call) (map collected_field others)))
 
   abbrev pub name_seen : Collected → List ℕ
   name_seen first = (collected_field first).call.name
@@ -210,19 +295,19 @@ module _ (p : Planning) (of : FieldId) where
     IsCallHere = IsCall setting_seen of.number (collected_field first) call
 
     abbrev pub IsFoundHere : Looked → Type 0
-    IsFoundHere looked = IsFoundOf setting_seen of.number (handed_data handed) (name_seen first) (args_data call.args) looked
+    IsFoundHere looked = IsFoundOf setting_seen of.number (handed_data handed) (name_seen first) (args_in setting_seen call) looked
 
     -- where the source is that of its size
     abbrev pub LooksAfterSize : Option SizeSource → Result Looked Why → Type 0
     LooksAfterSize source result =
-        IsCallHere → size_from source ≡ size_in (form_of setting_seen.schema (known_field of.number)) (own_size setting_seen of.number (handed_data handed) (name_seen first) (args_data call.args))
-        → Looks IsFoundHere result (fault_after_size setting_seen of.number (handed_data handed) (name_seen first) (args_data call.args))
+        IsCallHere → size_from source ≡ size_in (form_of setting_seen.schema (known_field of.number)) (own_size setting_seen of.number (handed_data handed) (name_seen first) (args_in setting_seen call))
+        → Looks IsFoundHere result (fault_after_size setting_seen of.number (handed_data handed) (name_seen first) (args_in setting_seen call))
 
     abbrev pub LooksAfterArguments : Result Looked Why → Type 0
-    LooksAfterArguments result = IsCallHere → Looks IsFoundHere result (fault_after_arguments setting_seen of.number (handed_data handed) (name_seen first) (args_data call.args))
+    LooksAfterArguments result = IsCallHere → Looks IsFoundHere result (fault_after_arguments setting_seen of.number (handed_data handed) (name_seen first) (args_in setting_seen call))
 
     abbrev pub LooksBeforeOthers : List Collected → Result Looked Why → Type 0
-    LooksBeforeOthers others result = IsCallHere → Looks IsFoundHere result (fault_of_others setting_seen of.number (handed_data handed) (name_seen first) (args_data call.args) (map collected_field others))
+    LooksBeforeOthers others result = IsCallHere → Looks IsFoundHere result (fault_of_others setting_seen of.number (handed_data handed) (name_seen first) (args_in setting_seen call) (map collected_field others))
 
   abbrev pub LooksAfterFirst : Option Handed → Collected → List Call → ℕ → List Collected → Result Looked Why → Type 0
   LooksAfterFirst handed first calls at others result = ForCallAt calls at (λ call. LooksBeforeOthers handed first call others result)
@@ -250,6 +335,10 @@ fields_seen first others = collected_field first ∷ map collected_field others
 -- What is found of a node, or the first test that it doesn't pass.
 abbrev pub LooksAt : Setting → ℕ → Option Handed → List CollectedField → Result Looked Why → Type 0
 LooksAt e T handed fields result = Looks (IsFound e T (handed_data handed) (first_call fields)) result (fault_of e T (handed_data handed) fields)
+
+-- This was found of a node of these fields, which has no fault.
+abbrev pub IsLookedAt : Setting → ℕ → HandedSize → List CollectedField → Looked → Type 0
+IsLookedAt e T handed fields looked = (fault_of e T handed fields ≡ None) × IsFound e T handed (first_call fields) looked
 
 -- ---- the source of its size
 

@@ -1,5 +1,5 @@
 -- What is visited and which rows are made while a plan is built: at a position, for a type, for the fields of one key.
-use Rattle.std.specs.Prelude.{◌≡◌, ◌-◌, ◌<◌, ℕ, length, Bool, true, List, [], ◌∷◌, ◌++◌, map, flat_map, All, None, Result, Ok, Err}
+use Rattle.std.specs.Prelude.{◌≡◌, ◌<◌, ℕ, length, Bool, true, List, [], ◌∷◌, ◌++◌, map, flat_map, All, IfSome, Option, None, Result, Ok, Err}
 use Rattle.std.specs.List.{list_any}
 use Rattle.input_values.specs.declared.inputs.shape.TypeId.{TypeId}
 use Rattle.schema_model.specs.declared.schema.Schema.{Schema}
@@ -23,10 +23,10 @@ use Rattle.plan_table.specs.Tables.{setting_without_values, meaning_of, below_at
 use Rattle.merged_selections.specs.declared.node.Looked.{Looked}
 use Rattle.merged_selections.specs.declared.stop.Stop.{Stop}
 use Rattle.merged_selections.specs.declared.building.Building.{Building}
-use Rattle.merged_selections.specs.NodeTests.{AreKept}
+use Rattle.merged_selections.specs.NodeTests.{AreKept, IsLookedAt}
 use Rattle.merged_selections.specs.Outcomes.{has_left, outcome, IsStop}
 pub use Rattle.merged_selections.specs.Nodes.{levels_from, key_seen, type_visits, planned_below, type_rows, types_planned, types_rows, group_position, node_visits, planned_for_node, node_row, node_rows, groups_visits, groups_rows}
-use Rattle.merged_selections.specs.Again.{AreKnown}
+use Rattle.merged_selections.specs.Again.{AreLooked, AreKnown}
 
 -- ---- what stays the same while a plan is built
 
@@ -99,17 +99,17 @@ module _ (old : Building) (depth : ℕ) (result : Result (Unit {0}) Stop) (new :
   BuildsType T lists handed =
       CanBuildAt old lists → BuildsRows result old new (type_visits (setting_built old) (levels_from depth) (position_built old lists handed) T) (type_rows (setting_built old) (levels_from depth) depth (position_built old lists handed) T)
 
-  abbrev pub BuildsGroups : ℕ → List Group → HandedSize → Type 0
-  BuildsGroups T groups handed =
-      CanBuild old × All (CanBuildGroup old) groups → BuildsRows result old new (groups_visits (setting_built old) T handed (levels_from depth) (groups_seen old.collector groups)) (groups_rows (setting_built old) T handed (levels_from depth) depth true (groups_seen old.collector groups))
+  abbrev pub BuildsGroups : ℕ → List Group → List Looked → HandedSize → Type 0
+  BuildsGroups T groups looked handed =
+      AreLooked (setting_built old) T handed groups looked → CanBuild old × All (CanBuildGroup old) groups → BuildsRows result old new (groups_visits (setting_built old) T handed (levels_from depth) (groups_seen old.collector groups)) (groups_rows (setting_built old) T handed (levels_from depth) depth true (groups_seen old.collector groups))
 
-  abbrev pub BuildsNode : ℕ → Bool → List Collected → List ℕ → HandedSize → Type 0
-  BuildsNode T first fields below handed =
-      CanBuildAt old below → BuildsRows result old new (node_visits (setting_built old) T handed (levels_from depth) (node_seen old fields below)) (node_rows (setting_built old) T handed (levels_from depth) depth first (node_seen old fields below))
+  abbrev pub BuildsNode : ℕ → Bool → List Collected → List ℕ → Option Looked → HandedSize → Type 0
+  BuildsNode T first fields below looked handed =
+      IfSome looked (IsLookedAt (setting_built old) T handed (map collected_field fields)) → CanBuildAt old below → BuildsRows result old new (node_visits (setting_built old) T handed (levels_from depth) (node_seen old fields below)) (node_rows (setting_built old) T handed (levels_from depth) depth first (node_seen old fields below))
 
-  abbrev pub BuildsGroup : ℕ → Bool → Group → HandedSize → Type 0
-  BuildsGroup T first g handed =
-      CanBuild old × CanBuildGroup old g → BuildsRows result old new (node_visits (setting_built old) T handed (levels_from depth) (group_seen old.collector g)) (node_rows (setting_built old) T handed (levels_from depth) depth first (group_seen old.collector g))
+  abbrev pub BuildsGroup : ℕ → Bool → Group → Option Looked → HandedSize → Type 0
+  BuildsGroup T first g looked handed =
+      IfSome looked (IsLookedAt (setting_built old) T handed (map collected_field g.fields.items)) → CanBuild old × CanBuildGroup old g → BuildsRows result old new (node_visits (setting_built old) T handed (levels_from depth) (group_seen old.collector g)) (node_rows (setting_built old) T handed (levels_from depth) depth first (group_seen old.collector g))
 
 -- The row of a node is added, of which this was found.
 abbrev pub PushesRow : Building → ℕ → ℕ → Bool → List Collected → Looked → {E : Type 0} → Result (Unit {0}) E → Building → Type 0

@@ -64,7 +64,7 @@ fn build_from<'a, 'b>(
         collector,
         plan: Plan::new(alloc, schema, weights, root),
         left: NODE_LIMIT,
-        calls: Calls::new(alloc),
+        calls: Calls::new(alloc, &planning),
         keys: Keys::new(alloc),
         known: Known::new(alloc),
     };

@@ -10,9 +10,9 @@ ghost use Rattle.merged_selections.specs.Stages.{frame, setting_built, CanBuild,
 use crate::LEVEL_LIMIT;
 use crate::calls::Calls;
 use crate::keys::Keys;
-use crate::known::Known;
+use crate::known::{Known, looked_there};
 use crate::lookups::{Handed, any_asks, key_of, name_of, types_below};
-use crate::node::{Looked, look};
+use crate::node::{Looked, look_again};
 use crate::stop::{Stop, stopped, under};
 use crate::why::Why;
 use collected_fields::{Collected, Collector, Group};
@@ -161,8 +161,11 @@ impl<'p, 'a> Building<'p, 'a> {
     {
         let schema = self.collector.planning().schema;
         let spread = self.collector.spread_alone(lists);
-        match self.known.find(alloc, schema, of, lists, spread)? {
-            Some(groups) => self.build_groups(alloc, depth, of, groups.as_slice(), handed),
+        match self.known.find(alloc, schema, of, lists, spread, handed)? {
+            Some(found) => {
+                let looked = found.looked.as_slice();
+                self.build_groups(alloc, depth, of, found.groups.as_slice(), looked, handed)
+            }
             None => self.build_anew(alloc, depth, of, lists, handed),
         }
     }
@@ -185,20 +188,28 @@ impl<'p, 'a> Building<'p, 'a> {
         let spread = self.collector.spread_alone(lists);
         let known = self.collector.knows(lists);
         let groups = self.collector.collect(alloc, of, lists)?;
-        match self.build_groups(alloc, depth, of, groups.as_slice(), handed) {
+        match self.build_groups(alloc, depth, of, groups.as_slice(), &[], handed) {
             Ok(()) => {}
             Err(stop) => return Err(stop),
         }
         if !known {
             return Ok(());
         }
-        let schema = self.collector.planning().schema;
-        self.known
-            .keep(alloc, schema, of, lists, spread, groups.as_slice())?;
+        let planning = self.collector.planning();
+        self.known.keep(
+            alloc,
+            &planning,
+            of,
+            lists,
+            spread,
+            groups.as_slice(),
+            handed,
+            &mut self.calls,
+        )?;
         Ok(())
     }
 
-    /// The nodes of these keys.
+    /// The nodes of these keys. Of the first of them it may be known what is found of them.
     #[cycle(build)]
     fn build_groups(
         &mut self,
@@ -206,20 +217,24 @@ impl<'p, 'a> Building<'p, 'a> {
         depth: u32,
         of: TypeId,
         groups: &[Group<'p>],
+        looked: &[Looked<'p>],
         handed: Option<Handed<'p>>,
     ) -> Result<(), Stop>
         ensures frame { frame self.new ≡ frame self.old }
         ensures numbers { HasMore self.old.collector.joins self.new.collector.joins }
         ensures ready { CanBuild self.old → CanBuild self.new }
-        ensures built { BuildsGroups self.old depth result self.new of.number groups.now (handed_data handed.entry) }
+        ensures built { BuildsGroups self.old depth result self.new of.number groups.now looked.now (handed_data handed.entry) }
     {
         let mut first = true;
+        let mut at = 0;
         'groups: for group in groups {
-            match self.build_group(alloc, depth, of, first, group, handed) {
+            let one = looked_there(looked, at);
+            match self.build_group(alloc, depth, of, first, group, one, handed) {
                 Ok(()) => {}
                 Err(stop) => return Err(stop),
             }
             first = false;
+            at += 1;
         }
         Ok(())
     }
@@ -233,12 +248,13 @@ impl<'p, 'a> Building<'p, 'a> {
         of: TypeId,
         first: bool,
         group: &Group<'p>,
+        looked: Option<Looked<'p>>,
         handed: Option<Handed<'p>>,
     ) -> Result<(), Stop>
         ensures frame { frame self.new ≡ frame self.old }
         ensures numbers { HasMore self.old.collector.joins self.new.collector.joins }
         ensures ready { CanBuild self.old → CanBuild self.new }
-        ensures built { BuildsGroup self.old depth result self.new of.number first group.now (handed_data handed.entry) }
+        ensures built { BuildsGroup self.old depth result self.new of.number first group.now looked.entry (handed_data handed.entry) }
     {
         match group.fields.split_first() {
             Some((field, others)) => {
@@ -250,6 +266,7 @@ impl<'p, 'a> Building<'p, 'a> {
                     field,
                     others,
                     group.below.as_slice(),
+                    looked,
                     handed,
                 )
             }
@@ -268,12 +285,13 @@ impl<'p, 'a> Building<'p, 'a> {
         field: &Collected<'p>,
         others: &[Collected<'p>],
         below: &[usize],
+        looked: Option<Looked<'p>>,
         handed: Option<Handed<'p>>,
     ) -> Result<(), Stop>
         ensures frame { frame self.new ≡ frame self.old }
         ensures numbers { HasMore self.old.collector.joins self.new.collector.joins }
         ensures ready { CanBuild self.old → CanBuild self.new }
-        ensures built { BuildsNode self.old depth result self.new of.number first (field.now ∷ others.now) below.now (handed_data handed.entry) }
+        ensures built { BuildsNode self.old depth result self.new of.number first (field.now ∷ others.now) below.now looked.entry (handed_data handed.entry) }
     {
         if self.left == 0 {
             return Err(Stop::TooLarge);
@@ -284,7 +302,8 @@ impl<'p, 'a> Building<'p, 'a> {
             return Err(stopped(alloc, key, Why::TooDeep));
         }
         let planning = self.collector.planning();
-        match look(alloc, &planning, of, handed, field, others, &mut self.calls) {
+        let calls = &mut self.calls;
+        match look_again(alloc, &planning, of, handed, field, others, looked, calls) {
             Err(why) => Err(stopped(alloc, key, why)),
             Ok(looked) => {
                 self.push_row(alloc, depth, of, first, field, others, &looked)?;

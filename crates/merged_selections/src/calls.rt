@@ -1,16 +1,19 @@
 //! The calls that were made, found by how they are written.
 
-ghost use Rattle.std.specs.Prelude.{◌≡◌, ◌<◌, ◌++◌, ◌∷◌, [], IsTrue, IfOk, IfSome, OnOk, get_or, length};
+ghost use Rattle.std.specs.Prelude.{◌≡◌, ◌<◌, ◌++◌, ◌∷◌, [], IsTrue, IfOk, IfSome, OnOk, Ok, get_or, length};
+ghost use Rattle.schema_model.specs.Arguments.{args_data};
 ghost use Rattle.collected_fields.specs.Views.{setting_of_planning, collected_field};
 ghost use Rattle.plan_model.specs.SelectedFields.{Setting};
-ghost use Rattle.merged_selections.specs.NodeTests.{IsKept, AreKept, IsAlikeAt, FindsCall, Grows, ComparesAt, IsSameAsAt, AreSameAt, values_at};
+ghost use Rattle.merged_selections.specs.NodeTests.{IsKept, AreKept, IsAlikeAt, FindsCall, Grows, ComparesAt, ComparesPlaces, ComparesArgs, ComparesField, GivesAt, IsSameAsAt, IsSameField, TellsRefusal, values_at};
 
-use crate::call::{Call, is_alike, new_call};
+use crate::arguments::arguments_of;
+use crate::call::{Call, is_alike, new_call, same_as};
 use crate::hashes::hash_of;
 use crate::held::bytes_of;
+use crate::written::are_more;
 use collected_fields::{Collected, Planning};
-use distinct_selections::same_arguments;
-use schema_model::FieldId;
+use literal_loads::{Loads, no_loads, weighing_of};
+use schema_model::{Args, FieldId};
 use std::alloc::{AllocError, Global};
 use std::collections::HashMap;
 use variable_coercion::ArgFault;
@@ -26,6 +29,19 @@ const HOPS: usize = 64;
 
 /// So many calls find no room before all that are kept are forgotten.
 const REFUSED: usize = 1024;
+
+/// So many calls are made before literals are weighed that write little.
+const FEW: usize = 16;
+
+/// Arguments of so many values write little.
+const SHORT: usize = 8;
+
+/// The coerced arguments of the call at a place.
+#[derive(Drop)]
+pub struct BuiltAt {
+    pub at: usize,
+    pub args: Args,
+}
 
 /// Calls, each found by its field and by how its arguments are written.
 #[derive(Drop)]
@@ -43,32 +59,26 @@ pub struct Calls<'a> {
     turns: usize,
     /// How many calls found no room since all were forgotten.
     refused: usize,
-}
-
-/// Whether the arguments of the calls at two places are equal.
-fn same_at(calls: &[Call<'_>], at: usize, place: usize) -> bool
-    requires there { at < length calls.now }
-    requires there_too { place < length calls.now }
-    ensures { AreSameAt calls.now at place result }
-{
-    let call = &calls[at];
-    let other = &calls[place];
-    same_arguments(&call.args, &other.args)
+    /// What arguments come to without being built.
+    pub loads: Loads<'a>,
+    /// The arguments of the call with which others were compared last.
+    pub built: Option<BuiltAt>,
 }
 
 /// How many bytes a call holds, about, if there is one.
 fn bytes_with(call: Option<&Call<'_>>) -> usize {
     match call {
-        Some(call) => bytes_of(&call.args),
+        Some(call) => bytes_of(&call.sizes),
         None => 0,
     }
 }
 
 impl<'a> Calls<'a> {
     /// None.
-    pub fn new(alloc: Global) -> Calls<'a>
-        ensures { (e : Setting) → AreKept e result }
+    pub fn new(alloc: Global, planning: &Planning<'a>) -> Calls<'a>
+        ensures { AreKept (setting_of_planning planning.now) result }
     {
+        let weighing = weighing_of(planning.schema, planning.weights, planning.variables);
         Calls {
             made: Vec::new(alloc),
             equal: Vec::new(alloc),
@@ -77,6 +87,8 @@ impl<'a> Calls<'a> {
             held: 0,
             turns: 0,
             refused: 0,
+            loads: no_loads(alloc, weighing),
+            built: None,
         }
     }
 
@@ -105,11 +117,12 @@ impl<'a> Calls<'a> {
     /// Forgets all of them.
     fn forget(&mut self)
         ensures made { self.new.made.items ≡ [] }
-        ensures kept { (e : Setting) → AreKept e self.new }
+        ensures kept { (e : Setting) → AreKept e self.old → AreKept e self.new }
     {
         self.made.clear();
         self.equal.clear();
         self.places.clear();
+        self.built = None;
         self.held = 0;
         self.turns = 0;
         self.refused = 0;
@@ -122,7 +135,7 @@ impl<'a> Calls<'a> {
         ensures grows { Grows self.old.made.items self.new.made.items }
     {
         let at = self.made.len();
-        let bytes = bytes_of(&call.args);
+        let bytes = bytes_of(&call.sizes);
         self.places.insert(hash, at)?;
         self.made.push(call)?;
         self.held = self.held.saturating_add(bytes);
@@ -135,6 +148,7 @@ impl<'a> Calls<'a> {
         ensures { (e : Setting) → AreKept e self.old → AreKept e self.new }
     {
         self.equal.clear();
+        self.built = None;
         let last = self.made.pop();
         self.held = self.held.saturating_sub(bytes_with(last.as_ref()));
     }
@@ -164,6 +178,11 @@ impl<'a> Calls<'a> {
         }
     }
 
+    /// Whether few calls were made, and a field writes so little that its arguments are built sooner than they are weighed.
+    fn are_few(&self, field: &Collected<'_>) -> bool {
+        self.made.len() < FEW && !are_more(field.field.arguments.as_slice(), SHORT)
+    }
+
     /// The place of a field's call that is made anew. Where there is no room left, the others are forgotten.
     fn make(
         &mut self,
@@ -175,11 +194,12 @@ impl<'a> Calls<'a> {
     ) -> Result<usize, ArgFault>
         ensures kept { AreKept (setting_of_planning planning.now) self.old → AreKept (setting_of_planning planning.now) self.new }
         ensures within { IfOk result (λ at. at < length self.new.made.items) }
-        ensures found { FindsCall (setting_of_planning planning.now) of.number (collected_field field.now) self.new.made.items result }
+        ensures found { AreKept (setting_of_planning planning.now) self.old → FindsCall (setting_of_planning planning.now) of.number (collected_field field.now) self.new.made.items result }
     {
         self.make_room();
         let at = self.made.len();
-        match new_call(alloc, planning, of, field) {
+        let few = self.are_few(field);
+        match new_call(alloc, planning, of, field, few, &mut self.loads) {
             Ok(call) => {
                 self.put(hash, call)?;
                 Ok(at)
@@ -227,7 +247,7 @@ impl<'a> Calls<'a> {
 
     /// The place of the call that stands for all that are equal to one, as far as that is known.
     fn root(&self, at: usize) -> usize
-        ensures { (e : Setting) → AreKept e self.now → values_at self.now.made.items result ≡ values_at self.now.made.items at }
+        ensures { (e : Setting) → AreKept e self.now → values_at e self.now.made.items result ≡ values_at e self.now.made.items at }
     {
         let mut root = at;
         let mut hops = 0;
@@ -245,7 +265,7 @@ impl<'a> Calls<'a> {
     /// Notes one call for another whose arguments are equal.
     fn point(&mut self, place: usize, to: usize) -> Result<(), AllocError>
         ensures made { self.new.made.items ≡ self.old.made.items }
-        ensures kept { (e : Setting) → AreKept e self.old → values_at self.old.made.items to ≡ values_at self.old.made.items place → AreKept e self.new }
+        ensures kept { (e : Setting) → AreKept e self.old → values_at e self.old.made.items to ≡ values_at e self.old.made.items place → AreKept e self.new }
     {
         if place >= self.made.len() {
             return Ok(());
@@ -258,13 +278,117 @@ impl<'a> Calls<'a> {
         Ok(())
     }
 
+    /// The arguments of the call at a place.
+    fn build(&self, alloc: Global, planning: &Planning<'a>, at: usize) -> Result<Args, ArgFault>
+        requires there { at < length self.now.made.items }
+        ensures { AreKept (setting_of_planning planning.now) self.now → GivesAt (setting_of_planning planning.now) self.now.made.items at result }
+    {
+        let call = &self.made[at];
+        arguments_of(alloc, planning, call.of, &call.field)
+    }
+
+    /// The same. Those that were built last are taken.
+    fn take_built(
+        &mut self,
+        alloc: Global,
+        planning: &Planning<'a>,
+        at: usize,
+    ) -> Result<Args, ArgFault>
+        requires there { at < length self.old.made.items }
+        ensures made { self.new.made.items ≡ self.old.made.items }
+        ensures kept { (e : Setting) → AreKept e self.old → AreKept e self.new }
+        ensures given { AreKept (setting_of_planning planning.now) self.old → GivesAt (setting_of_planning planning.now) self.old.made.items at result }
+    {
+        match self.built.take() {
+            Some(BuiltAt { at: place, args }) => {
+                if place == at {
+                    return Ok(args);
+                }
+                self.build(alloc, planning, at)
+            }
+            None => self.build(alloc, planning, at),
+        }
+    }
+
+    /// Whether the arguments of a field are equal to those of the call at a place, which are built and kept.
+    fn compare_built(
+        &mut self,
+        alloc: Global,
+        planning: &Planning<'a>,
+        at: usize,
+        args: Args,
+        of: FieldId,
+        field: &Collected<'a>,
+    ) -> Result<bool, ArgFault>
+        ensures made { self.new.made.items ≡ self.old.made.items }
+        ensures kept { GivesAt (setting_of_planning planning.now) self.old.made.items at (Ok args) → AreKept (setting_of_planning planning.now) self.old → AreKept (setting_of_planning planning.now) self.new }
+        ensures compares { ComparesArgs (setting_of_planning planning.now) (args_data args) of.number (collected_field field.now) result }
+    {
+        let same = same_as(alloc, planning, &args, of, field);
+        self.built = Some(BuiltAt { at, args });
+        same
+    }
+
+    /// Whether the arguments of a field are equal to those of the call at a place, as far as that is seen by what is written.
+    fn seen_same(
+        &mut self,
+        alloc: Global,
+        at: usize,
+        of: FieldId,
+        field: &Collected<'a>,
+    ) -> Result<bool, AllocError>
+        requires there { at < length self.old.made.items }
+        ensures made { self.new.made.items ≡ self.old.made.items }
+        ensures kept { (e : Setting) → AreKept e self.old → AreKept e self.new }
+        ensures same { (e : Setting) → AreKept e self.old → IfOk result (λ same. IsTrue same → IsSameField e self.old.made.items at of.number (collected_field field.now)) }
+    {
+        let call = &self.made[at];
+        let first = call.field;
+        if call.of == of {
+            let written = first.field.arguments.as_slice();
+            let others = field.field.arguments.as_slice();
+            return self.loads.are_same(alloc, of, written, others);
+        }
+        Ok(false)
+    }
+
+    /// Whether the arguments of a field are equal to those of the call at a place. They are built only where that isn't seen by
+    /// what is written.
+    fn compare(
+        &mut self,
+        alloc: Global,
+        planning: &Planning<'a>,
+        at: usize,
+        of: FieldId,
+        field: &Collected<'a>,
+    ) -> Result<bool, ArgFault>
+        requires there { at < length self.old.made.items }
+        ensures made { self.new.made.items ≡ self.old.made.items }
+        ensures kept { AreKept (setting_of_planning planning.now) self.old → AreKept (setting_of_planning planning.now) self.new }
+        ensures compares { AreKept (setting_of_planning planning.now) self.old → ComparesField (setting_of_planning planning.now) self.old.made.items at of.number (collected_field field.now) result }
+    {
+        if self.seen_same(alloc, at, of, field)? {
+            return Ok(true);
+        }
+        match self.take_built(alloc, planning, at) {
+            Ok(args) => self.compare_built(alloc, planning, at, args, of, field),
+            Err(fault) => Err(fault),
+        }
+    }
+
     /// Whether the arguments of the calls at two places are equal. What is equal to one and the same isn't compared again.
-    fn are_same(&mut self, at: usize, place: usize) -> Result<bool, AllocError>
+    fn are_same(
+        &mut self,
+        alloc: Global,
+        planning: &Planning<'a>,
+        at: usize,
+        place: usize,
+    ) -> Result<bool, ArgFault>
         requires there { at < length self.old.made.items }
         requires there_too { place < length self.old.made.items }
         ensures made { self.new.made.items ≡ self.old.made.items }
-        ensures kept { (e : Setting) → AreKept e self.old → AreKept e self.new }
-        ensures same { (e : Setting) → AreKept e self.old → IfOk result (λ same. AreSameAt self.old.made.items at place same) }
+        ensures kept { AreKept (setting_of_planning planning.now) self.old → AreKept (setting_of_planning planning.now) self.new }
+        ensures same { AreKept (setting_of_planning planning.now) self.old → ComparesPlaces (setting_of_planning planning.now) self.old.made.items at place result }
     {
         let one = self.root(at);
         let other = self.root(place);
@@ -272,17 +396,23 @@ impl<'a> Calls<'a> {
             self.point(place, one)?;
             return Ok(true);
         }
-        let same = same_at(self.made.as_slice(), at, place);
-        if same {
-            self.point(other, one)?;
-            self.point(place, one)?;
+        let second = &self.made[place];
+        let of = second.of;
+        let field = second.field;
+        match self.compare(alloc, planning, at, of, &field) {
+            Ok(true) => {
+                self.point(other, one)?;
+                self.point(place, one)?;
+                Ok(true)
+            }
+            Ok(false) => Ok(false),
+            Err(fault) => Err(fault),
         }
-        Ok(same)
     }
 
     /// Puts a call behind the others whose arguments are equal to those of the call at a place, where there is room.
     fn put_same(&mut self, hash: u64, call: Call<'a>, at: usize) -> Result<(), AllocError>
-        ensures kept { (e : Setting) → AreKept e self.old → IsKept e call.entry → IsSameAsAt self.old.made.items at call.entry → AreKept e self.new }
+        ensures kept { (e : Setting) → AreKept e self.old → IsKept e call.entry → IsSameAsAt e self.old.made.items at call.entry → AreKept e self.new }
         ensures grows { Grows self.old.made.items self.new.made.items }
     {
         if self.held > ROOM {
@@ -308,16 +438,19 @@ impl<'a> Calls<'a> {
         requires there { at < length self.old.made.items }
         ensures kept { AreKept (setting_of_planning planning.now) self.old → AreKept (setting_of_planning planning.now) self.new }
         ensures grows { Grows self.old.made.items self.new.made.items }
-        ensures compares { ComparesAt planning.now of self.old.made.items at other.now result }
+        ensures compares { AreKept (setting_of_planning planning.now) self.old → ComparesAt planning.now of self.old.made.items at other.now result }
     {
-        match new_call(alloc, planning, of, other) {
-            Ok(call) => {
-                if !same_arguments(&self.made[at].args, &call.args) {
-                    return Ok(true);
-                }
+        let few = self.are_few(other);
+        let call = match new_call(alloc, planning, of, other, few, &mut self.loads) {
+            Ok(call) => call,
+            Err(fault) => return Err(fault),
+        };
+        match self.compare(alloc, planning, at, of, other) {
+            Ok(true) => {
                 self.put_same(hash, call, at)?;
                 Ok(false)
             }
+            Ok(false) => Ok(true),
             Err(fault) => Err(fault),
         }
     }
@@ -342,8 +475,33 @@ impl<'a> Calls<'a> {
         }
         let hash = hash_of(of, other);
         match self.known(hash, of, other) {
-            Some(place) => Ok(!self.are_same(at, place)?),
+            Some(place) => match self.are_same(alloc, planning, at, place) {
+                Ok(same) => Ok(!same),
+                Err(fault) => Err(fault),
+            },
             None => self.differs_anew(alloc, planning, of, at, other, hash),
+        }
+    }
+
+    /// What the arguments of a field are refused for, if they are. Its call isn't kept.
+    pub fn refused(
+        &mut self,
+        alloc: Global,
+        planning: &Planning<'a>,
+        of: FieldId,
+        field: &Collected<'a>,
+    ) -> Result<(), ArgFault>
+        ensures made { self.new.made.items ≡ self.old.made.items }
+        ensures kept { AreKept (setting_of_planning planning.now) self.old → AreKept (setting_of_planning planning.now) self.new }
+        ensures refused { AreKept (setting_of_planning planning.now) self.old → TellsRefusal (setting_of_planning planning.now) of.number (collected_field field.now) result }
+    {
+        let few = self.are_few(field);
+        match self.known(hash_of(of, field), of, field) {
+            Some(_) => Ok(()),
+            None => match new_call(alloc, planning, of, field, few, &mut self.loads) {
+                Ok(_) => Ok(()),
+                Err(fault) => Err(fault),
+            },
         }
     }
 }

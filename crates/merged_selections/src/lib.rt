@@ -21,6 +21,7 @@ mod node;
 mod sharing;
 mod stop;
 mod why;
+mod written;
 
 pub use build::build_plan;
 pub use fault::PlanFault;

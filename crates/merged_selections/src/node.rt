@@ -1,9 +1,10 @@
 //! The tests of a node, in their order, and what is found of one that passes them.
 
-ghost use Rattle.std.specs.Prelude.{◌≡◌, ◌<◌, length, map};
+ghost use Rattle.std.specs.Prelude.{◌≡◌, ◌<◌, length, map, IfSome};
 ghost use Rattle.schema_model.specs.Arguments.{args_data};
 ghost use Rattle.collected_fields.specs.Views.{setting_of_planning, collected_field};
-ghost use Rattle.merged_selections.specs.NodeTests.{AreKept, LooksAfterSize, LooksAfterArguments, LooksAfterFirst, LooksAfterNames, LooksAt, fields_seen, names_not, source_at};
+ghost use Rattle.merged_selections.specs.NodeParts.{handed_data};
+ghost use Rattle.merged_selections.specs.NodeTests.{AreKept, LooksAfterSize, LooksAfterArguments, LooksAfterFirst, LooksAfterNames, LooksAt, IsLookedAt, fields_seen, names_not, source_at};
 
 use crate::arguments::any_differs;
 use crate::call::Call;
@@ -76,9 +77,9 @@ fn after_arguments<'a>(
     ensures { LooksAfterArguments planning.now of handed.entry first.now call.now result }
 {
     let taken = handed_in(planning.schema, of, handed, name_of(first));
-    match planning.weights.declared_size(of, &call.args, taken) {
+    match planning.weights.declared_size(of, &call.sizes, taken) {
         Ok(_) => {
-            let source = source_at(planning, of, &call.args, taken);
+            let source = source_at(planning, of, &call.sizes, taken);
             after_size(planning, of, call, source, handed, first)
         }
         Err(fault) => Err(Why::Size(fault)),
@@ -134,6 +135,26 @@ fn names_differ(fields: &[Collected<'_>], name: &str) -> bool
         }
     }
     false
+}
+
+/// What is found of a node, or what was found of it before.
+pub fn look_again<'a>(
+    alloc: Global,
+    planning: &Planning<'a>,
+    of: TypeId,
+    handed: Option<Handed<'_>>,
+    first: &Collected<'a>,
+    others: &[Collected<'a>],
+    looked: Option<Looked<'a>>,
+    calls: &mut Calls<'a>,
+) -> Result<Looked<'a>, Why>
+    ensures kept { AreKept (setting_of_planning planning.now) calls.old → AreKept (setting_of_planning planning.now) calls.new }
+    ensures looks { IfSome looked.entry (IsLookedAt (setting_of_planning planning.now) of.number (handed_data handed.entry) (fields_seen first.now others.now)) → AreKept (setting_of_planning planning.now) calls.old → LooksAt (setting_of_planning planning.now) of.number handed.entry (fields_seen first.now others.now) result }
+{
+    match looked {
+        Some(looked) => Ok(looked),
+        None => look(alloc, planning, of, handed, first, others, calls),
+    }
 }
 
 /// What is found of the node whose fields these are, for objects of a type, or the first test that it doesn't pass. `calls` are

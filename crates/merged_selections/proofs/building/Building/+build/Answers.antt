@@ -1,6 +1,9 @@
-use Rattle.std.proofs.Common.{refl, sym, ap, subst, ◌∙◌, List, map, ◌∷◌, ◌+◌, Option, Ok, Err, Vec, Global}
+use Rattle.std.proofs.Common.{refl, sym, ap, subst, ◌∙◌, ℕ, List, map, [], ◌∷◌, ◌+◌, Option, Ok, Err}
+use Rattle.std.specs.List.{slice_get}
 use Rattle.std.proofs.lemmas.List.{drop_more}
 use Rattle.merged_selections.specs.NodeParts.{handed_data, types_at}
+use Rattle.merged_selections.specs.declared.node.Looked.{Looked}
+use Rattle.merged_selections.specs.declared.known.FoundGroups.{FoundGroups}
 use Rattle.merged_selections.specs.Again.{name_in, MayBeKnown, FindsFor}
 use Rattle.merged_selections.proofs.MetAgain.{told_by_name}
 use Rattle.collected_fields.specs.Alone.{SpreadsAlone}
@@ -17,9 +20,9 @@ use Rattle.collected_fields.specs.declared.collector.Collector.{Collector}
 use Rattle.collected_fields.specs.Lists.{HasMore}
 use Rattle.collected_fields.proofs.ListLaws.{more_itself, more_again}
 use Rattle.input_values.specs.declared.inputs.shape.TypeId.{TypeId}
-use Rattle.merged_selections.specs.Stages.{levels_from, setting_built, node_seen, BuildsGroups, BuildsTypes}
+use Rattle.merged_selections.specs.Stages.{levels_from, setting_built, node_seen, BuildsGroups, BuildsGroup, BuildsTypes}
 use Rattle.merged_selections.proofs.FewerTypes.{objects_at, left_built}
-use Rattle.merged_selections.proofs.BuiltNodes.{frames, can_after, kept_before, can_still, below_visits, below_built, below_stops, below_fine, rows_there, past_limit, too_deep_stops, fault_stops, levels_more, no_levels}
+use Rattle.merged_selections.proofs.BuiltNodes.{frames, can_after, kept_before, kept_still, seen_before, can_still, below_visits, below_built, below_stops, below_fine, rows_there, past_limit, too_deep_stops, fault_stops, levels_more, no_levels}
 use Rattle.merged_selections.proofs.building.Building.+build.Goals as goal
 
 pub build_position-returns-clause-built : goal.build_position-returns-clause-built
@@ -55,7 +58,8 @@ build_types-returns-clause-built t c =
 
 pub build_groups-returns-in-Err-clause-built : goal.build_groups-returns-in-Err-clause-built
 build_groups-returns-in-Err-clause-built t c =
-    groups_stop c.args.self.now c.groups.self c.build_group.new.self c.args.depth c.args.of.number c.args.groups.now (handed_data c.args.handed) c.groups.group-index c.groups.first c.groups.invariant.0 c.groups.invariant.1 c.groups.invariant.2 c.groups.invariant.3 c.group-item.result c.groups-test.true c.group-item.is c.in-Err.stop c.in-Err.ensures.built
+    groups_stop c.args.self.now c.groups.self c.build_group.new.self c.args.depth c.args.of.number c.args.groups.now c.args.looked.now (handed_data c.args.handed) c.groups.group-index c.groups.first c.groups.invariant.0 c.groups.invariant.1 c.groups.invariant.2 c.groups.invariant.4 c.group-item.result c.groups-test.true c.group-item.is c.in-Err.stop
+    (subst (λ (one : Option Looked). BuildsGroup c.groups.self c.args.depth (Err c.in-Err.stop) c.build_group.new.self c.args.of.number c.groups.first c.group-item.result one (handed_data c.args.handed)) (c.looked_there-one.ensures ∙ ap (slice_get c.args.looked.now) c.groups.invariant.3) c.in-Err.ensures.built)
 
 pub build_groups-returns-in-Err-clause-numbers : goal.build_groups-returns-in-Err-clause-numbers
 build_groups-returns-in-Err-clause-numbers t c = more_again c.args.self.now.collector.joins c.groups.self.collector.joins c.build_group.new.self.collector.joins c.groups.invariant.1 c.in-Err.ensures.numbers
@@ -65,38 +69,41 @@ build_groups-groups-preserved t c = (
   c.in-Ok.ensures.frame ∙ c.groups.invariant.0,
   more_again c.args.self.now.collector.joins c.groups.self.collector.joins c.build_group.new.self.collector.joins c.groups.invariant.1 c.in-Ok.ensures.numbers,
   λ can. c.in-Ok.ensures.ready (c.groups.invariant.2 can),
-  groups_go c.args.self.now c.groups.self c.build_group.new.self c.args.depth c.args.of.number c.args.groups.now (handed_data c.args.handed) c.groups.group-index c.groups.first c.groups.invariant.0 c.groups.invariant.1 c.groups.invariant.2 c.groups.invariant.3 c.group-item.result c.groups-test.true c.group-item.is c.in-Ok.field-0 c.in-Ok.ensures.built,
+  ap (λ (n : ℕ). n + 1) c.groups.invariant.3,
+  groups_go c.args.self.now c.groups.self c.build_group.new.self c.args.depth c.args.of.number c.args.groups.now c.args.looked.now (handed_data c.args.handed) c.groups.group-index c.groups.first c.groups.invariant.0 c.groups.invariant.1 c.groups.invariant.2 c.groups.invariant.4 c.group-item.result c.groups-test.true c.group-item.is c.in-Ok.field-0
+      (subst (λ (one : Option Looked). BuildsGroup c.groups.self c.args.depth (Ok c.in-Ok.field-0) c.build_group.new.self c.args.of.number c.groups.first c.group-item.result one (handed_data c.args.handed)) (c.looked_there-one.ensures ∙ ap (slice_get c.args.looked.now) c.groups.invariant.3) c.in-Ok.ensures.built),
 )
 
 pub build_groups-returns-clause-built : goal.build_groups-returns-clause-built
 build_groups-returns-clause-built t c =
-    groups_end c.args.self.now c.groups.self c.groups.self c.args.depth c.args.of.number c.args.groups.now (handed_data c.args.handed) c.groups.group-index c.groups.first c.groups.invariant.0 c.groups.invariant.1 c.groups.invariant.2 c.groups.invariant.3 c.groups-test.false tt
+    groups_end c.args.self.now c.groups.self c.groups.self c.args.depth c.args.of.number c.args.groups.now c.args.looked.now (handed_data c.args.handed) c.groups.group-index c.groups.first c.groups.invariant.0 c.groups.invariant.1 c.groups.invariant.2 c.groups.invariant.4 c.groups-test.false tt
 
 pub build_type-returns-in-Some-clause-built : goal.build_type-returns-in-Some-clause-built
 build_type-returns-in-Some-clause-built t c =
-    known_built c.args.self.now c.build_groups.new.self c.args.depth c.args.of.number c.args.lists.now (handed_data c.args.handed) (name_in c.spread_alone-spread.result) c.in-Some.groups.items (schema_data c.planning.result.schema.now) c.build_groups.result
+    known_built c.args.self.now c.build_groups.new.self c.args.depth c.args.of.number c.args.lists.now (handed_data c.args.handed) (name_in c.spread_alone-spread.result) c.in-Some.found (schema_data c.planning.result.schema.now) c.build_groups.result
     (ap (λ (pl : Planning). schema_data pl.schema.now) (sym c.planning.ensures))
-    (subst (λ (found : Option (Vec Group Global)). IfSome found (λ groups. FindsFor (schema_data c.planning.result.schema.now) c.args.self.now.known c.args.of.number c.args.lists.now (name_in c.spread_alone-spread.result) groups.items)) c.in-Some.is c.in_ok-groups.ensures)
+    (subst (λ (found : Option FoundGroups). IfSome found (FindsFor (schema_data c.planning.result.schema.now) c.args.self.now.known c.args.of.number c.args.lists.now (name_in c.spread_alone-spread.result) (handed_data c.args.handed))) c.in-Some.is c.in_ok-found.ensures)
     (told_by_name (SpreadsAlone c.args.self.now.collector c.args.lists.now) c.spread_alone-spread.result c.spread_alone-spread.ensures)
-    (subst (λ (gs : List Group). BuildsGroups c.args.self.now c.args.depth c.build_groups.result c.build_groups.new.self c.args.of.number gs (handed_data c.args.handed)) c.as_slice.ensures.value c.build_groups.ensures.built)
+    (subst (λ (gs : List Group). BuildsGroups c.args.self.now c.args.depth c.build_groups.result c.build_groups.new.self c.args.of.number gs c.in-Some.found.looked.items (handed_data c.args.handed)) c.as_slice.ensures.value
+    (subst (λ (ls : List Looked). BuildsGroups c.args.self.now c.args.depth c.build_groups.result c.build_groups.new.self c.args.of.number c.as_slice.result.now ls (handed_data c.args.handed)) c.as_slice-looked.ensures.value c.build_groups.ensures.built))
 
 pub build_anew-returns-in-Err-clause-built : goal.build_anew-returns-in-Err-clause-built
 build_anew-returns-in-Err-clause-built t c =
     type_built c.args.self.now (record { collector = c.collect.new.self; plan = c.args.self.now.plan; left = c.args.self.now.left; calls = c.args.self.now.calls; keys = c.args.self.now.keys; known = c.args.self.now.known }) c.build_groups.new.self (frames c.args.self.now c.collect.new.self c.collect.ensures.grows.planning c.collect.ensures.grows.written) refl refl c.args.depth c.args.of.number c.args.lists.now (handed_data c.args.handed) c.in_ok-groups.groups.items (Err c.in-Err.stop)
     (can_after c.args.self.now c.collect.new.self c.collect.ensures.grows.planning c.collect.ensures.grows.written c.collect.ensures.grows.numbers c.collect.ensures.grows.ready) c.in_ok-groups.ensures.gives
-    (subst (λ (gs : List Group). BuildsGroups (record { collector = c.collect.new.self; plan = c.args.self.now.plan; left = c.args.self.now.left; calls = c.args.self.now.calls; keys = c.args.self.now.keys; known = c.args.self.now.known }) c.args.depth (Err c.in-Err.stop) c.build_groups.new.self c.args.of.number gs (handed_data c.args.handed)) c.as_slice.ensures.value c.in-Err.ensures.built)
+    (subst (λ (gs : List Group). BuildsGroups (record { collector = c.collect.new.self; plan = c.args.self.now.plan; left = c.args.self.now.left; calls = c.args.self.now.calls; keys = c.args.self.now.keys; known = c.args.self.now.known }) c.args.depth (Err c.in-Err.stop) c.build_groups.new.self c.args.of.number gs [] (handed_data c.args.handed)) c.as_slice.ensures.value c.in-Err.ensures.built)
 
 pub build_anew-returns-then-not-known-clause-built : goal.build_anew-returns-then-not-known-clause-built
 build_anew-returns-then-not-known-clause-built t c =
     type_built c.args.self.now (record { collector = c.collect.new.self; plan = c.args.self.now.plan; left = c.args.self.now.left; calls = c.args.self.now.calls; keys = c.args.self.now.keys; known = c.args.self.now.known }) c.build_groups.new.self (frames c.args.self.now c.collect.new.self c.collect.ensures.grows.planning c.collect.ensures.grows.written) refl refl c.args.depth c.args.of.number c.args.lists.now (handed_data c.args.handed) c.in_ok-groups.groups.items (Ok c.in-Ok.field-0)
     (can_after c.args.self.now c.collect.new.self c.collect.ensures.grows.planning c.collect.ensures.grows.written c.collect.ensures.grows.numbers c.collect.ensures.grows.ready) c.in_ok-groups.ensures.gives
-    (subst (λ (gs : List Group). BuildsGroups (record { collector = c.collect.new.self; plan = c.args.self.now.plan; left = c.args.self.now.left; calls = c.args.self.now.calls; keys = c.args.self.now.keys; known = c.args.self.now.known }) c.args.depth (Ok c.in-Ok.field-0) c.build_groups.new.self c.args.of.number gs (handed_data c.args.handed)) c.as_slice.ensures.value c.in-Ok.ensures.built)
+    (subst (λ (gs : List Group). BuildsGroups (record { collector = c.collect.new.self; plan = c.args.self.now.plan; left = c.args.self.now.left; calls = c.args.self.now.calls; keys = c.args.self.now.keys; known = c.args.self.now.known }) c.args.depth (Ok c.in-Ok.field-0) c.build_groups.new.self c.args.of.number gs [] (handed_data c.args.handed)) c.as_slice.ensures.value c.in-Ok.ensures.built)
 
 pub build_anew-returns-clause-built : goal.build_anew-returns-clause-built
 build_anew-returns-clause-built t c =
     type_built c.args.self.now (record { collector = c.collect.new.self; plan = c.args.self.now.plan; left = c.args.self.now.left; calls = c.args.self.now.calls; keys = c.args.self.now.keys; known = c.args.self.now.known }) c.build_groups.new.self (frames c.args.self.now c.collect.new.self c.collect.ensures.grows.planning c.collect.ensures.grows.written) refl refl c.args.depth c.args.of.number c.args.lists.now (handed_data c.args.handed) c.in_ok-groups.groups.items (Ok c.in-Ok.field-0)
     (can_after c.args.self.now c.collect.new.self c.collect.ensures.grows.planning c.collect.ensures.grows.written c.collect.ensures.grows.numbers c.collect.ensures.grows.ready) c.in_ok-groups.ensures.gives
-    (subst (λ (gs : List Group). BuildsGroups (record { collector = c.collect.new.self; plan = c.args.self.now.plan; left = c.args.self.now.left; calls = c.args.self.now.calls; keys = c.args.self.now.keys; known = c.args.self.now.known }) c.args.depth (Ok c.in-Ok.field-0) c.build_groups.new.self c.args.of.number gs (handed_data c.args.handed)) c.as_slice.ensures.value c.in-Ok.ensures.built)
+    (subst (λ (gs : List Group). BuildsGroups (record { collector = c.collect.new.self; plan = c.args.self.now.plan; left = c.args.self.now.left; calls = c.args.self.now.calls; keys = c.args.self.now.keys; known = c.args.self.now.known }) c.args.depth (Ok c.in-Ok.field-0) c.build_groups.new.self c.args.of.number gs [] (handed_data c.args.handed)) c.as_slice.ensures.value c.in-Ok.ensures.built)
 
 pub build_anew-returns-in-Err-clause-numbers : goal.build_anew-returns-in-Err-clause-numbers
 build_anew-returns-in-Err-clause-numbers t c = more_again c.args.self.now.collector.joins c.collect.new.self.joins c.build_groups.new.self.collector.joins c.collect.ensures.grows.numbers c.build_groups.ensures.numbers
@@ -111,42 +118,45 @@ pub build_anew-returns-clause-numbers : goal.build_anew-returns-clause-numbers
 build_anew-returns-clause-numbers t c = more_again c.args.self.now.collector.joins c.collect.new.self.joins c.build_groups.new.self.collector.joins c.collect.ensures.grows.numbers c.build_groups.ensures.numbers
 
 pub build_node-returns-then-self-eq0-clause-built : goal.build_node-returns-then-self-eq0-clause-built
-build_node-returns-then-self-eq0-clause-built t c = λ can. past_limit (setting_built c.args.self.now) c.args.of.number (handed_data c.args.handed) (node_seen c.args.self.now (c.args.field.now ∷ c.args.others.now) c.args.below.now) (levels_from c.args.depth) c.args.self.now.left c.if-self-eq0.true
+build_node-returns-then-self-eq0-clause-built t c = λ seen can. past_limit (setting_built c.args.self.now) c.args.of.number (handed_data c.args.handed) (node_seen c.args.self.now (c.args.field.now ∷ c.args.others.now) c.args.below.now) (levels_from c.args.depth) c.args.self.now.left c.if-self-eq0.true
 
 pub build_node-returns-then-depth-gt-LEVEL_LIMIT-clause-built : goal.build_node-returns-then-depth-gt-LEVEL_LIMIT-clause-built
-build_node-returns-then-depth-gt-LEVEL_LIMIT-clause-built t c = λ can. too_deep_stops (setting_built c.args.self.now) c.args.of.number (handed_data c.args.handed) (node_seen c.args.self.now (c.args.field.now ∷ c.args.others.now) c.args.below.now) c.args.self.now.left c.if-self-eq0.false c.key_of-key.result.now c.key_of-key.ensures (levels_from c.args.depth) (no_levels c.args.depth c.if-depth-gt-LEVEL_LIMIT.true) c.stopped.result c.stopped.ensures
+build_node-returns-then-depth-gt-LEVEL_LIMIT-clause-built t c = λ seen can. too_deep_stops (setting_built c.args.self.now) c.args.of.number (handed_data c.args.handed) (node_seen c.args.self.now (c.args.field.now ∷ c.args.others.now) c.args.below.now) c.args.self.now.left c.if-self-eq0.false c.key_of-key.result.now c.key_of-key.ensures (levels_from c.args.depth) (no_levels c.args.depth c.if-depth-gt-LEVEL_LIMIT.true) c.stopped.result c.stopped.ensures
 
 pub build_node-returns-in-Err-clause-built : goal.build_node-returns-in-Err-clause-built
-build_node-returns-in-Err-clause-built t c = λ can. fault_stops (setting_built c.args.self.now) c.args.of.number (handed_data c.args.handed) (node_seen c.args.self.now (c.args.field.now ∷ c.args.others.now) c.args.below.now) c.args.self.now.left c.if-self-eq0.false c.key_of-key.result.now c.key_of-key.ensures (levels_from c.args.depth) (levels_from (c.args.depth + 1)) (levels_more c.args.depth c.if-depth-gt-LEVEL_LIMIT.false) _ (fault_told c.in-Err.why)
-    (subst (λ (pl : Planning). IsThere (fault_told c.in-Err.why) (fault_of (setting_of_planning pl) c.args.of.number (handed_data c.args.handed) (map collected_field (c.args.field.now ∷ c.args.others.now)))) c.planning-planning.ensures (c.in-Err.ensures.looks (kept_before c.args.self.now _ c.planning-planning.ensures can.0)))
+build_node-returns-in-Err-clause-built t c = λ seen can. fault_stops (setting_built c.args.self.now) c.args.of.number (handed_data c.args.handed) (node_seen c.args.self.now (c.args.field.now ∷ c.args.others.now) c.args.below.now) c.args.self.now.left c.if-self-eq0.false c.key_of-key.result.now c.key_of-key.ensures (levels_from c.args.depth) (levels_from (c.args.depth + 1)) (levels_more c.args.depth c.if-depth-gt-LEVEL_LIMIT.false) _ (fault_told c.in-Err.why)
+    (subst (λ (pl : Planning). IsThere (fault_told c.in-Err.why) (fault_of (setting_of_planning pl) c.args.of.number (handed_data c.args.handed) (map collected_field (c.args.field.now ∷ c.args.others.now)))) c.planning-planning.ensures (c.in-Err.ensures.looks (seen_before c.args.self.now _ c.args.of.number (handed_data c.args.handed) (map collected_field (c.args.field.now ∷ c.args.others.now)) c.args.looked c.planning-planning.ensures seen) (kept_before c.args.self.now _ c.planning-planning.ensures can.0)))
     c.stopped-in-Err.ensures
 
 pub build_node-returns-in-Ok-build_position-clause-built : goal.build_node-returns-in-Ok-build_position-clause-built
-build_node-returns-in-Ok-build_position-clause-built t c = λ can.
-    let here = below_built c.args.self.now c.push_row.new.self c.build_position.new.self c.args.depth c.args.of.number c.args.first c.args.field.now c.args.others.now (handed_data c.args.handed) c.in-Ok.looked c.types_at-types.result.now c.args.below.now c.in_ok-push_row-in-Ok.ensures.collector (subst (λ (pl : Planning). IsFound (setting_of_planning pl) c.args.of.number (handed_data c.args.handed) (collected_field c.args.field.now).call c.in-Ok.looked) c.planning-planning.ensures (c.in-Ok.ensures.looks (kept_before c.args.self.now _ c.planning-planning.ensures can.0)).1)
-    (c.types_at-types.ensures ∙ ap (λ (pl : Planning). types_at (setting_of_planning pl).schema c.in-Ok.looked.field) c.planning-planning.ensures) (Ok c.in-Ok-build_position.field-0) (c.in_ok-push_row-in-Ok.ensures.ready (can_still c.args.self.now _ _ c.look.new.calls c.planning-planning.ensures c.in-Ok.ensures.kept can.0)) can.1 (c.in-Ok-build_position.ensures.built (objects_at c.args.self.now _ c.push_row.new.self.collector c.in-Ok.looked.field c.types_at-types.result.now c.planning-planning.ensures c.in_ok-push_row-in-Ok.ensures.collector c.types_at-types.ensures)) in (
-      below_fine (setting_built c.args.self.now) c.args.of.number (handed_data c.args.handed) (node_seen c.args.self.now (c.args.field.now ∷ c.args.others.now) c.args.below.now) c.args.self.now.left c.if-self-eq0.false c.key_of-key.result.now c.key_of-key.ensures (levels_from c.args.depth) (levels_from (c.args.depth + 1)) c.build_position.new.self.left (levels_more c.args.depth c.if-depth-gt-LEVEL_LIMIT.false) (ap (λ (pl : Planning). fault_of (setting_of_planning pl) c.args.of.number (handed_data c.args.handed) (map collected_field (c.args.field.now ∷ c.args.others.now))) (sym c.planning-planning.ensures) ∙ (c.in-Ok.ensures.looks (kept_before c.args.self.now _ c.planning-planning.ensures can.0)).0)
+build_node-returns-in-Ok-build_position-clause-built t c = λ seen can.
+    let here = below_built c.args.self.now c.push_row.new.self c.build_position.new.self c.args.depth c.args.of.number c.args.first c.args.field.now c.args.others.now (handed_data c.args.handed) c.in-Ok.looked c.types_at-types.result.now c.args.below.now c.in_ok-push_row-in-Ok.ensures.collector (subst (λ (pl : Planning). IsFound (setting_of_planning pl) c.args.of.number (handed_data c.args.handed) (collected_field c.args.field.now).call c.in-Ok.looked) c.planning-planning.ensures (c.in-Ok.ensures.looks (seen_before c.args.self.now _ c.args.of.number (handed_data c.args.handed) (map collected_field (c.args.field.now ∷ c.args.others.now)) c.args.looked c.planning-planning.ensures seen) (kept_before c.args.self.now _ c.planning-planning.ensures can.0)).1)
+    (c.types_at-types.ensures ∙ ap (λ (pl : Planning). types_at (setting_of_planning pl).schema c.in-Ok.looked.field) c.planning-planning.ensures) (Ok c.in-Ok-build_position.field-0) (c.in_ok-push_row-in-Ok.ensures.ready (can_still c.args.self.now _ _ c.look_again.new.calls c.planning-planning.ensures c.in-Ok.ensures.kept can.0)) can.1 (c.in-Ok-build_position.ensures.built (objects_at c.args.self.now _ c.push_row.new.self.collector c.in-Ok.looked.field c.types_at-types.result.now c.planning-planning.ensures c.in_ok-push_row-in-Ok.ensures.collector c.types_at-types.ensures)) in (
+      below_fine (setting_built c.args.self.now) c.args.of.number (handed_data c.args.handed) (node_seen c.args.self.now (c.args.field.now ∷ c.args.others.now) c.args.below.now) c.args.self.now.left c.if-self-eq0.false c.key_of-key.result.now c.key_of-key.ensures (levels_from c.args.depth) (levels_from (c.args.depth + 1)) c.build_position.new.self.left (levels_more c.args.depth c.if-depth-gt-LEVEL_LIMIT.false) (ap (λ (pl : Planning). fault_of (setting_of_planning pl) c.args.of.number (handed_data c.args.handed) (map collected_field (c.args.field.now ∷ c.args.others.now))) (sym c.planning-planning.ensures) ∙ (c.in-Ok.ensures.looks (seen_before c.args.self.now _ c.args.of.number (handed_data c.args.handed) (map collected_field (c.args.field.now ∷ c.args.others.now)) c.args.looked c.planning-planning.ensures seen) (kept_before c.args.self.now _ c.planning-planning.ensures can.0)).0)
           (ap (λ n. outcome n (below_visits (setting_built c.args.self.now) c.args.of.number (handed_data c.args.handed) (node_seen c.args.self.now (c.args.field.now ∷ c.args.others.now) c.args.below.now) (levels_from (c.args.depth + 1)))) (sym c.in_ok-push_row-in-Ok.ensures.left) ∙ here.0),
-      rows_there c.args.self.now c.push_row.new.self c.build_position.new.self c.args.depth c.args.of.number c.args.first c.args.field.now c.args.others.now (handed_data c.args.handed) c.in-Ok.looked c.types_at-types.result.now c.args.below.now c.in_ok-push_row-in-Ok.ensures.collector (subst (λ (pl : Planning). IsFound (setting_of_planning pl) c.args.of.number (handed_data c.args.handed) (collected_field c.args.field.now).call c.in-Ok.looked) c.planning-planning.ensures (c.in-Ok.ensures.looks (kept_before c.args.self.now _ c.planning-planning.ensures can.0)).1)
+      rows_there c.args.self.now c.push_row.new.self c.build_position.new.self c.args.depth c.args.of.number c.args.first c.args.field.now c.args.others.now (handed_data c.args.handed) c.in-Ok.looked c.types_at-types.result.now c.args.below.now c.in_ok-push_row-in-Ok.ensures.collector (subst (λ (pl : Planning). IsFound (setting_of_planning pl) c.args.of.number (handed_data c.args.handed) (collected_field c.args.field.now).call c.in-Ok.looked) c.planning-planning.ensures (c.in-Ok.ensures.looks (seen_before c.args.self.now _ c.args.of.number (handed_data c.args.handed) (map collected_field (c.args.field.now ∷ c.args.others.now)) c.args.looked c.planning-planning.ensures seen) (kept_before c.args.self.now _ c.planning-planning.ensures can.0)).1)
           (c.types_at-types.ensures ∙ ap (λ (pl : Planning). types_at (setting_of_planning pl).schema c.in-Ok.looked.field) c.planning-planning.ensures) c.if-depth-gt-LEVEL_LIMIT.false can.0.plan c.in_ok-push_row-in-Ok.ensures.pushed here.1,
     )
 
 pub build_node-returns-in-Err-build_position-clause-built : goal.build_node-returns-in-Err-build_position-clause-built
-build_node-returns-in-Err-build_position-clause-built t c = λ can.
-    below_stops (setting_built c.args.self.now) c.args.of.number (handed_data c.args.handed) (node_seen c.args.self.now (c.args.field.now ∷ c.args.others.now) c.args.below.now) c.args.self.now.left c.if-self-eq0.false c.key_of-key.result.now c.key_of-key.ensures (levels_from c.args.depth) (levels_from (c.args.depth + 1)) (levels_more c.args.depth c.if-depth-gt-LEVEL_LIMIT.false) (ap (λ (pl : Planning). fault_of (setting_of_planning pl) c.args.of.number (handed_data c.args.handed) (map collected_field (c.args.field.now ∷ c.args.others.now))) (sym c.planning-planning.ensures) ∙ (c.in-Ok.ensures.looks (kept_before c.args.self.now _ c.planning-planning.ensures can.0)).0) c.in-Err-build_position.stop c.under.result
+build_node-returns-in-Err-build_position-clause-built t c = λ seen can.
+    below_stops (setting_built c.args.self.now) c.args.of.number (handed_data c.args.handed) (node_seen c.args.self.now (c.args.field.now ∷ c.args.others.now) c.args.below.now) c.args.self.now.left c.if-self-eq0.false c.key_of-key.result.now c.key_of-key.ensures (levels_from c.args.depth) (levels_from (c.args.depth + 1)) (levels_more c.args.depth c.if-depth-gt-LEVEL_LIMIT.false) (ap (λ (pl : Planning). fault_of (setting_of_planning pl) c.args.of.number (handed_data c.args.handed) (map collected_field (c.args.field.now ∷ c.args.others.now))) (sym c.planning-planning.ensures) ∙ (c.in-Ok.ensures.looks (seen_before c.args.self.now _ c.args.of.number (handed_data c.args.handed) (map collected_field (c.args.field.now ∷ c.args.others.now)) c.args.looked c.planning-planning.ensures seen) (kept_before c.args.self.now _ c.planning-planning.ensures can.0)).0) c.in-Err-build_position.stop c.under.result
     (subst (λ n. IsStop c.in-Err-build_position.stop (outcome n (below_visits (setting_built c.args.self.now) c.args.of.number (handed_data c.args.handed) (node_seen c.args.self.now (c.args.field.now ∷ c.args.others.now) c.args.below.now) (levels_from (c.args.depth + 1))))) c.in_ok-push_row-in-Ok.ensures.left
-    (below_built c.args.self.now c.push_row.new.self c.build_position.new.self c.args.depth c.args.of.number c.args.first c.args.field.now c.args.others.now (handed_data c.args.handed) c.in-Ok.looked c.types_at-types.result.now c.args.below.now c.in_ok-push_row-in-Ok.ensures.collector (subst (λ (pl : Planning). IsFound (setting_of_planning pl) c.args.of.number (handed_data c.args.handed) (collected_field c.args.field.now).call c.in-Ok.looked) c.planning-planning.ensures (c.in-Ok.ensures.looks (kept_before c.args.self.now _ c.planning-planning.ensures can.0)).1)
-    (c.types_at-types.ensures ∙ ap (λ (pl : Planning). types_at (setting_of_planning pl).schema c.in-Ok.looked.field) c.planning-planning.ensures) (Err c.in-Err-build_position.stop) (c.in_ok-push_row-in-Ok.ensures.ready (can_still c.args.self.now _ _ c.look.new.calls c.planning-planning.ensures c.in-Ok.ensures.kept can.0)) can.1 (c.in-Err-build_position.ensures.built (objects_at c.args.self.now _ c.push_row.new.self.collector c.in-Ok.looked.field c.types_at-types.result.now c.planning-planning.ensures c.in_ok-push_row-in-Ok.ensures.collector c.types_at-types.ensures))))
+    (below_built c.args.self.now c.push_row.new.self c.build_position.new.self c.args.depth c.args.of.number c.args.first c.args.field.now c.args.others.now (handed_data c.args.handed) c.in-Ok.looked c.types_at-types.result.now c.args.below.now c.in_ok-push_row-in-Ok.ensures.collector (subst (λ (pl : Planning). IsFound (setting_of_planning pl) c.args.of.number (handed_data c.args.handed) (collected_field c.args.field.now).call c.in-Ok.looked) c.planning-planning.ensures (c.in-Ok.ensures.looks (seen_before c.args.self.now _ c.args.of.number (handed_data c.args.handed) (map collected_field (c.args.field.now ∷ c.args.others.now)) c.args.looked c.planning-planning.ensures seen) (kept_before c.args.self.now _ c.planning-planning.ensures can.0)).1)
+    (c.types_at-types.ensures ∙ ap (λ (pl : Planning). types_at (setting_of_planning pl).schema c.in-Ok.looked.field) c.planning-planning.ensures) (Err c.in-Err-build_position.stop) (c.in_ok-push_row-in-Ok.ensures.ready (can_still c.args.self.now _ _ c.look_again.new.calls c.planning-planning.ensures c.in-Ok.ensures.kept can.0)) can.1 (c.in-Err-build_position.ensures.built (objects_at c.args.self.now _ c.push_row.new.self.collector c.in-Ok.looked.field c.types_at-types.result.now c.planning-planning.ensures c.in_ok-push_row-in-Ok.ensures.collector c.types_at-types.ensures))))
     c.under.ensures
 
+pub build_node-returns-in-Err-clause-ready : goal.build_node-returns-in-Err-clause-ready
+build_node-returns-in-Err-clause-ready t c = λ can. can_still c.args.self.now _ _ c.look_again.new.calls c.planning-planning.ensures c.in-Err.ensures.kept can
+
 pub build_node-returns-in_err-push_row-in-Ok-clause-ready : goal.build_node-returns-in_err-push_row-in-Ok-clause-ready
-build_node-returns-in_err-push_row-in-Ok-clause-ready t c = λ can. c.in_err-push_row-in-Ok.ensures.ready (can_still c.args.self.now _ _ c.look.new.calls c.planning-planning.ensures c.in-Ok.ensures.kept can)
+build_node-returns-in_err-push_row-in-Ok-clause-ready t c = λ can. c.in_err-push_row-in-Ok.ensures.ready (can_still c.args.self.now _ _ c.look_again.new.calls c.planning-planning.ensures c.in-Ok.ensures.kept can)
 
 pub build_node-returns-in-Ok-build_position-clause-ready : goal.build_node-returns-in-Ok-build_position-clause-ready
-build_node-returns-in-Ok-build_position-clause-ready t c = λ can. c.in-Ok-build_position.ensures.ready (c.in_ok-push_row-in-Ok.ensures.ready (can_still c.args.self.now _ _ c.look.new.calls c.planning-planning.ensures c.in-Ok.ensures.kept can))
+build_node-returns-in-Ok-build_position-clause-ready t c = λ can. c.in-Ok-build_position.ensures.ready (c.in_ok-push_row-in-Ok.ensures.ready (can_still c.args.self.now _ _ c.look_again.new.calls c.planning-planning.ensures c.in-Ok.ensures.kept can))
 
 pub build_node-returns-in-Err-build_position-clause-ready : goal.build_node-returns-in-Err-build_position-clause-ready
-build_node-returns-in-Err-build_position-clause-ready t c = λ can. c.in-Err-build_position.ensures.ready (c.in_ok-push_row-in-Ok.ensures.ready (can_still c.args.self.now _ _ c.look.new.calls c.planning-planning.ensures c.in-Ok.ensures.kept can))
+build_node-returns-in-Err-build_position-clause-ready t c = λ can. c.in-Err-build_position.ensures.ready (c.in_ok-push_row-in-Ok.ensures.ready (can_still c.args.self.now _ _ c.look_again.new.calls c.planning-planning.ensures c.in-Ok.ensures.kept can))
 
 pub build_anew-returns-in_err-groups-clause-ready : goal.build_anew-returns-in_err-groups-clause-ready
 build_anew-returns-in_err-groups-clause-ready t c = λ can. (can_after c.args.self.now c.collect.new.self c.collect.ensures.grows.planning c.collect.ensures.grows.written c.collect.ensures.grows.numbers c.collect.ensures.grows.ready) can
@@ -162,13 +172,13 @@ build_anew-returns-in_err-keep-clause-ready t c = λ can.
     let after = c.build_groups.ensures.ready ((can_after c.args.self.now c.collect.new.self c.collect.ensures.grows.planning c.collect.ensures.grows.written c.collect.ensures.grows.numbers c.collect.ensures.grows.ready) can) in record {
       collector = after.collector;
       plan = after.plan;
-      calls = after.calls;
-      known = c.keep.ensures c.build_groups.new.self.collector (ap (λ (pl : Planning). schema_data pl.schema.now) (sym c.planning.ensures))
+      calls = kept_still c.build_groups.new.self _ c.keep.new.calls c.planning-planning.ensures c.keep.ensures.kept after;
+      known = c.keep.ensures.known c.build_groups.new.self.collector (sym c.planning-planning.ensures) (kept_before c.build_groups.new.self _ c.planning-planning.ensures after)
           (subst (λ (gs : List Group). MayBeKnown c.build_groups.new.self.collector c.args.of.number c.args.lists.now (name_in c.spread_alone-spread.result) gs) (sym c.as_slice-2.ensures.value)
           (built_known c.args.self.now (record { collector = c.collect.new.self; plan = c.args.self.now.plan; left = c.args.self.now.left; calls = c.args.self.now.calls; keys = c.args.self.now.keys; known = c.args.self.now.known }) c.build_groups.new.self (frames c.args.self.now c.collect.new.self c.collect.ensures.grows.planning c.collect.ensures.grows.written) c.build_groups.ensures.frame c.collect.ensures.grows.numbers c.build_groups.ensures.numbers can ((can_after c.args.self.now c.collect.new.self c.collect.ensures.grows.planning c.collect.ensures.grows.written c.collect.ensures.grows.numbers c.collect.ensures.grows.ready) can)
           c.args.depth c.args.of.number c.args.lists.now (handed_data c.args.handed) (name_in c.spread_alone-spread.result) c.in_ok-groups.groups.items c.in-Ok.field-0 (c.knows-known.ensures c.if-not-known.false)
           (told_by_name (SpreadsAlone c.args.self.now.collector c.args.lists.now) c.spread_alone-spread.result c.spread_alone-spread.ensures) c.in_ok-groups.ensures.gives
-          (subst (λ (gs : List Group). BuildsGroups (record { collector = c.collect.new.self; plan = c.args.self.now.plan; left = c.args.self.now.left; calls = c.args.self.now.calls; keys = c.args.self.now.keys; known = c.args.self.now.known }) c.args.depth (Ok c.in-Ok.field-0) c.build_groups.new.self c.args.of.number gs (handed_data c.args.handed)) c.as_slice.ensures.value c.in-Ok.ensures.built)))
+          (subst (λ (gs : List Group). BuildsGroups (record { collector = c.collect.new.self; plan = c.args.self.now.plan; left = c.args.self.now.left; calls = c.args.self.now.calls; keys = c.args.self.now.keys; known = c.args.self.now.known }) c.args.depth (Ok c.in-Ok.field-0) c.build_groups.new.self c.args.of.number gs [] (handed_data c.args.handed)) c.as_slice.ensures.value c.in-Ok.ensures.built)))
           after.known;
     }
 
@@ -177,13 +187,13 @@ build_anew-returns-clause-ready t c = λ can.
     let after = c.build_groups.ensures.ready ((can_after c.args.self.now c.collect.new.self c.collect.ensures.grows.planning c.collect.ensures.grows.written c.collect.ensures.grows.numbers c.collect.ensures.grows.ready) can) in record {
       collector = after.collector;
       plan = after.plan;
-      calls = after.calls;
-      known = c.keep.ensures c.build_groups.new.self.collector (ap (λ (pl : Planning). schema_data pl.schema.now) (sym c.planning.ensures))
+      calls = kept_still c.build_groups.new.self _ c.keep.new.calls c.planning-planning.ensures c.keep.ensures.kept after;
+      known = c.keep.ensures.known c.build_groups.new.self.collector (sym c.planning-planning.ensures) (kept_before c.build_groups.new.self _ c.planning-planning.ensures after)
           (subst (λ (gs : List Group). MayBeKnown c.build_groups.new.self.collector c.args.of.number c.args.lists.now (name_in c.spread_alone-spread.result) gs) (sym c.as_slice-2.ensures.value)
           (built_known c.args.self.now (record { collector = c.collect.new.self; plan = c.args.self.now.plan; left = c.args.self.now.left; calls = c.args.self.now.calls; keys = c.args.self.now.keys; known = c.args.self.now.known }) c.build_groups.new.self (frames c.args.self.now c.collect.new.self c.collect.ensures.grows.planning c.collect.ensures.grows.written) c.build_groups.ensures.frame c.collect.ensures.grows.numbers c.build_groups.ensures.numbers can ((can_after c.args.self.now c.collect.new.self c.collect.ensures.grows.planning c.collect.ensures.grows.written c.collect.ensures.grows.numbers c.collect.ensures.grows.ready) can)
           c.args.depth c.args.of.number c.args.lists.now (handed_data c.args.handed) (name_in c.spread_alone-spread.result) c.in_ok-groups.groups.items c.in-Ok.field-0 (c.knows-known.ensures c.if-not-known.false)
           (told_by_name (SpreadsAlone c.args.self.now.collector c.args.lists.now) c.spread_alone-spread.result c.spread_alone-spread.ensures) c.in_ok-groups.ensures.gives
-          (subst (λ (gs : List Group). BuildsGroups (record { collector = c.collect.new.self; plan = c.args.self.now.plan; left = c.args.self.now.left; calls = c.args.self.now.calls; keys = c.args.self.now.keys; known = c.args.self.now.known }) c.args.depth (Ok c.in-Ok.field-0) c.build_groups.new.self c.args.of.number gs (handed_data c.args.handed)) c.as_slice.ensures.value c.in-Ok.ensures.built)))
+          (subst (λ (gs : List Group). BuildsGroups (record { collector = c.collect.new.self; plan = c.args.self.now.plan; left = c.args.self.now.left; calls = c.args.self.now.calls; keys = c.args.self.now.keys; known = c.args.self.now.known }) c.args.depth (Ok c.in-Ok.field-0) c.build_groups.new.self c.args.of.number gs [] (handed_data c.args.handed)) c.as_slice.ensures.value c.in-Ok.ensures.built)))
           after.known;
     }
 

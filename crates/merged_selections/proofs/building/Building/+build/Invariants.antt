@@ -5,6 +5,7 @@ use Rattle.plan_table.specs.Tables.{table_rows}
 use Rattle.collected_fields.specs.Gathering.{groups_seen}
 use Rattle.collected_fields.specs.Lists.{HasMore}
 use Rattle.merged_selections.specs.NodeParts.{handed_data}
+use Rattle.merged_selections.specs.Again.{AreLooked}
 use Rattle.merged_selections.specs.Outcomes.{outcome}
 use Rattle.merged_selections.specs.Stages.{levels_from, types_rows, groups_visits, groups_rows, frame, setting_built, position_built, CanBuild, CanBuildAt, CanBuildGroup}
 use Rattle.merged_selections.proofs.building.Building.+build.Given as goal
@@ -38,6 +39,7 @@ invariant-build_types-types l = (frame l.self ≡ frame l.fn.self) × HasMore l.
 
 abbrev pub invariant-build_groups-groups : goal.invariant-build_groups-groups
 invariant-build_groups-groups l = (frame l.self ≡ frame l.fn.self) × HasMore l.fn.self.collector.joins l.self.collector.joins × (CanBuild l.fn.self → CanBuild l.self)
-    × (CanBuild l.fn.self × All (CanBuildGroup l.fn.self) l.groups
+    × (l.at ≡ l.group-index)
+    × (AreLooked (setting_built l.fn.self) l.of.number (handed_data l.handed) l.groups l.looked → CanBuild l.fn.self × All (CanBuildGroup l.fn.self) l.groups
     → (outcome l.fn.self.left (groups_visits (setting_built l.fn.self) l.of.number (handed_data l.handed) (levels_from l.depth) (groups_seen l.fn.self.collector l.groups)) ≡ outcome l.self.left (groups_visits (setting_built l.fn.self) l.of.number (handed_data l.handed) (levels_from l.depth) (groups_seen l.fn.self.collector (drop l.group-index l.groups))))
     × (table_rows l.self.plan ++ groups_rows (setting_built l.fn.self) l.of.number (handed_data l.handed) (levels_from l.depth) l.depth l.first (groups_seen l.fn.self.collector (drop l.group-index l.groups)) ≡ table_rows l.fn.self.plan ++ groups_rows (setting_built l.fn.self) l.of.number (handed_data l.handed) (levels_from l.depth) l.depth true (groups_seen l.fn.self.collector l.groups)))

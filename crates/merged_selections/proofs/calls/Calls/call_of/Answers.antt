@@ -22,3 +22,6 @@ returns-in-Some-clause-kept c = λ kept. c.forget_where_refused.ensures (setting
 
 pub returns-in-None-clause-kept : goal.returns-in-None-clause-kept
 returns-in-None-clause-kept c = λ kept. c.make.ensures.kept (c.forget_where_refused.ensures (setting_of_planning c.args.planning.now) kept)
+
+pub returns-in-None-clause-found : goal.returns-in-None-clause-found
+returns-in-None-clause-found c = λ kept. c.make.ensures.found (c.forget_where_refused.ensures (setting_of_planning c.args.planning.now) kept)

@@ -7,8 +7,8 @@ returns-in_err-put-clause-kept c = λ e kept own same. c.in_err-put.ensures.kept
 
 pub returns-in_err-point-clause-kept : goal.returns-in_err-point-clause-kept
 returns-in_err-point-clause-kept c = λ e kept own same. c.in_err-point.ensures.kept e (c.in_ok-put.ensures.kept e kept own)
-    (put_equal c.args.self.now.made.items c.put.new.self.made.items c.args.at c.len-place.result c.args.call (let e = c.len-place.ensures in omega arith) c.in_ok-put.ensures.put same)
+    (put_equal e c.args.self.now.made.items c.put.new.self.made.items c.args.at c.len-place.result c.args.call (let e = c.len-place.ensures in omega arith) c.in_ok-put.ensures.put same)
 
 pub returns-clause-kept : goal.returns-clause-kept
 returns-clause-kept c = λ e kept own same. c.in_ok-point.ensures.kept e (c.in_ok-put.ensures.kept e kept own)
-    (put_equal c.args.self.now.made.items c.put.new.self.made.items c.args.at c.len-place.result c.args.call (let e = c.len-place.ensures in omega arith) c.in_ok-put.ensures.put same)
+    (put_equal e c.args.self.now.made.items c.put.new.self.made.items c.args.at c.len-place.result c.args.call (let e = c.len-place.ensures in omega arith) c.in_ok-put.ensures.put same)
