@@ -17,8 +17,7 @@ use Rattle.plan_model.specs.Merging.{Position}
 use Rattle.plan_model.specs.Responses.{IsBoundOf, IsResponseTo, response_cost}
 use Rattle.plan_model.specs.Visits.{visits, level_limit, node_limit, PlanAnswer, answer_of, planned}
 use Rattle.plan_model.specs.Operations.{setting_of, root_position, root_place}
-use Rattle.plan_table.specs.declared.table.Plan.{Plan}
-use Rattle.plan_table.specs.Tables.{HasRows}
+use Rattle.static_cost.specs.PassedOn.{Plan, HasRows}
 use Rattle.acceptance.specs.declared.fault.Refusal.{Refusal}
 use Rattle.acceptance.specs.declared.fault.Refusal.TheVariants.{Document, Pick, Rule, Variable, Plan as NoPlan, Bound}
 use Rattle.acceptance.specs.Requests.{RequestData, AsksFor, KeepsRules, Prepared, setting, plan_tree}

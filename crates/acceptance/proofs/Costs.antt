@@ -20,11 +20,10 @@ use Rattle.plan_model.specs.Responses.{FitsSelections, KeepsSizes, response_cost
 use Rattle.plan_model.specs.Sound.{IsOfSchema as IsSettingOf}
 use Rattle.plan_model.specs.Visits.{planned_well}
 use Rattle.plan_model.specs.Operations.{operation_answer, planned_operation, root_place, root_position, IsOperationPlan, IsOperationBound}
-use Rattle.plan_table.specs.declared.table.Plan.{Plan}
+use Rattle.static_cost.specs.PassedOn.{Plan, holds_in, IsWithinCap, IsCostBound}
 use Rattle.static_cost.specs.declared.too_costly.TooCostly.{TooCostly}
 use Rattle.static_cost.specs.CostBound.{IsWithin, NamesExceedingIn}
 use Rattle.static_cost.specs.TableBound.{IsTableBound, NamesExceedingOf}
-use Rattle.plan_table.specs.TableBounds.{holds_in, IsWithinCap, IsCostBound}
 use Rattle.acceptance.specs.Requests.{RequestData, IsOfSchema, Prepared, setting, plan_answer, plan_tree}
 use Rattle.acceptance.specs.Bounds.{IsBoundFor, ExceedsCap, NamesExceeding, IsPlanned, IsAccepted}
 

@@ -28,7 +28,7 @@ use Rattle.merged_selections.specs.Faults.{path_text, IsFaultAt, IsArgumentAt, I
 use Rattle.plan_model.specs.SelectedFields.{Setting}
 use Rattle.plan_model.specs.Visits.{NodeFault, too_deep, conflict, refused_argument, refused_size, no_possible_type, PlanAnswer, planned_well, faulty, too_large}
 use Rattle.plan_model.specs.Operations.{setting_of, operation_answer, root_place, root_position, IsOperationBound}
-use Rattle.plan_table.specs.declared.table.Plan.{Plan}
+use Rattle.static_cost.specs.PassedOn.{Plan}
 use Rattle.static_cost.specs.declared.too_costly.TooCostly.{TooCostly}
 use Rattle.acceptance.specs.declared.fault.Refusal.{Refusal}
 use Rattle.acceptance.specs.declared.fault.Refusal.TheVariants.{Document, Pick, Rule, Variable, Plan as NoPlan, Bound}

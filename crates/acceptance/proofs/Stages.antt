@@ -18,8 +18,7 @@ use Rattle.merged_selections.specs.declared.fault.PlanFault.{PlanFault}
 use Rattle.merged_selections.specs.Faults.{IsTold}
 use Rattle.plan_model.specs.Visits.{planned_well}
 use Rattle.plan_model.specs.Operations.{setting_of, operation_answer, planned_operation}
-use Rattle.plan_table.specs.declared.table.Plan.{Plan}
-use Rattle.plan_table.specs.Tables.{HasRows}
+use Rattle.static_cost.specs.PassedOn.{Plan, HasRows}
 use Rattle.acceptance.specs.declared.fault.Refusal.TheVariants.{Document, Pick, Rule, Variable, Plan as NoPlan, Bound}
 use Rattle.acceptance.specs.declared.fault.AcceptFault.{AcceptFault}
 use Rattle.acceptance.specs.declared.fault.AcceptFault.TheVariants.{Refused, Memory}

@@ -9,8 +9,7 @@ use Rattle.plan_model.specs.SelectedFields.{holds}
 use Rattle.plan_model.specs.Responses.{IsResponseTo, response_cost}
 use Rattle.plan_model.specs.Visits.{planned_well}
 use Rattle.plan_model.specs.Operations.{root_place, root_position, IsOperationBound}
-use Rattle.plan_table.specs.declared.table.Plan.{Plan}
-use Rattle.plan_table.specs.Tables.{HasRows}
+use Rattle.static_cost.specs.PassedOn.{Plan, HasRows}
 use Rattle.static_cost.specs.declared.too_costly.TooCostly.{TooCostly}
 use Rattle.acceptance.specs.Requests.{RequestData, Prepared, setting, plan_answer, plan_tree}
 

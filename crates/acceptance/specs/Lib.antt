@@ -7,3 +7,4 @@ pub mod Keys
 pub mod Forwarding
 pub mod AskAlike
 pub mod Texts
+pub mod PassedOn

@@ -6,7 +6,7 @@ ghost use Rattle.serde_json.specs.Find.{get};
 ghost use Rattle.serde_json.specs.Read.{read as read_text};
 ghost use Rattle.serde_json.specs.Written.{has_float};
 ghost use Rattle.cost_num.specs.declared.Cost.{Cost as CostType};
-ghost use Rattle.plan_table.specs.declared.table.Plan.{Plan as PlanType};
+ghost use Rattle.static_cost.specs.PassedOn.{Plan as PlanType};
 ghost use Rattle.acceptance.specs.declared.fault.Refusal.{Refusal};
 ghost use Rattle.acceptance.specs.Requests.{RequestData, IsOfSchema, Prepared, plan_tree};
 ghost use Rattle.acceptance.specs.Bounds.{IsAffordable, IsAccepted};

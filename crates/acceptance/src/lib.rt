@@ -18,5 +18,6 @@ pub use laws::{
     alike_requests_have_one_verdict, read_values_have_each_key_once, refusal_texts_are_one_line,
     sent_bodies_hold_no_float,
 };
+pub use merged_selections::{PlanFault, build_plan};
 pub use request::Request;
 pub use telling::{refusal_text, told_of_argument, told_of_size};

@@ -14,7 +14,7 @@ use Rattle.account_shared.specs.Gains.{entries_for, Gains}
 use Rattle.client_files.specs.declared.client.Client.{Client}
 use Rattle.client_files.specs.ClientFiles.{MayBeServed}
 use Rattle.replay_scripts.specs.Steps.{StepData}
-use Rattle.gateway_core.specs.Rules.{Rules, client_limit, greatest}
+use Rattle.gateway_replay.specs.PassedOn.{Rules, client_limit, greatest}
 use Rattle.gateway_replay.specs.Turns.{Turn}
 use Rattle.gateway_replay.specs.Lines.{Line, charge_of, total, all_charged, all_lines}
 use Rattle.gateway_replay.specs.Replays.{all_calls, IsReportOf, Replays, AreFresh}

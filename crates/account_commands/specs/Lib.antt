@@ -3,3 +3,4 @@ pub mod RuleFiles
 pub mod Lists
 pub mod Replay
 pub mod Exercise
+pub mod PassedOn

@@ -16,7 +16,7 @@ use Rattle.replay_scripts.specs.Scripts.{IsScript}
 use Rattle.replay_scripts.specs.Faults.{HasFault}
 use Rattle.replay_scripts.specs.FaultTexts as script_faults
 use Rattle.trusted_documents.specs.FaultTexts as list_faults
-use Rattle.gateway_core.specs.Rules.{Rules, client_limit, greatest}
+use Rattle.gateway_replay.specs.PassedOn.{Rules, client_limit, greatest}
 use Rattle.gateway_replay.specs.Turns.{Turn}
 use Rattle.gateway_replay.specs.Replays.{all_calls, ReplaysFresh}
 use Rattle.command_words.specs.declared.command.AskedReplay.{AskedReplay}

@@ -11,7 +11,7 @@ use Rattle.cost_directives.specs.declared.weights.Weights.{Weights}
 use Rattle.cost_directives.specs.WeightViews.{weights_data}
 use Rattle.trusted_documents.specs.declared.listing.Trusted.{Trusted}
 use Rattle.trusted_documents.specs.Listings.{listing_of}
-use Rattle.gateway_core.specs.Rules.{Rules, rules_with}
+use Rattle.gateway_replay.specs.PassedOn.{Rules, rules_with}
 use Rattle.command_outcomes.specs.declared.limits.TheConstants.{SCHEMA_LIMIT, CLIENTS_LIMIT}
 use Rattle.account_commands.specs.declared.rule_texts.RuleTexts.{RuleTexts}
 use Rattle.account_commands.specs.declared.rule_inputs.RuleInputs.{RuleInputs}

@@ -3,7 +3,7 @@
 ghost use Rattle.std.specs.Prelude.{◌≡◌, ◌≤◌, ◌++◌, All, OnOk, IfOk, length, string_bytes};
 ghost use Rattle.cost_num.specs.Within.{Within};
 ghost use Rattle.client_files.specs.declared.client.TheConstants.{CLIENT_LIMIT};
-ghost use Rattle.gateway_core.specs.Rules.{greatest, IsSettledWithin, IsCarriedWithin};
+ghost use Rattle.gateway_replay.specs.PassedOn.{greatest, IsSettledWithin, IsCarriedWithin};
 ghost use Rattle.command_outcomes.specs.Texts.{line};
 ghost use Rattle.account_commands.specs.Replay.{carried_text, client_text, client_lines, end_text, IsPrintable};
 
@@ -12,8 +12,7 @@ use crate::replay_end::ReplayEnd;
 use account_core::Account;
 use client_files::Client;
 use cost_num::Cost;
-use gateway_core::Totals;
-use gateway_replay::{Replayed, write_cost};
+use gateway_replay::{Replayed, Totals, write_cost};
 use gql_base::Text;
 use std::alloc::{AllocError, Global};
 

@@ -2,7 +2,7 @@
 
 ghost use Rattle.std.specs.Prelude.{◌≡◌, IfOk, codes, string_bytes};
 ghost use Rattle.cost_num.specs.Within.{Within};
-ghost use Rattle.gateway_core.specs.Rules.{greatest};
+ghost use Rattle.gateway_replay.specs.PassedOn.{greatest};
 ghost use Rattle.command_outcomes.specs.Outcomes.{IsDone, IsRefusedAs};
 ghost use Rattle.account_commands.specs.Replay.{IsPrintable, replay_refusal_text};
 ghost use Rattle.account_commands.specs.Exercise.{exercise_texts, summary_text, ExerciseCameTo};

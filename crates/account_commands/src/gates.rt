@@ -6,14 +6,12 @@ ghost use Rattle.cost_directives.specs.WeightViews.{weights_data};
 ghost use Rattle.account_shared.specs.Views.{Belongs};
 ghost use Rattle.client_files.specs.ClientFiles.{MayBeServed};
 ghost use Rattle.trusted_documents.specs.Listings.{listing_of};
-ghost use Rattle.gateway_core.specs.Rules.{HasWeights};
-ghost use Rattle.gateway_core.specs.Gates.{rules_of};
-ghost use Rattle.gateway_core.specs.Fresh.{AreFresh};
+ghost use Rattle.gateway_replay.specs.PassedOn.{HasWeights, rules_of, AreFresh};
 ghost use Rattle.account_commands.specs.RuleFiles.{rules_in};
 
 use crate::rule_inputs::RuleInputs;
 use account_shared::Passes;
-use gateway_core::{Gate, Settings};
+use gateway_replay::{Gate, Settings};
 use std::alloc::{AllocError, Global};
 use trusted_documents::Trusted;
 

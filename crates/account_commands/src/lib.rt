@@ -19,6 +19,10 @@ mod rule_laws;
 mod rule_texts;
 
 pub use client_lines::{write_accounts, write_clients};
+pub use command_outcomes::{
+    DISK_FAILED, DONE, DOOR_FAILED, FILE_FAILED, NO_MEMORY, NOT_RESPONSE, Outcome, REFUSED,
+    SCHEMA_LIMIT, SIZE_BROKEN, STREAM_FAILED, USAGE, check,
+};
 pub use exercise_laws::an_exercise_is_refused_for_its_schema_alone;
 pub use exercising::exercise;
 pub use gates::gate_by;

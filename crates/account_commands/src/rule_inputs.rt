@@ -11,10 +11,10 @@ use crate::migrating::refused_clients;
 use crate::rule_texts::RuleTexts;
 use client_files::{Clients, ClientsFault, read_clients};
 use command_outcomes::{
-    CheckFault, Outcome, SCHEMA_LIMIT, SchemaRefusal, Weighed, known_of, refused_schema, weighed_in,
+    CheckFault, Facts, Outcome, SCHEMA_LIMIT, SchemaRefusal, Weighed, known_of, refused_schema,
+    weighed_in,
 };
 use gql_base::Text;
-use local_introspection::Facts;
 use std::alloc::Global;
 use thiserror::Error;
 

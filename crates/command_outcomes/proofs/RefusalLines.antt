@@ -15,9 +15,7 @@ use Rattle.schema_model.specs.declared.fault.SchemaFault.TheVariants as schema
 use Rattle.cost_directives.specs.declared.fault.DirectiveFault.{DirectiveFault}
 use Rattle.cost_directives.specs.declared.fault.DirectiveFault.TheVariants as directive
 use Rattle.document_reader.specs.declared.document.DocFault.TheVariants as document
-use Rattle.acceptance.specs.declared.fault.Refusal.{Refusal}
-use Rattle.acceptance.specs.declared.fault.Refusal.TheVariants.{Document}
-use Rattle.acceptance.specs.Texts.{placed, naming, lexical_text, refusal_text}
+use Rattle.local_introspection.specs.PassedOn.{Refusal, Document, placed, naming, lexical_text, refusal_text}
 use Rattle.command_outcomes.specs.declared.checked.SchemaRefusal.{SchemaRefusal}
 use Rattle.command_outcomes.specs.declared.checked.SchemaRefusal.TheVariants.{TooLarge, NotText, NoSchemaText, Fails, Misuses}
 use Rattle.command_outcomes.specs.Texts.{too_large_text, not_text_text}

@@ -4,3 +4,4 @@ pub mod Outcomes
 pub mod SchemaTexts
 pub mod Check
 pub mod Known
+pub mod PassedOn

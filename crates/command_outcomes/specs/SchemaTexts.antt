@@ -10,7 +10,7 @@ use Rattle.cost_directives.specs.declared.fault.DirectiveFault.{DirectiveFault}
 use Rattle.cost_directives.specs.declared.fault.DirectiveFault.TheVariants as directive
 use Rattle.command_outcomes.specs.declared.checked.SchemaRefusal.{SchemaRefusal}
 use Rattle.command_outcomes.specs.declared.checked.SchemaRefusal.TheVariants.{TooLarge, NotText, NoSchemaText, Fails, Misuses}
-use Rattle.acceptance.specs.Texts.{placed, naming, lexical_text}
+use Rattle.local_introspection.specs.PassedOn.{placed, naming, lexical_text}
 use Rattle.command_outcomes.specs.Texts.{too_large_text, not_text_text}
 
 -- how many types and fields a schema has

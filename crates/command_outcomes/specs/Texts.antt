@@ -1,6 +1,6 @@
 -- The lines that the commands write.
 use Rattle.std.specs.Prelude.{ℕ, List, [], ◌∷◌, ◌++◌, codes}
-use Rattle.acceptance.specs.Texts.{naming}
+use Rattle.local_introspection.specs.PassedOn.{naming}
 
 -- a text and its line end
 abbrev pub line : List ℕ → List ℕ

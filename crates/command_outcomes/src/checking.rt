@@ -10,8 +10,8 @@ use crate::inputs::read_file;
 use crate::limits::SCHEMA_LIMIT;
 use crate::outcome::Outcome;
 use crate::schema_texts::refused_schema;
-use acceptance::texts::placed;
 use gql_base::Text;
+use local_introspection::placed;
 use outside::Files;
 use std::alloc::{AllocError, Global};
 

@@ -6,7 +6,7 @@ ghost use Rattle.command_outcomes.specs.declared.checked.SchemaRefusal.{SchemaRe
 ghost use Rattle.command_outcomes.specs.Texts.{too_large_text, not_text_text};
 ghost use Rattle.command_outcomes.specs.SchemaTexts.{schema_refusal_text};
 
-use acceptance::refusal_texts_are_one_line;
+use local_introspection::refusal_texts_are_one_line;
 
 /// The text by which a file is refused is one line: no line feed and no other control character stands in it, whatever names it
 /// tells.

@@ -1,12 +1,12 @@
 //! The texts of refusals.
 
 ghost use Rattle.std.specs.Prelude.{◌++◌};
-ghost use Rattle.acceptance.specs.Texts.{placed, naming, lexical_text};
+ghost use Rattle.local_introspection.specs.PassedOn.{placed, naming, lexical_text};
 ghost use Rattle.command_outcomes.specs.Outcomes.{IsRefusedAs};
 
 use crate::outcome::Outcome;
-use acceptance::texts::{lexical_place, named, named_twice, placed, placed_in};
 use gql_base::{LexFault, Text};
+use local_introspection::{lexical_place, named, named_twice, placed, placed_in};
 use std::alloc::Global;
 
 /// The outcome of a refusal with this text.

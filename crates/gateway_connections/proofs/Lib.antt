@@ -4,3 +4,4 @@ pub mod WrittenReplies
 pub mod OneExchange
 pub mod GateLemmas
 pub mod Responses
+pub mod PassedOn

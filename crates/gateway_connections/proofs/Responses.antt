@@ -20,7 +20,7 @@ use Rattle.gateway_core.specs.declared.grant.Grant.{Grant}
 use Rattle.gateway_core.specs.Rules.{Rules, window_of}
 use Rattle.gateway_core.specs.Requests.{IsPricedAt, IsPromisedFor, IsLocalAt}
 use Rattle.gateway_core.specs.declared.beginning.Begun.TheVariants.{Denied}
-use Rattle.local_introspection.specs.declared.walk.Local.{Local}
+use Rattle.gateway_core.specs.PassedOn.{Local}
 use Rattle.gateway_core.specs.Numbers.{IsFullAt}
 use Rattle.gateway_core.specs.Begins.{IsDenied, IsUnfit, TellsFull, HasOneAnswer, calls_begun}
 use Rattle.gateway_core.specs.Grants.{promise_of}

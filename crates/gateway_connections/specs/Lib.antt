@@ -6,3 +6,4 @@ pub mod Connections
 pub mod Serving
 -- What is passed on.
 pub mod Decisions
+pub mod PassedOn

@@ -11,7 +11,7 @@ use Rattle.upstream_link.specs.Replies.{ReplyOf}
 use Rattle.gateway_core.specs.Rules.{client_of, window_of}
 pub use Rattle.gateway_core.specs.Measures.{Metered}
 use Rattle.gateway_core.specs.Measures.{IsMeasuredFor}
-use Rattle.local_introspection.specs.declared.walk.Local.{Local}
+use Rattle.gateway_core.specs.PassedOn.{Local}
 use Rattle.gateway_core.specs.declared.beginning.Denial.TheVariants.{Full}
 use Rattle.gateway_core.specs.declared.beginning.LocalAnswer.{LocalAnswer}
 use Rattle.gateway_core.specs.Numbers.{IsFullAt}

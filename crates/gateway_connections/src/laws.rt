@@ -2,7 +2,7 @@
 
 ghost use Rattle.std.specs.Prelude.{◌≡◌, ◌⊎◌, ℕ, ⊤};
 ghost use Rattle.upstream_link.specs.declared.reply.UpstreamReply.{UpstreamReply};
-ghost use Rattle.local_introspection.specs.declared.walk.Local.{Local};
+ghost use Rattle.gateway_core.specs.PassedOn.{Local};
 ghost use Rattle.gateway_core.specs.Measures.{Metered, HasNamedTypes};
 ghost use Rattle.gateway_connections.specs.Exchanges.{Service, Exchange, WasAnswered, IsExchange};
 ghost use Rattle.gateway_connections.specs.Measured.{WasExchanged, WasBrought, IsDue, WasGivenOr500, WasDueAndGiven, IsDueHere, WasGivenHere};

@@ -12,7 +12,9 @@ mod turn;
 
 pub use ending::{ConnectionEnd, EXCHANGE_LIMIT, Served};
 pub use exchanging::exchange;
-pub use gateway_core::{Gate, Settings, Totals, close};
+pub use gateway_core::{
+    Gate, Ledger, Reserved, Settings, Totals, close, types_of_built_schemas_differ,
+};
 pub use laws::a_response_is_given_where_it_is_due;
 pub use reply::Reply;
 pub use serving::{serve_connection, serve_in};

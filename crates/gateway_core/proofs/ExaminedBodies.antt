@@ -10,9 +10,7 @@ use Rattle.request_bodies.specs.Bodies.{RequestData as Asked}
 use Rattle.trusted_documents.specs.Requests.{IsRequestBy}
 use Rattle.std.proofs.lemmas.Option.{none-some}
 use Rattle.document_reader.specs.Picking.{picked}
-use Rattle.acceptance.specs.Keys.{HasEachKeyOnce}
-use Rattle.acceptance.specs.Requests.{RequestData}
-use Rattle.acceptance.specs.Refusals.{IsUnread, IsRefusedFor}
+use Rattle.local_introspection.specs.PassedOn.{HasEachKeyOnce, RequestData, IsUnread, IsRefusedFor}
 use Rattle.operation_class.specs.declared.classes.Class.{Class}
 use Rattle.operation_class.specs.declared.classes.Class.TheVariants as class
 use Rattle.operation_class.specs.Classes.{class_at}

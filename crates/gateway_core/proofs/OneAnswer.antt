@@ -15,7 +15,7 @@ use Rattle.plan_model.specs.SelectedFields.{holds}
 use Rattle.plan_table.specs.declared.table.Plan.{Plan}
 use Rattle.plan_table.specs.Tables.{HasRows, setting_in}
 use Rattle.plan_table.specs.TableBounds.{holds_in, HoldsSound}
-use Rattle.acceptance.specs.Requests.{plan_tree}
+use Rattle.local_introspection.specs.PassedOn.{plan_tree}
 use Rattle.response_meter.specs.declared.metered.Metered.{Metered}
 use Rattle.response_meter.specs.declared.fault.MeterFault.{MeterFault}
 use Rattle.response_meter.specs.declared.fault.MeterFault.TheVariants.{NotResponse, SizeBroken, Memory as MeterMemory}

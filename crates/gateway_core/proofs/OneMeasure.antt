@@ -18,8 +18,7 @@ use Rattle.typename_rewrite.specs.AddedNames.{names_of_document, is_taken, alias
 use Rattle.request_bodies.specs.Bodies.{RequestData as Asked}
 use Rattle.trusted_documents.specs.Listings.{Listing}
 use Rattle.trusted_documents.specs.Requests.{IsRequestBy}
-use Rattle.acceptance.specs.Requests.{RequestData, Prepared, plan_tree}
-use Rattle.acceptance.specs.AskAlike.{AskAlike}
+use Rattle.local_introspection.specs.PassedOn.{RequestData, Prepared, plan_tree, AskAlike}
 use Rattle.response_meter.specs.declared.metered.Metered.{Metered}
 use Rattle.response_meter.specs.declared.fault.MeterFault.{MeterFault}
 use Rattle.response_meter.specs.FirstFault.{AreNamed}

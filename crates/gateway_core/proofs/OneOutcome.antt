@@ -23,13 +23,8 @@ use Rattle.trusted_documents.specs.declared.fault.ExpandFault.{ExpandFault}
 use Rattle.trusted_documents.specs.declared.requests.Unread.{Unread}
 use Rattle.trusted_documents.specs.declared.requests.Unread.TheVariants as unread
 use Rattle.request_bodies.specs.declared.fault.BodyFault.{BodyFault}
-use Rattle.acceptance.specs.declared.fault.Refusal.{Refusal}
-use Rattle.acceptance.specs.declared.fault.Refusal.TheVariants.{Document as NoDocument, Pick, Rule, Variable, Plan as NoPlan, Bound}
-use Rattle.acceptance.specs.Requests.{RequestData, Prepared, setting, plan_tree}
-use Rattle.acceptance.specs.Bounds.{IsBoundFor, IsAffordable}
-use Rattle.acceptance.specs.Refusals.{IsUnread, IsRefusedFor}
-use Rattle.acceptance.specs.AskAlike.{AskAlike}
-use Rattle.acceptance.proofs.AlikeDocuments.{same_pick}
+use Rattle.local_introspection.specs.PassedOn.{Refusal, Document as NoDocument, Pick, Rule, Variable, Plan as NoPlan, Bound, RequestData, Prepared, setting, plan_tree, IsBoundFor, IsAffordable, IsUnread, IsRefusedFor, AskAlike}
+use Rattle.local_introspection.proofs.PassedOn.{same_pick}
 use Rattle.operation_class.specs.Classes.{class_at}
 use Rattle.local_introspection.specs.declared.facts.Facts.{Facts}
 use Rattle.local_introspection.specs.declared.fault.LocalFault.{LocalFault}

@@ -15,8 +15,7 @@ use Rattle.plan_model.specs.Visits.{planned_well}
 use Rattle.plan_model.specs.Operations.{operation_answer, planned_operation, IsOperationBound}
 use Rattle.plan_table.specs.declared.table.Plan.{Plan}
 use Rattle.plan_table.specs.TableBounds.{holds_in, HoldsSound, IsWithinCap}
-use Rattle.acceptance.specs.Requests.{RequestData, setting, plan_tree}
-use Rattle.acceptance.specs.Bounds.{IsBoundFor, IsAccepted}
+use Rattle.local_introspection.specs.PassedOn.{RequestData, setting, plan_tree, IsBoundFor, IsAccepted}
 use Rattle.response_meter.specs.Reply.{IsResponseOrNone, reply_cost}
 use Rattle.gateway_core.specs.Rules.{HasWeights}
 use Rattle.gateway_core.specs.PlanBounds.{Covers}

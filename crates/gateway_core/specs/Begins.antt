@@ -5,9 +5,7 @@ use Rattle.cost_num.specs.Within.{Within}
 use Rattle.account_core.specs.Machine.{reservation, settlement, granted, short, done}
 use Rattle.account_shared.specs.Gains.{ClientCall, client_call}
 use Rattle.trusted_documents.specs.Requests.{HasFaultBy, IsUnexpandedBy}
-use Rattle.acceptance.specs.declared.fault.Refusal.{Refusal}
-use Rattle.acceptance.specs.declared.fault.AcceptFault.{AcceptFault}
-use Rattle.acceptance.specs.declared.fault.AcceptFault.TheVariants.{Refused as NotAccepted, Memory as NoMemory}
+use Rattle.local_introspection.specs.PassedOn.{Refusal, AcceptFault, Refused as NotAccepted, Memory as NoMemory}
 use Rattle.local_introspection.specs.declared.walk.Local.{Local}
 use Rattle.gateway_core.specs.declared.promise.Promise.{Promise}
 use Rattle.gateway_core.specs.declared.beginning.Begun.{Begun}

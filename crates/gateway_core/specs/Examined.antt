@@ -1,8 +1,6 @@
 -- What a body was found to ask for, and whether the costs of it are counted.
 use Rattle.std.specs.Prelude.{◌≢◌, ℕ, List, Option, None, Some, ⊤}
-use Rattle.acceptance.specs.Requests.{RequestData}
-use Rattle.acceptance.specs.Refusals.{IsRefusedFor}
-use Rattle.static_cost.specs.CostBound.{IsWithin}
+use Rattle.local_introspection.specs.PassedOn.{RequestData, IsRefusedFor, IsWithin}
 use Rattle.local_introspection.specs.declared.fault.LocalFault.TheVariants.{Memory as NoLocalMemory}
 use Rattle.local_introspection.specs.declared.walk.Local.{Local}
 use Rattle.local_introspection.specs.LocalRequests.{LocalRequest}

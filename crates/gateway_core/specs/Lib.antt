@@ -18,3 +18,4 @@ pub mod Measures
 pub mod Examined
 pub mod Propositions
 pub mod Cells
+pub mod PassedOn

@@ -11,7 +11,7 @@ use Rattle.upstream_link.specs.declared.fault.LinkFault.{LinkFault}
 use Rattle.upstream_link.specs.declared.fault.LinkFault.TheVariants as link
 use Rattle.trusted_documents.specs.FaultTexts.{expand_fault_text}
 use Rattle.request_bodies.specs.FaultTexts.{fault_text}
-use Rattle.acceptance.specs.Texts.{refusal_text}
+use Rattle.local_introspection.specs.PassedOn.{refusal_text}
 use Rattle.local_introspection.specs.LocalTexts.{local_text}
 use Rattle.gateway_core.specs.declared.beginning.Denial.{Denial}
 use Rattle.gateway_core.specs.declared.beginning.Denial.TheVariants.{UnknownKey, Unexpanded, BadBody, Refused, NotLocal, Short, Full, Memory}

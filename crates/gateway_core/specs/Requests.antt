@@ -7,11 +7,7 @@ use Rattle.document_reader.specs.declared.trees.Document.{Document}
 use Rattle.document_reader.specs.DocumentAnswers.{IsDocumentOf}
 use Rattle.request_bodies.specs.Bodies.{RequestData as Asked}
 use Rattle.trusted_documents.specs.Requests.{IsRequestBy}
-use Rattle.acceptance.specs.declared.fault.Refusal.{Refusal}
-use Rattle.acceptance.specs.Requests.{RequestData}
-use Rattle.acceptance.specs.Bounds.{IsAffordable, IsAccepted}
-use Rattle.acceptance.specs.Refusals.{IsUnread, IsRefusedFor}
-use Rattle.acceptance.specs.Forwarding.{IsFreeIn, sent_body}
+use Rattle.local_introspection.specs.PassedOn.{Refusal, RequestData, IsAffordable, IsAccepted, IsUnread, IsRefusedFor, IsFreeIn, sent_body}
 use Rattle.operation_class.specs.Routes.{GoesUpstream as IsForUpstream}
 use Rattle.local_introspection.specs.declared.facts.Facts.{Facts}
 use Rattle.local_introspection.specs.declared.fault.LocalFault.{LocalFault}

@@ -1,7 +1,7 @@
 //! How a request begins.
 
 ghost use Rattle.std.specs.Prelude.{◌≡◌, ◌≤◌, ◌<◌, ◌^◌, length, IfOk, OnErr};
-ghost use Rattle.static_cost.specs.CostBound.{IsWithin};
+ghost use Rattle.local_introspection.specs.PassedOn.{IsWithin};
 ghost use Rattle.outside.specs.Faults.{Rose};
 ghost use Rattle.account_core.specs.Machine.{reservation};
 ghost use Rattle.gateway_core.specs.Rules.{window_of};
@@ -16,9 +16,8 @@ use crate::gate::Gate;
 use crate::grant::Grant;
 use crate::ledger::{Ledger, Reserved};
 use crate::promise::Promise;
-use acceptance::Refusal;
 use cost_num::Cost;
-use local_introspection::{Local, LocalFault};
+use local_introspection::{Local, LocalFault, Refusal};
 use request_bodies::BodyFault;
 use std::alloc::Global;
 use std::sync::Wait;

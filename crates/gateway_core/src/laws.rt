@@ -22,10 +22,10 @@ ghost use Rattle.gateway_core.specs.Measures.{HasNamedTypes, IsMeasuredFor, IsFa
 ghost use Rattle.gateway_core.specs.Finishes.{HasReplyFault, IsConcluded, IsGrantedBy};
 
 use crate::own_answers::alike_local_requests_have_one_verdict;
-use acceptance::{
+use document_reader::{a_text_is_a_document_or_has_one_fault, a_text_is_one_document};
+use local_introspection::{
     a_request_has_one_verdict, alike_requests_are_answered_alike, alike_requests_have_one_verdict,
 };
-use document_reader::{a_text_is_a_document_or_has_one_fault, a_text_is_one_document};
 use operation_class::laws::equal_trees_have_one_class;
 use plan_model::laws::operations_planned_well;
 use response_meter::laws::{fault_or_reading, named_tables, one_reply};

@@ -9,10 +9,9 @@ ghost use Rattle.gateway_core.specs.Messages.{message_body, denial_status, denia
 ghost use Rattle.gateway_core.specs.Begins.{HasCostsWithin};
 
 use crate::beginning::Denial;
-use acceptance::refusal_text;
 use cost_num::{Cost, cost_bytes};
 use gql_base::Text;
-use local_introspection::local_text;
+use local_introspection::{local_text, refusal_text};
 use request_bodies::fault_text;
 use response_meter::{MeterFault, Why, why_name};
 use response_model::write_error_response;

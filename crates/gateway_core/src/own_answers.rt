@@ -1,7 +1,7 @@
 //! Operations that the gateway answers itself, by what it knows of its schema (GraphQL October 2021, 4).
 
 ghost use Rattle.std.specs.Prelude.{◌≡◌, ◌≢◌, IfOk, IfErr};
-ghost use Rattle.acceptance.specs.Requests.{request_data};
+ghost use Rattle.local_introspection.specs.PassedOn.{request_data, IsWithin};
 ghost use Rattle.operation_class.specs.declared.classes.Class.TheVariants.{Local as LocalClass};
 ghost use Rattle.operation_class.specs.Classes.{class_at};
 ghost use Rattle.local_introspection.specs.declared.fault.LocalFault.{LocalFault as FaultType};
@@ -10,16 +10,14 @@ ghost use Rattle.local_introspection.specs.declared.walk.Local.{Local as LocalTy
 ghost use Rattle.local_introspection.specs.AskAlike.{AskAlike as LocalAlike};
 ghost use Rattle.local_introspection.specs.LocalRequests.{LocalRequest};
 ghost use Rattle.local_introspection.specs.LocalAnswers.{IsAnsweredWith, IsRefusedFor as IsNotAnsweredFor};
-ghost use Rattle.static_cost.specs.CostBound.{IsWithin};
 ghost use Rattle.gateway_core.specs.Gates.{rules_of};
 ghost use Rattle.local_introspection.specs.AskedHere.{asked_at};
 ghost use Rattle.gateway_core.specs.Examined.{IsOwn, IsOwnWithin, TellsLocal, IsNotOwn};
 
 use crate::beginning::Denial;
 use crate::gate::Gate;
-use acceptance::Request;
 use local_introspection::laws::{a_request_has_one_verdict, alike_requests_are_answered_alike};
-use local_introspection::{Facts, Local, LocalFault, answer};
+use local_introspection::{Facts, Local, LocalFault, Request, answer};
 use operation_class::{Route, route_of};
 use std::alloc::{AllocError, Global};
 

@@ -1,19 +1,16 @@
 //! What is promised for an operation that the upstream answers.
 
 ghost use Rattle.std.specs.Prelude.{◌≡◌, IfOk, IfErr};
-ghost use Rattle.acceptance.specs.Requests.{request_data, IsCheckFor};
-ghost use Rattle.acceptance.specs.Bounds.{IsAccepted};
-ghost use Rattle.acceptance.specs.Refusals.{IsRefusedFor};
-ghost use Rattle.acceptance.specs.Keys.{HasEachKeyOnce};
+ghost use Rattle.local_introspection.specs.PassedOn.{request_data, IsCheckFor, IsAccepted, IsRefusedFor, HasEachKeyOnce};
 ghost use Rattle.gateway_core.specs.Rules.{HasWeights};
 ghost use Rattle.gateway_core.specs.PlanBounds.{Covers};
 ghost use Rattle.gateway_core.specs.Requests.{IsPromised};
 ghost use Rattle.gateway_core.specs.Begins.{TellsFault, IfRefusal};
 
 use crate::beginning::Denial;
-use acceptance::{AcceptFault, Accepted, Request, accept, sent_for};
 use cost_num::Cost;
 use gql_base::Text;
+use local_introspection::{AcceptFault, Accepted, Request, accept, sent_for};
 use plan_model::laws::operations_planned_well;
 use plan_table::Plan;
 use response_model::laws::greatest_is_bound;

@@ -15,7 +15,7 @@ use Rattle.account_core.proofs.Callers.{is_settled-own}
 use Rattle.account_shared.specs.Gains.{ClientCall, client_call}
 use Rattle.account_journal.specs.declared.journal.Journal.{Journal}
 use Rattle.account_journal.specs.Journals.{Follows, limit_in}
-use Rattle.gateway_core.specs.Numbers.{numbers_taken, AreSettled}
+use Rattle.gateway_workers.specs.PassedOn.{numbers_taken, AreSettled}
 use Rattle.gateway_journal.specs.Kept.{taken_by, entry_of, entries_of_calls, kept_of_calls, AreHeld}
 use Rattle.gateway_journal.specs.Composed.{taken_push, kept_push}
 

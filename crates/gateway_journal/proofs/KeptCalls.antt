@@ -11,8 +11,8 @@ use Rattle.account_core.specs.declared.Account.{Account}
 use Rattle.account_core.specs.Costs.{is_within}
 use Rattle.account_core.specs.Numbers.{FitsCap, KeepsLimit, moved_to, left_at, reservation_reply}
 use Rattle.cost_num.specs.Within.{Within}
-use Rattle.gateway_core.specs.Rules.{greatest}
-use Rattle.gateway_core.proofs.CappedAccounts.{remaining_within, room_within}
+use Rattle.gateway_workers.specs.PassedOn.{greatest}
+use Rattle.gateway_workers.proofs.PassedOn.{remaining_within, room_within}
 use Rattle.account_core.proofs.NumberSteps.{reserves}
 use Rattle.account_core.proofs.Histories.{entries_by-append}
 use Rattle.account_shared.specs.Gains.{ClientCall, client_call}

@@ -5,9 +5,7 @@ use Rattle.account_core.specs.declared.Limit.{Limit}
 use Rattle.account_journal.specs.declared.journal.Journal.{Journal}
 use Rattle.account_journal.specs.Journals.{IsSound, Rests}
 use Rattle.account_journal.specs.Recovery.{HasNoneOpen}
-use Rattle.gateway_core.specs.declared.gate.Gate.{Gate}
-use Rattle.gateway_core.specs.Rules.{client_limit}
-use Rattle.gateway_core.specs.Gates.{rules_of, limits_of}
+use Rattle.gateway_workers.specs.PassedOn.{Gate, client_limit, rules_of, limits_of}
 use Rattle.gateway_journal.specs.Kept.{IsKeptFor}
 
 pub opened_for : {D F : Type 0} (reads : D → Option (List ℕ)) (image : D → List ℕ → Type 0) (gate : Gate) (limits : Vec Limit Global) (opened : Result (Journal D) F)

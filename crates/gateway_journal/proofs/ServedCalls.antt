@@ -9,15 +9,8 @@ use Rattle.http_front.specs.declared.front.Ask.{Ask}
 use Rattle.account_journal.specs.declared.slots.TheConstants.{SLOTS}
 use Rattle.account_journal.specs.declared.journal.Journal.{Journal}
 use Rattle.account_journal.specs.Journals.{Follows}
-use Rattle.gateway_core.specs.Numbers.{numbers_taken}
-use Rattle.gateway_core.specs.Rules.{window_of}
-use Rattle.gateway_core.specs.Losses.{LosesReservation, LosesCalls}
-use Rattle.gateway_connections.specs.declared.ending.Served.{Served}
-use Rattle.gateway_connections.specs.Exchanges.{Service, Exchange, WireTelling, AreExchanges, LosesExchange}
-use Rattle.gateway_connections.specs.Connections.{Stop, not_begun, at_fault, after_last, StopsAt, all_of, calls_of}
-use Rattle.gateway_connections.specs.Serving.{Serves, LosesTurn, LosesServing}
-use Rattle.gateway_connections.proofs.Growing.{one_more_made}
-use Rattle.gateway_connections.proofs.OneExchange.{exchange_settled}
+use Rattle.gateway_workers.specs.PassedOn.{numbers_taken, window_of, LosesReservation, LosesCalls, Served, Service, Exchange, WireTelling, AreExchanges, LosesExchange, Stop, not_begun, at_fault, after_last, StopsAt, all_of, calls_of, Serves, LosesTurn, LosesServing}
+use Rattle.gateway_workers.proofs.PassedOn.{one_more_made, exchange_settled}
 use Rattle.gateway_journal.specs.Kept.{kept_slots, kept_of_calls, AreHeld, opened_in, settled_in, HasGained, HasKept}
 use Rattle.gateway_journal.specs.Composed.{counts_then, as_many}
 use Rattle.gateway_journal.proofs.HeldCalls.{IsQuiet, quiet_start, StaysQuiet, settled_quiet, each_first, each_then, held_both, one_held, none_held}

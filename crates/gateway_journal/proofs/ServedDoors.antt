@@ -7,12 +7,8 @@ use Rattle.account_journal.specs.declared.journal.Journal.{Journal}
 use Rattle.outside.specs.Faults.{Rose}
 use Rattle.doors.specs.Visits.{Told, Gained}
 use Rattle.doors.specs.Starts.{DoorMembers}
-use Rattle.gateway_core.specs.declared.gate.Gate.{Gate}
-use Rattle.gateway_core.proofs.TakenNumbers.{taken_then}
-use Rattle.gateway_connections.specs.declared.ending.Served.{Served}
-use Rattle.gateway_connections.specs.declared.ending.ConnectionEnd.TheVariants as ending
-use Rattle.gateway_connections.specs.Connections.{end_number}
-use Rattle.gateway_connections.specs.Exchanges.{WireTelling}
+use Rattle.gateway_workers.specs.PassedOn.{Gate, Served, ReadFault as EndingReadFault, WriteFault as EndingWriteFault, end_number, WireTelling}
+use Rattle.gateway_workers.proofs.PassedOn.{taken_then}
 use Rattle.gateway_workers.specs.declared.work_done.WorkDone.{WorkDone}
 use Rattle.gateway_workers.specs.Tours.{Run, AreRuns, visits_of, calls_in, replies_in, one_if}
 use Rattle.gateway_workers.proofs.Turns.{no_visit, visits_then, visits_of_both, calls_of_both, replies_of_both, runs_then}
@@ -65,7 +61,7 @@ module _ {D J : Type 0} (t : DoorMembers D) (m : DiskMembers J) (gate : Gate) wh
 
   -- one connection
   pub did_one : (v w : KeptWorker D J) (told back : Told) (served : Served) (serves : ServesKept m.reads m.image m.faults gate v.kept.journal w.kept.journal told back served)
-      → (served.end ≡ ending.ReadFault → Rose told.read_faults back.read_faults) → (served.end ≡ ending.WriteFault → Rose told.write_faults back.write_faults)
+      → (served.end ≡ EndingReadFault → Rose told.read_faults back.read_faults) → (served.end ≡ EndingWriteFault → Rose told.write_faults back.write_faults)
       → IsKeptFor m.reads w.kept.journal gate → w.kept.journal.opened ≡ 0
       → Gained (t.visits v.door) (record { given = told; back = back; ending = end_number served.end } ∷ []) (t.visits w.door)
       → w.connections ≡ v.connections + 1 → w.replies ≡ v.replies + served.replies → t.to_come v.door ≡ t.to_come w.door + 1 → t.out w.door ≡ false → served.replies ≤ 1000

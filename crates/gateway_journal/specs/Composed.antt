@@ -13,8 +13,8 @@ use Rattle.account_journal.specs.declared.slots.TheConstants.{SLOTS}
 use Rattle.account_journal.specs.declared.journal.Journal.{Journal}
 use Rattle.account_journal.specs.Histories.{no_limit}
 use Rattle.account_journal.specs.Journals.{Follows, Stores, limit_in}
-use Rattle.gateway_core.specs.Numbers.{numbers_taken, AreSettled, IsFullAt}
-use Rattle.gateway_core.proofs.TakenNumbers.{taken_then, taken_none}
+use Rattle.gateway_workers.specs.PassedOn.{numbers_taken, AreSettled, IsFullAt}
+use Rattle.gateway_workers.proofs.PassedOn.{taken_then, taken_none}
 use Rattle.gateway_journal.specs.Kept.{kept_slots, taken_by, call_kept, entry_of, entries_of_calls, entries_made, kept_of_calls, AreHeld, opened_in, settled_in, GoesOnFrom, HasGained}
 
 -- ---- what holds of each call

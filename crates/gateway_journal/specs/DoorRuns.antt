@@ -5,8 +5,7 @@ use Rattle.journal_disk.specs.declared.disk.Disk.{Ghosts}
 use Rattle.outside.specs.Faults.{Rose}
 use Rattle.doors.specs.Visits.{Told, Gained}
 use Rattle.doors.specs.Starts.{DoorMembers}
-use Rattle.gateway_core.specs.declared.gate.Gate.{Gate}
-use Rattle.gateway_connections.specs.Exchanges.{WireTelling}
+use Rattle.gateway_workers.specs.PassedOn.{Gate, WireTelling}
 use Rattle.gateway_workers.specs.declared.work_done.WorkDone.{WorkDone}
 use Rattle.gateway_workers.specs.Tours.{Run, AreRuns, visits_of, calls_in, replies_in}
 use Rattle.gateway_journal.specs.declared.worker.KeptWorker.{KeptWorker}

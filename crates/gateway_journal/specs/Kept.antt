@@ -11,9 +11,7 @@ use Rattle.account_journal.specs.declared.slots.TheConstants.{SLOTS}
 use Rattle.account_journal.specs.declared.journal.Journal.{Journal}
 use Rattle.account_journal.specs.declared.journal.KeptTicket.{KeptTicket}
 use Rattle.account_journal.specs.Journals.{Follows, IsSound, Rests, Stores, KeepsHistory, HoldsTicket, limit_in, entry_in, ticket_settlement, IsOpenIn}
-use Rattle.gateway_core.specs.declared.gate.Gate.{Gate}
-use Rattle.gateway_core.specs.Gates.{limits_of}
-use Rattle.gateway_core.specs.Numbers.{numbers_taken}
+use Rattle.gateway_workers.specs.PassedOn.{Gate, limits_of, numbers_taken}
 
 -- ---- entries of calls
 

@@ -4,3 +4,4 @@ pub mod Served
 pub mod DoorRuns
 -- What serves proofs.
 pub mod Composed
+pub mod PassedOn

@@ -4,10 +4,7 @@ use Rattle.account_core.specs.Machine.{Call}
 use Rattle.account_journal.specs.declared.journal.Journal.{Journal}
 use Rattle.journal_disk.specs.declared.disk.Disk.{Ghosts}
 use Rattle.doors.specs.Visits.{Told}
-use Rattle.gateway_core.specs.declared.gate.Gate.{Gate}
-use Rattle.gateway_connections.specs.declared.ending.Served.{Served}
-use Rattle.gateway_connections.specs.Exchanges.{Service, WireTelling, service_in}
-use Rattle.gateway_connections.specs.Serving.{Serves, LosesServing}
+use Rattle.gateway_workers.specs.PassedOn.{Gate, Served, Service, WireTelling, service_in, Serves, LosesServing}
 use Rattle.gateway_journal.specs.Kept.{kept_slots, HasKept, IsLostIn}
 
 -- by what requests are decided and forwarded, where numbers of calls are slots of a journal

@@ -1,7 +1,7 @@
 //! Serving a door over a journal.
 
 ghost use Rattle.std.specs.Prelude.{◌≡◌, ◌≤◌, false, IfOk, IfErr};
-ghost use Rattle.gateway_connections.specs.Exchanges.{telling};
+ghost use Rattle.gateway_workers.specs.PassedOn.{telling};
 ghost use Rattle.gateway_workers.specs.Tours.{door_members, one_if};
 ghost use Rattle.gateway_journal.specs.Kept.{IsKeptFor};
 ghost use Rattle.gateway_journal.specs.DoorRuns.{disk_members, ServesDoor, LosesDoor};
@@ -11,8 +11,7 @@ use crate::worker::KeptWorker;
 use crate::working::work;
 use account_journal::Journal;
 use doors::Door;
-use gateway_core::Gate;
-use gateway_workers::{CONNECTION_LIMIT, WorkDone};
+use gateway_workers::{CONNECTION_LIMIT, Gate, WorkDone};
 use journal_disk::Disk;
 use std::alloc::Global;
 use std::sync::Wait;

@@ -6,7 +6,7 @@ use account_core::Ticket;
 use account_journal::laws::open_tickets_may_be_settled;
 use account_journal::{Journal, JournalFault, KeptReply, KeptTicket};
 use cost_num::Cost;
-use gateway_core::{Gate, Ledger, Reserved};
+use gateway_workers::{Gate, Ledger, Reserved};
 use journal_disk::Disk;
 use std::sync::Wait;
 
@@ -21,7 +21,7 @@ impl<D: Disk> Ledger for Kept<D> {
     ghost use Rattle.account_core.specs.Machine.{Entry};
     ghost use Rattle.account_journal.specs.declared.slots.TheConstants.{SLOTS};
     ghost use Rattle.account_journal.specs.Journals.{Follows, IsSound, Rests};
-    ghost use Rattle.gateway_core.specs.Gates.{rules_of};
+    ghost use Rattle.gateway_workers.specs.PassedOn.{rules_of};
     ghost use Rattle.gateway_journal.specs.Kept.{kept_slots, HasGained, IsOpenHere, IsKeptFor, IsLostIn};
     ghost use Rattle.gateway_journal.specs.Composed.{none_gained, gained_then, settled_idle, has_filled, would_fill};
 

@@ -4,11 +4,11 @@ ghost use Rattle.std.specs.Prelude.{◌≡◌, List, ℕ, Some, is_some, IfOk, I
 ghost use Rattle.account_journal.specs.Slots.{bodies};
 ghost use Rattle.account_journal.specs.Recovery.{IsRecoveredFrom};
 ghost use Rattle.account_journal.specs.Reading.{IsFaultOf, IsIntact, RoseIfFailed};
-ghost use Rattle.gateway_core.specs.Gates.{limits_of};
+ghost use Rattle.gateway_workers.specs.PassedOn.{limits_of};
 ghost use Rattle.gateway_journal.specs.Kept.{IsKeptFor};
 
 use account_journal::{Journal, OpenFault};
-use gateway_core::Gate;
+use gateway_workers::Gate;
 use journal_disk::Disk;
 use std::alloc::Global;
 

@@ -2,16 +2,14 @@
 
 ghost use Rattle.std.specs.Prelude.{◌≡◌, ◌≢◌, ◌≤◌, ◌<◌, Some, IfOk, IfErr, OnErr};
 ghost use Rattle.outside.specs.Faults.{Rose};
-ghost use Rattle.gateway_connections.specs.Exchanges.{telling};
-ghost use Rattle.gateway_connections.specs.declared.ending.ConnectionEnd.TheVariants as ending;
+ghost use Rattle.gateway_workers.specs.PassedOn.{telling, Lost as EndingLost, ReadFault as EndingReadFault, WriteFault as EndingWriteFault};
 ghost use Rattle.gateway_journal.specs.Kept.{IsKeptFor};
 ghost use Rattle.gateway_journal.specs.Served.{ServesKept, LosesKeptAs};
 
 use crate::kept::Kept;
 use account_journal::Journal;
 use doors::{Conn, Tells};
-use gateway_connections::{ConnectionEnd, EXCHANGE_LIMIT, Served, serve_in};
-use gateway_core::Gate;
+use gateway_workers::{ConnectionEnd, EXCHANGE_LIMIT, Gate, Served, serve_in};
 use journal_disk::Disk;
 use outside::{Clock, Sink, Source, Wire};
 use std::alloc::Global;
@@ -43,11 +41,11 @@ pub(crate) fn serve_on<
     ensures serves { IfOk result (ServesKept D.reads D.image D.faults gate.now kept.old.journal kept.new.journal (⟦<Conn<S, K, W, C> as Tells>⟧.told conn.old) (⟦<Conn<S, K, W, C> as Tells>⟧.told conn.new)) }
     ensures lost { IfErr result (LosesKeptAs D.Disk kept.new.journal.disk (telling W.Wire)
         gate.now kept.old.journal (⟦<Conn<S, K, W, C> as Tells>⟧.told conn.old) (⟦<Conn<S, K, W, C> as Tells>⟧.told conn.new) conn.new.wire) }
-    ensures not_lost { IfOk result (λ served. served.end ≢ ending.Lost) }
+    ensures not_lost { IfOk result (λ served. served.end ≢ EndingLost) }
     ensures count { D.faults kept.old.journal.disk ≤ D.faults kept.new.journal.disk }
     ensures cause { OnErr result (Rose (D.faults kept.old.journal.disk) (D.faults kept.new.journal.disk)) }
-    ensures read_fault { IfOk result (λ served. served.end ≡ ending.ReadFault → Rose (S.faults conn.old.source) (S.faults conn.new.source)) }
-    ensures write_fault { IfOk result (λ served. served.end ≡ ending.WriteFault → Rose (K.faults conn.old.sink) (K.faults conn.new.sink)) }
+    ensures read_fault { IfOk result (λ served. served.end ≡ EndingReadFault → Rose (S.faults conn.old.source) (S.faults conn.new.source)) }
+    ensures write_fault { IfOk result (λ served. served.end ≡ EndingWriteFault → Rose (K.faults conn.old.sink) (K.faults conn.new.sink)) }
     ensures most { IfOk result (λ served. served.replies ≤ EXCHANGE_LIMIT) }
     ensures few { IfErr result (λ replies. replies < EXCHANGE_LIMIT) }
 {
@@ -83,12 +81,12 @@ pub fn serve_kept<
     ensures serves { IfOk result.0 (λ j. ServesKept D.reads D.image D.faults gate.now journal j (⟦<Conn<S, K, W, C> as Tells>⟧.told conn.old) (⟦<Conn<S, K, W, C> as Tells>⟧.told conn.new) result.1) }
     ensures lost { IfErr result.0 (λ disk. LosesKeptAs D.Disk disk (telling W.Wire)
         gate.now journal (⟦<Conn<S, K, W, C> as Tells>⟧.told conn.old) (⟦<Conn<S, K, W, C> as Tells>⟧.told conn.new) conn.new.wire result.1.replies) }
-    ensures end { OnErr result.0 (result.1.end ≡ ending.Lost) }
-    ensures not_lost { IfOk result.0 (λ j. result.1.end ≢ ending.Lost) }
+    ensures end { OnErr result.0 (result.1.end ≡ EndingLost) }
+    ensures not_lost { IfOk result.0 (λ j. result.1.end ≢ EndingLost) }
     ensures count { IfOk result.0 (λ j. D.faults journal.disk ≤ D.faults j.disk) }
     ensures cause { IfErr result.0 (λ disk. Rose (D.faults journal.disk) (D.faults disk)) }
-    ensures read_fault { result.1.end ≡ ending.ReadFault → Rose (S.faults conn.old.source) (S.faults conn.new.source) }
-    ensures write_fault { result.1.end ≡ ending.WriteFault → Rose (K.faults conn.old.sink) (K.faults conn.new.sink) }
+    ensures read_fault { result.1.end ≡ EndingReadFault → Rose (S.faults conn.old.source) (S.faults conn.new.source) }
+    ensures write_fault { result.1.end ≡ EndingWriteFault → Rose (K.faults conn.old.sink) (K.faults conn.new.sink) }
     ensures most { result.1.replies ≤ EXCHANGE_LIMIT }
 {
     let mut kept = Kept { journal };

@@ -1,7 +1,7 @@
 //! What the one worker of a journal does.
 
 ghost use Rattle.std.specs.Prelude.{◌≡◌, ◌*◌, ◌≤◌, ◌<◌, false};
-ghost use Rattle.gateway_connections.specs.Exchanges.{telling};
+ghost use Rattle.gateway_workers.specs.PassedOn.{telling};
 ghost use Rattle.gateway_workers.specs.Tours.{door_members};
 ghost use Rattle.gateway_journal.specs.Kept.{IsKeptFor};
 ghost use Rattle.gateway_journal.specs.DoorRuns.{disk_members, TurnIs, Waits, Worked};
@@ -9,9 +9,7 @@ ghost use Rattle.gateway_journal.specs.DoorRuns.{disk_members, TurnIs, Waits, Wo
 use crate::serving::serve_on;
 use crate::worker::{KeptWorker, Turned};
 use doors::{Door, DoorFault};
-use gateway_connections::ConnectionEnd;
-use gateway_core::Gate;
-use gateway_workers::CONNECTION_LIMIT;
+use gateway_workers::{CONNECTION_LIMIT, ConnectionEnd, Gate};
 use journal_disk::Disk;
 use std::alloc::Global;
 use std::sync::Wait;

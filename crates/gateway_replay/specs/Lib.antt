@@ -4,3 +4,4 @@ pub mod Lines
 pub mod Replays
 -- What serves proofs: how far a replay has come.
 pub mod Stretches
+pub mod PassedOn

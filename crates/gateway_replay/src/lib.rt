@@ -12,6 +12,7 @@ mod step;
 mod told;
 mod writing;
 
+pub use gateway_core::{Gate, Settings, Totals, close};
 pub use laws::{fresh_accounts_are_idle, over_fresh_accounts, scripts_are_short};
 pub use replayed::Replayed;
 pub use replaying::replay;

@@ -1,10 +1,6 @@
 -- A file that failed is told as such, and in no other way.
 use Rattle.std.proofs.Common.{◌≡◌, ◌≢◌, inl, inr, sym, subst, ℕ, List, Contains, Option, None, Some}
-use Rattle.command_outcomes.specs.declared.outcome.Outcome.{Outcome}
-use Rattle.command_outcomes.specs.declared.outcome.Outcome.TheVariants.{Done, Refused, FileFailed, Faulty, Audited, Served, NotStarted, Usage, Memory}
-use Rattle.command_outcomes.specs.declared.outcome.TheConstants.{FILE_FAILED}
-use Rattle.command_outcomes.specs.Outcomes.{FilesTold, NoFileFailed, IsStopped}
-use Rattle.command_outcomes.specs.Reading.{HasNoText}
+use Rattle.account_commands.specs.PassedOn.{Outcome, Done, Refused, FileFailed, Faulty, Audited, Served, NotStarted, Usage, Memory, FILE_FAILED, FilesTold, NoFileFailed, IsStopped, HasNoText}
 use Rattle.command_words.specs.declared.command.Command.{Command}
 use Rattle.command_words.specs.declared.command.Command.TheVariants.{Help, Version, Check, Price, Explain, ExplainSchema, Audit, Introspect, Worst, Forward, Meter, Replay, Serve, Exercise, Migrate}
 use Rattle.command_words.specs.declared.command.Asked.{Asked}

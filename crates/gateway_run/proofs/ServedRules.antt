@@ -12,7 +12,7 @@ use Rattle.gateway_serving.specs.Decisions.{HasWeights}
 use Rattle.gateway_serving.specs.declared.ending.ServeEnd.{ServeEnd}
 use Rattle.gateway_serving.specs.declared.ending.ServeFault.{ServeFault}
 use Rattle.gateway_serving.specs.Ends.{WasServed}
-use Rattle.command_outcomes.specs.Check.{HoldsWith}
+use Rattle.account_commands.specs.PassedOn.{HoldsWith}
 use Rattle.command_words.specs.declared.command.AskedServe.{AskedServe}
 use Rattle.gateway_run.specs.declared.serve_inputs.ServeInputs.{ServeInputs}
 use Rattle.gateway_run.specs.Serve.{DoorsCall, ServesTo, service_by}

@@ -1,11 +1,7 @@
 -- By what a gateway is served that is made of what files hold.
 use Rattle.std.proofs.Common.{◌≡◌, ◌∙◌, ap, ap₂, subst, ℕ, Bool, List, Option, Result, map}
 use Rattle.account_core.specs.declared.Limit.{Limit}
-use Rattle.gateway_core.specs.declared.gate.Gate.{Gate}
-use Rattle.gateway_core.specs.declared.gate.Settings.{Settings}
-use Rattle.gateway_core.specs.Rules.{client_limit}
-use Rattle.gateway_core.specs.Gates.{limits_of}
-use Rattle.gateway_connections.specs.Exchanges.{service_in}
+use Rattle.gateway_serving.specs.PassedOn.{Gate, Settings, client_limit, limits_of, service_in}
 use Rattle.gateway_serving.specs.Decisions.{Rules, rules_of, Service}
 use Rattle.gateway_serving.specs.declared.asked.Serving.{Serving}
 use Rattle.gateway_serving.specs.Telling.{DoorsTold}

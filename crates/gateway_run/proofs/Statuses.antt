@@ -1,9 +1,8 @@
 -- What a run with a status says.
 use Rattle.std.proofs.Common.{◌≡◌, ◌≤◌, ◌⊎◌, inl, inr, refl, sym, subst, codes, ℕ, List, Option, None, Some, Bool, true, false, Result, Ok, Err, Vec, arith, Contains}
-use Rattle.command_outcomes.specs.declared.limits.TheConstants.{SCHEMA_LIMIT, DOCUMENT_LIMIT, VARIABLES_LIMIT, CLIENTS_LIMIT, SCRIPT_LIMIT, TRUSTED_LIMIT}
+use Rattle.account_commands.specs.PassedOn.{SCHEMA_LIMIT, DOCUMENT_LIMIT, VARIABLES_LIMIT, CLIENTS_LIMIT, SCRIPT_LIMIT, TRUSTED_LIMIT, line, Outcome, Done, Refused, FileFailed, Faulty, Served, NotStarted, Usage, Memory, Audited, DONE, REFUSED, USAGE, FILE_FAILED, STREAM_FAILED, NO_MEMORY, SIZE_BROKEN, NOT_RESPONSE, DOOR_FAILED, DISK_FAILED, FilesTold, IsStopped, IsDone, IsRefusedAs, IsFaultyAs, IsAudited, CheckOf, IsNoText, HasNoText}
 use Rattle.std.specs.declared.alloc.Global.{Global}
 use Rattle.outside.specs.Faults.{Rose}
-use Rattle.command_outcomes.specs.Texts.{line}
 use Rattle.command_words.specs.declared.command.Command.{Command}
 use Rattle.command_words.specs.declared.command.Command.TheVariants.{Help, Version, Check, Price, Explain, ExplainSchema, Audit, Introspect, Worst, Forward, Meter, Replay, Serve, Exercise, Migrate}
 use Rattle.command_words.specs.declared.command.Asked.{Asked}
@@ -20,15 +19,9 @@ use Rattle.journal_serving.specs.declared.ending.KeptFault.{KeptFault}
 use Rattle.journal_serving.specs.declared.ending.KeptFault.TheVariants as unserved
 use Rattle.gateway_run.specs.declared.serve_inputs.ServeTexts.{ServeTexts}
 use Rattle.gateway_run.specs.declared.serve_inputs.ServeInputs.{ServeInputs}
-use Rattle.command_outcomes.specs.declared.outcome.Outcome.{Outcome}
-use Rattle.command_outcomes.specs.declared.outcome.Outcome.TheVariants.{Done, Refused, FileFailed, Faulty, Served, NotStarted, Usage, Memory, Audited}
-use Rattle.command_outcomes.specs.declared.outcome.TheConstants.{DONE, REFUSED, USAGE, FILE_FAILED, STREAM_FAILED, NO_MEMORY, SIZE_BROKEN, NOT_RESPONSE, DOOR_FAILED, DISK_FAILED}
 use Rattle.command_words.specs.Words.{Asks, IsNoCommand}
-use Rattle.command_outcomes.specs.Outcomes.{FilesTold, IsStopped, IsDone, IsRefusedAs, IsFaultyAs, IsAudited}
 use Rattle.gateway_run.specs.Endings.{StreamTold, IsKept, Writes, EndsServed, Ends}
-use Rattle.command_outcomes.specs.Check.{CheckOf}
 use Rattle.operation_commands.specs.declared.asked.AskedTexts.{AskedTexts}
-use Rattle.command_outcomes.specs.Reading.{IsNoText, HasNoText}
 use Rattle.operation_commands.specs.Asked.{HasNoVariables, HaveNoOperation, HaveNoTexts, request_in}
 use Rattle.operation_commands.specs.Price.{PriceOf}
 use Rattle.told_refusals.specs.Told.{Spot}

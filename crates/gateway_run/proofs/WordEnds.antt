@@ -3,8 +3,7 @@ use Rattle.std.proofs.Common.{◌≡◌, inl, inr, refl, ℕ, List}
 use Rattle.command_words.specs.declared.command.WordsFault.{WordsFault}
 use Rattle.command_words.specs.declared.command.WordsFault.TheVariants.{Usage, Memory}
 use Rattle.command_words.specs.Words.{IsNoCommand}
-use Rattle.command_outcomes.specs.declared.outcome.Outcome.{Outcome}
-use Rattle.command_outcomes.specs.Outcomes.{FilesTold, NoFileFailed}
+use Rattle.account_commands.specs.PassedOn.{Outcome, FilesTold, NoFileFailed}
 use Rattle.gateway_run.specs.Serve.{OutsideCall, AreUntouched}
 use Rattle.gateway_run.specs.Program.{no_command, ComeTo}
 

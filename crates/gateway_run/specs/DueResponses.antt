@@ -1,7 +1,6 @@
 -- What is promised of responses that are due, whatever keeps the accounts.
 use Rattle.std.specs.Prelude.{◌≡◌, ℕ, ⊤}
-use Rattle.gateway_connections.specs.Exchanges.{Service, Exchange, IsExchange}
-use Rattle.gateway_connections.specs.Measured.{Metered, UpstreamReply, WasExchanged, WasBrought, IsDue, WasGivenOr500}
+use Rattle.gateway_serving.specs.PassedOn.{Service, Exchange, IsExchange, Metered, UpstreamReply, WasExchanged, WasBrought, IsDue, WasGivenOr500}
 
 -- A response that is due is given with 200 and settled at its cost, or memory was wanting.
 abbrev pub GivesWhatIsDue : Service → Type 0

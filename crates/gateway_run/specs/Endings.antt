@@ -4,10 +4,7 @@ use Rattle.std.specs.Io.KnownBytes.{Appends, Keeps}
 use Rattle.outside.specs.Faults.{Rose}
 use Rattle.outside.specs.Contents.{AppendsFront}
 use Rattle.outside.specs.declared.sink.Sink.{Ghosts}
-use Rattle.command_outcomes.specs.declared.outcome.Outcome.{Outcome}
-use Rattle.command_outcomes.specs.declared.outcome.Outcome.TheVariants.{Done, Refused, FileFailed, Faulty, Audited, Served, NotStarted, Usage, Memory}
-use Rattle.command_outcomes.specs.declared.outcome.TheConstants.{DONE, REFUSED, USAGE, FILE_FAILED, STREAM_FAILED, NO_MEMORY, DOOR_FAILED}
-use Rattle.command_outcomes.specs.Texts.{line, file_text}
+use Rattle.account_commands.specs.PassedOn.{Outcome, Done, Refused, FileFailed, Faulty, Audited, Served, NotStarted, Usage, Memory, DONE, REFUSED, USAGE, FILE_FAILED, STREAM_FAILED, NO_MEMORY, DOOR_FAILED, line, file_text}
 use Rattle.gateway_run.specs.declared.finish.TheConstants.{USAGE_TEXT, DOOR_TEXT}
 
 -- What a stream tells of a call: what was written on it and the count of its faults, before and after.

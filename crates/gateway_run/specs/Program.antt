@@ -10,16 +10,12 @@ use Rattle.command_words.specs.declared.command.AskedReplay.{AskedReplay}
 use Rattle.command_words.specs.declared.command.AskedServe.{AskedServe}
 use Rattle.command_words.specs.declared.command.WordsFault.{WordsFault}
 use Rattle.command_words.specs.declared.command.WordsFault.TheVariants.{Usage as NoCommand, Memory as NoMemory}
-use Rattle.command_outcomes.specs.declared.outcome.Outcome.{Outcome}
-use Rattle.command_outcomes.specs.declared.outcome.Outcome.TheVariants.{Done, Refused, Faulty, Audited, Served, NotStarted, Usage, Memory}
+use Rattle.account_commands.specs.PassedOn.{Outcome, Done, Refused, Faulty, Audited, Served, NotStarted, Usage, Memory, line, file_text, FilesTold, files_told, NoFileFailed, IsDone, CheckCameTo}
 use Rattle.command_words.specs.Words.{Asks, IsNoCommand}
 use Rattle.gateway_run.specs.declared.finish.TheConstants.{USAGE_TEXT, VERSION_TEXT, DOOR_TEXT}
 use Rattle.outside.specs.Faults.{Rose}
 use Rattle.outside.specs.declared.files.Files.{Ghosts}
-use Rattle.command_outcomes.specs.Texts.{line, file_text}
-use Rattle.command_outcomes.specs.Outcomes.{FilesTold, files_told, NoFileFailed, IsDone}
 use Rattle.gateway_run.specs.Endings.{StreamTold, Gains, IsKept, HasFailed, FailsAmid, Ends}
-use Rattle.command_outcomes.specs.Check.{CheckCameTo}
 use Rattle.operation_commands.specs.Price.{PriceCameTo}
 use Rattle.operation_commands.specs.Explain.{ExplainCameTo}
 use Rattle.operation_commands.specs.ExplainSchema.{ExplainSchemaCameTo}

@@ -10,20 +10,17 @@ use Rattle.gateway_serving.specs.declared.ending.ServeFault.TheVariants.{NotStar
 use Rattle.sha2.specs.Sha256.{sha256}
 use Rattle.client_files.specs.declared.client.Client.{Client}
 use Rattle.client_files.specs.Written.{client_file}
-use Rattle.gateway_core.specs.Rules.{client_limit}
+use Rattle.gateway_serving.specs.PassedOn.{client_limit}
 use Rattle.journal_disk.specs.declared.disks.Disks.{Ghosts as DisksTell}
-use Rattle.gateway_journal.specs.Kept.{kept_slots}
+use Rattle.journal_serving.specs.PassedOn.{kept_slots}
 use Rattle.journal_serving.specs.declared.ending.KeptEnd.{KeptEnd}
 use Rattle.journal_serving.specs.declared.ending.KeptFault.{KeptFault}
 use Rattle.journal_serving.specs.declared.ending.KeptFault.TheVariants as unserved
 use Rattle.journal_serving.specs.Keeping.{DisksTold, disks_told, ComesTo as KeptComesTo}
-use Rattle.command_outcomes.specs.declared.outcome.TheConstants.{DISK_FAILED}
+use Rattle.account_commands.specs.PassedOn.{DISK_FAILED, Outcome, Served, NotStarted, Memory, FilesTold, NoFileFailed, IsRefusedAs, IsFaultyAs}
 use Rattle.gateway_serving.specs.Telling.{DoorsTold, doors_told}
 use Rattle.gateway_serving.specs.Ends.{ComesTo}
 use Rattle.command_words.specs.declared.command.AskedServe.{AskedServe}
-use Rattle.command_outcomes.specs.declared.outcome.Outcome.{Outcome}
-use Rattle.command_outcomes.specs.declared.outcome.Outcome.TheVariants.{Served, NotStarted, Memory}
-use Rattle.command_outcomes.specs.Outcomes.{FilesTold, NoFileFailed, IsRefusedAs, IsFaultyAs}
 use Rattle.account_commands.specs.RuleFiles.{rules_in}
 use Rattle.account_commands.specs.Replay.{client_lines}
 use Rattle.gateway_run.specs.declared.serve_inputs.ServeTexts.{ServeTexts}

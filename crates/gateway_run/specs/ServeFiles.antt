@@ -2,10 +2,7 @@
 use Rattle.std.specs.Prelude.{◌⊎◌, ℕ, List, Option}
 use Rattle.trusted_documents.specs.FaultTexts as list_faults
 use Rattle.command_words.specs.declared.command.AskedServe.{AskedServe}
-use Rattle.command_outcomes.specs.declared.limits.TheConstants.{SCHEMA_LIMIT, CLIENTS_LIMIT}
-use Rattle.command_outcomes.specs.declared.outcome.Outcome.{Outcome}
-use Rattle.command_outcomes.specs.Outcomes.{FilesTold, IsRefusedAs}
-use Rattle.command_outcomes.specs.Reading.{HoldsText}
+use Rattle.account_commands.specs.PassedOn.{SCHEMA_LIMIT, CLIENTS_LIMIT, Outcome, FilesTold, IsRefusedAs, HoldsText}
 use Rattle.account_commands.specs.declared.rule_texts.RuleTexts.{RuleTexts}
 use Rattle.account_commands.specs.declared.list_inputs.ListText.{ListText}
 use Rattle.account_commands.specs.RuleFiles.{HaveNoRules, HoldRuleTexts, HoldRules, HoldsSchema, HoldsClients, IsRulesRefusal, rules_refusal_text}

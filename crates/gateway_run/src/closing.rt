@@ -2,7 +2,7 @@
 
 ghost use Rattle.std.specs.Prelude.{◌≡◌, ◌≤◌, ◌++◌, All, OnOk, IfOk, length, string_bytes};
 ghost use Rattle.client_files.specs.declared.client.TheConstants.{CLIENT_LIMIT};
-ghost use Rattle.gateway_core.specs.Rules.{IsSettledWithin, IsCarriedWithin};
+ghost use Rattle.gateway_serving.specs.PassedOn.{IsSettledWithin, IsCarriedWithin};
 ghost use Rattle.gateway_run.specs.Serve.{done_text, closing_text, kept_closing_text};
 
 use account_commands::{write_accounts, write_clients};

@@ -4,10 +4,10 @@ ghost use Rattle.std.specs.Prelude.{◌≡◌, ◌≤◌, ◌⊎◌, OnOk, OnErr
 ghost use Rattle.std.specs.Io.KnownBytes.{Appends};
 ghost use Rattle.outside.specs.Faults.{Rose};
 ghost use Rattle.outside.specs.Contents.{AppendsFront};
-ghost use Rattle.command_outcomes.specs.Texts.{line, file_text};
+ghost use Rattle.account_commands.specs.PassedOn.{line, file_text};
 ghost use Rattle.gateway_run.specs.Endings.{stream_told, Writes, Mentions, EndsServed, audit_status, Ends};
 
-use command_outcomes::{
+use account_commands::{
     DONE, DOOR_FAILED, FILE_FAILED, NO_MEMORY, Outcome, REFUSED, STREAM_FAILED, USAGE,
 };
 use gql_base::Text;

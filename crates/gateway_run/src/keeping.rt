@@ -1,13 +1,13 @@
 //! Serving over a journal, and what is told of it.
 
 ghost use Rattle.std.specs.Prelude.{IfOk, All, codes};
-ghost use Rattle.command_outcomes.specs.Outcomes.{IsRefusedAs, IsFaultyAs};
-ghost use Rattle.gateway_core.specs.Rules.{IsSettledWithin, IsCarriedWithin};
+ghost use Rattle.account_commands.specs.PassedOn.{IsRefusedAs, IsFaultyAs};
+ghost use Rattle.gateway_serving.specs.PassedOn.{IsSettledWithin, IsCarriedWithin};
 ghost use Rattle.gateway_run.specs.Serve.{damaged_text, IsKeptTold};
 
 use crate::closing::kept_closing_lines;
+use account_commands::{DISK_FAILED, Outcome};
 use client_files::Client;
-use command_outcomes::{DISK_FAILED, Outcome};
 use gql_base::Text;
 use journal_serving::{KeptEnd, KeptFault};
 use std::alloc::Global;

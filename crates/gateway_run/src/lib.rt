@@ -12,7 +12,7 @@ mod serve_laws;
 mod serving;
 mod status_laws;
 
-pub use command_outcomes::{
+pub use account_commands::{
     DISK_FAILED, DONE, DOOR_FAILED, FILE_FAILED, NO_MEMORY, NOT_RESPONSE, REFUSED, SIZE_BROKEN,
     STREAM_FAILED, USAGE,
 };

@@ -2,15 +2,14 @@
 
 ghost use Rattle.std.specs.Prelude.{◌≡◌};
 ghost use Rattle.command_words.specs.Words.{ServesWithinLimits};
-ghost use Rattle.command_outcomes.specs.Outcomes.{IsDone};
+ghost use Rattle.account_commands.specs.PassedOn.{IsDone};
 ghost use Rattle.gateway_run.specs.Endings.{stream_told, Ends};
 ghost use Rattle.gateway_run.specs.Serve.{doors_call, disks_call, outside_call};
 ghost use Rattle.gateway_run.specs.Program.{files_call, no_command, CommandCameTo, ComeTo, Runs};
 
 use crate::finish::{USAGE_TEXT, VERSION_TEXT, finish};
 use crate::serving::serve;
-use account_commands::{exercise, migrate, replay};
-use command_outcomes::{Outcome, check};
+use account_commands::{Outcome, check, exercise, migrate, replay};
 use command_words::{Command, WordsFault, command_of};
 use doors::Doors;
 use gql_base::Text;

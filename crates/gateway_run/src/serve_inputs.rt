@@ -3,17 +3,15 @@
 ghost use Rattle.std.specs.Prelude.{◌≡◌, IfOk, IfErr, OnOk};
 ghost use Rattle.outside.specs.Faults.{StayAll};
 ghost use Rattle.client_files.specs.ClientFiles.{MayBeServed};
-ghost use Rattle.command_outcomes.specs.Reading.{IsText};
-ghost use Rattle.command_outcomes.specs.Outcomes.{files_told, IsRefusedAs};
+ghost use Rattle.account_commands.specs.PassedOn.{IsText, files_told, IsRefusedAs};
 ghost use Rattle.account_commands.specs.RuleFiles.{HoldRules};
 ghost use Rattle.account_commands.specs.Lists.{HoldsList};
 ghost use Rattle.gateway_run.specs.ServeFiles.{HoldServeTexts, HaveNoServeTexts, HoldServe, IsServeRefusal, IfServeRefused, serve_refusal_text, HaveNoRulesIn, IsNoList};
 
 use account_commands::{
-    ListFault, ListText, RuleInputs, RuleTexts, RulesFault, RulesRefusal, list_in, read_list,
-    read_rules, refused_list, refused_rules, rule_inputs_in,
+    ListFault, ListText, Outcome, RuleInputs, RuleTexts, RulesFault, RulesRefusal, SCHEMA_LIMIT,
+    list_in, read_list, read_rules, refused_list, refused_rules, rule_inputs_in,
 };
-use command_outcomes::{Outcome, SCHEMA_LIMIT};
 use command_words::AskedServe;
 use gql_base::Text;
 use outside::Files;

@@ -8,8 +8,7 @@ ghost use Rattle.gateway_run.specs.ServeFiles.{HoldServe};
 ghost use Rattle.gateway_run.specs.Serve.{service_over};
 ghost use Rattle.gateway_run.specs.DueResponses.{GivesWhatIsDue, AnswersAlike};
 
-use gateway_connections::a_response_is_given_where_it_is_due;
-use gateway_core::types_of_built_schemas_differ;
+use gateway_serving::{a_response_is_given_where_it_is_due, types_of_built_schemas_differ};
 
 /// Where requests are decided by the rules that texts hold, over shared cells or a journal, a response that is due is given with 200 and
 /// settled at its cost, or memory was wanting; and for one body and one reply of the upstream there are not both 200 and 502.

@@ -8,8 +8,7 @@ ghost use Rattle.client_files.specs.declared.client.TheConstants.{CLIENT_LIMIT};
 ghost use Rattle.gateway_serving.specs.Decisions.{HasWeights};
 ghost use Rattle.command_words.specs.declared.command.Command.TheVariants.{Serve};
 ghost use Rattle.command_words.specs.Words.{ServesWithinLimits};
-ghost use Rattle.command_outcomes.specs.Reading.{IsText};
-ghost use Rattle.command_outcomes.specs.Outcomes.{files_told};
+ghost use Rattle.account_commands.specs.PassedOn.{IsText, files_told};
 ghost use Rattle.gateway_run.specs.Serve.{doors_call, disks_call, outside_call, IsServingOf, ServesTo, KeepsAs, ServesAs, IsTold, ServeOf, ServeCameTo};
 
 use crate::closing::closing_lines;
@@ -17,8 +16,7 @@ use crate::keeping::kept_told;
 use crate::serve_inputs::{
     InputsFault, ServeInputs, ServeTexts, read_serve, refused_serve, serve_inputs_in,
 };
-use account_commands::gate_by;
-use command_outcomes::{Outcome, SCHEMA_LIMIT};
+use account_commands::{Outcome, SCHEMA_LIMIT, gate_by};
 use command_words::AskedServe;
 use doors::Doors;
 use gateway_serving::{ServeEnd, ServeFault, Serving, Settings};

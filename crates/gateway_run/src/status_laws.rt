@@ -2,11 +2,11 @@
 
 ghost use Rattle.std.specs.Prelude.{◌≡◌, ◌≢◌, ◌≤◌, ◌⊎◌, ℕ};
 ghost use Rattle.command_words.specs.Words.{IsNoCommand};
-ghost use Rattle.command_outcomes.specs.Outcomes.{NoFileFailed};
+ghost use Rattle.account_commands.specs.PassedOn.{NoFileFailed};
 ghost use Rattle.gateway_run.specs.Endings.{IsKept};
 ghost use Rattle.gateway_run.specs.Program.{EveryRunWith, NamesFile, OneFailed, PrintsOutput, PrintsRefusal, PrintsFault, TellsDoor, IsSilent};
 
-use command_outcomes::{
+use account_commands::{
     DISK_FAILED, DONE, DOOR_FAILED, FILE_FAILED, NO_MEMORY, NOT_RESPONSE, REFUSED, SIZE_BROKEN,
     STREAM_FAILED, USAGE,
 };

@@ -2,3 +2,4 @@ pub mod DoorsBack
 pub mod AddedUp
 pub mod ClientAccounts
 pub mod AllServed
+pub mod PassedOn

@@ -5,3 +5,4 @@ pub mod Histories
 pub mod Ends
 -- What is passed on.
 pub mod Decisions
+pub mod PassedOn

@@ -10,7 +10,10 @@ mod sharing;
 
 pub use asked::Serving;
 pub use ending::{ServeEnd, ServeFault};
-pub use gateway_workers::{Gate, Settings, Totals};
+pub use gateway_workers::{
+    Gate, Settings, Totals, WorkDone, a_response_is_given_where_it_is_due,
+    types_of_built_schemas_differ,
+};
 pub use laws::{
     calm_ends_are_whole, connections_are_those_of_the_doors, faults_are_those_of_the_doors,
 };

@@ -5,3 +5,4 @@ pub mod Splits
 pub mod Returns
 pub mod AllTours
 pub mod FreshAccounts
+pub mod PassedOn

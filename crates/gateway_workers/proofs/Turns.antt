@@ -7,8 +7,8 @@ use Rattle.account_shared.specs.Gains.{ClientCall, Gains}
 use Rattle.account_shared.proofs.Stretches.{none_gained, gained_then}
 use Rattle.doors.specs.Visits.{Told, Visit, given_by, after_visit, Gained}
 use Rattle.doors.specs.Starts.{DoorMembers}
-use Rattle.gateway_core.specs.Numbers.{numbers_taken}
-use Rattle.gateway_core.proofs.TakenNumbers.{taken_none, taken_then}
+use Rattle.gateway_connections.specs.PassedOn.{numbers_taken}
+use Rattle.gateway_connections.proofs.PassedOn.{taken_none, taken_then}
 use Rattle.gateway_connections.specs.declared.ending.Served.{Served}
 use Rattle.gateway_connections.specs.declared.ending.ConnectionEnd.TheVariants as ending
 use Rattle.outside.specs.Faults.{Rose}

@@ -5,3 +5,4 @@ pub mod Workers
 pub mod Whole
 -- What is passed on.
 pub mod Decisions
+pub mod PassedOn

@@ -5,7 +5,7 @@ use Rattle.outside.specs.Faults.{Rose}
 use Rattle.doors.specs.Visits.{Told, Visit, Gained}
 use Rattle.doors.specs.Starts.{DoorMembers, members}
 use Rattle.doors.specs.declared.door.Door.{Ghosts as DoorTells}
-use Rattle.gateway_core.specs.Numbers.{numbers_taken}
+use Rattle.gateway_connections.specs.PassedOn.{numbers_taken}
 use Rattle.gateway_connections.specs.declared.ending.Served.{Served}
 use Rattle.gateway_connections.specs.declared.ending.ConnectionEnd.TheVariants as ending
 use Rattle.gateway_connections.specs.Exchanges.{Service}

@@ -8,7 +8,7 @@ use Rattle.account_core.specs.Numbers.{FitsCap, KeepsLimit}
 use Rattle.account_journal.specs.declared.journal.Journal.{Journal}
 use Rattle.account_journal.specs.Histories.{no_account}
 use Rattle.account_journal.specs.Journals.{IsSound, limit_in, account_in}
-use Rattle.gateway_core.specs.Rules.{greatest, IsSettledWithin, IsCarriedWithin}
+use Rattle.gateway_journal.specs.PassedOn.{greatest, IsSettledWithin, IsCarriedWithin}
 
 settled_capped : (limit : Limit) (a : Account) → FitsCap greatest limit → KeepsLimit limit a → IsSettledWithin a
 settled_capped limit a fits keeps = by_carry limit.carry refl

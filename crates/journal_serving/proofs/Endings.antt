@@ -13,13 +13,9 @@ use Rattle.account_journal.specs.Slots.{bodies}
 use Rattle.account_journal.specs.Reading.{IsIntact, RoseIfFailed}
 use Rattle.account_journal.specs.declared.reading.OpenFault.{OpenFault}
 use Rattle.account_journal.specs.declared.reading.OpenFault.TheVariants as unopened
-use Rattle.gateway_core.specs.declared.gate.Gate.{Gate}
-use Rattle.gateway_core.specs.Gates.{limits_of}
-use Rattle.gateway_connections.specs.Exchanges.{WireTelling}
-use Rattle.gateway_workers.specs.declared.work_done.WorkDone.{WorkDone}
-use Rattle.gateway_workers.proofs.Turns.{visits_then}
-use Rattle.gateway_connections.specs.Serving.{LosesServing}
-use Rattle.gateway_workers.specs.Tours.{calls_in, visits_of, one_if}
+use Rattle.gateway_journal.specs.PassedOn.{Gate, limits_of, WireTelling, LosesServing}
+use Rattle.gateway_serving.specs.PassedOn.{WorkDone, calls_in, visits_of, one_if}
+use Rattle.gateway_serving.proofs.PassedOn.{visits_then}
 use Rattle.gateway_serving.specs.declared.asked.Serving.{Serving}
 use Rattle.gateway_serving.specs.Telling.{DoorsTold, StartAndStop, asked_of}
 use Rattle.gateway_serving.proofs.DoorsBack.{has_risen, told_visits}

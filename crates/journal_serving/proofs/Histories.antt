@@ -16,12 +16,7 @@ use Rattle.outside.specs.Dials.{Dial}
 use Rattle.upstream_link.specs.declared.fault.LinkFault.{LinkFault}
 use Rattle.upstream_link.specs.declared.reply.UpstreamReply.{UpstreamReply}
 use Rattle.upstream_link.specs.Exchanges.{CameTo}
-use Rattle.gateway_core.specs.declared.grant.Grant.{Grant}
-use Rattle.gateway_core.specs.Rules.{window_of}
-use Rattle.gateway_core.specs.Losses.{LosesReservation, LosesCalls}
-use Rattle.gateway_connections.specs.Exchanges.{Service, WireTelling, LosesExchange, LosesForwarded}
-use Rattle.gateway_connections.specs.Connections.{calls_of}
-use Rattle.gateway_connections.specs.Serving.{LosesServing}
+use Rattle.gateway_journal.specs.PassedOn.{Grant, window_of, LosesReservation, LosesCalls, Service, WireTelling, LosesExchange, LosesForwarded, calls_of, LosesServing}
 use Rattle.gateway_journal.specs.Kept.{entries_of_calls, entries_made, kept_of_calls, IsHeld, HasKept, IsLostIn}
 use Rattle.gateway_journal.proofs.HeldCalls.{quiet_start, is_open}
 use Rattle.gateway_journal.proofs.ServedCalls.{exchanges_even}

@@ -17,11 +17,8 @@ use Rattle.account_journal.specs.Reading.{IsFaultOf, IsIntact}
 use Rattle.account_journal.specs.Recovery.{recovered_history}
 use Rattle.account_journal.specs.declared.reading.OpenFault.{OpenFault}
 use Rattle.account_journal.specs.declared.reading.OpenFault.TheVariants as unopened
-use Rattle.gateway_core.specs.Numbers.{numbers_taken}
-use Rattle.gateway_connections.specs.Exchanges.{Service, WireTelling}
-use Rattle.gateway_connections.specs.Serving.{LosesServing}
-use Rattle.gateway_workers.specs.declared.work_done.WorkDone.{WorkDone}
-use Rattle.gateway_workers.specs.Tours.{Run, AreRuns, visits_of, calls_in, replies_in, one_if}
+use Rattle.gateway_journal.specs.PassedOn.{numbers_taken, Service, WireTelling, LosesServing}
+use Rattle.gateway_serving.specs.PassedOn.{WorkDone, Run, AreRuns, visits_of, calls_in, replies_in, one_if}
 use Rattle.gateway_serving.specs.declared.asked.Serving.{Serving}
 use Rattle.gateway_serving.specs.Telling.{DoorsTold, StartAndStop, StartNone}
 use Rattle.gateway_journal.specs.Kept.{kept_slots, entries_made, kept_of_calls}

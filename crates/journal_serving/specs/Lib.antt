@@ -2,3 +2,4 @@
 pub mod Keeping
 -- What serves proofs.
 pub mod OverJournals
+pub mod PassedOn

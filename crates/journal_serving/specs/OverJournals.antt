@@ -3,9 +3,8 @@ use Rattle.std.specs.Prelude.{◌≡◌, ℕ, [], ◌∷◌, Result, Ok, Err}
 use Rattle.outside.specs.Faults.{Rose}
 use Rattle.doors.specs.Starts.{DoorMembers, IsNew, Stopped, stopped_by}
 use Rattle.account_journal.specs.declared.journal.Journal.{Journal}
-use Rattle.gateway_core.specs.declared.gate.Gate.{Gate}
-use Rattle.gateway_connections.specs.Exchanges.{WireTelling}
-use Rattle.gateway_workers.specs.declared.work_done.WorkDone.{WorkDone}
+use Rattle.gateway_journal.specs.PassedOn.{Gate, WireTelling}
+use Rattle.gateway_serving.specs.PassedOn.{WorkDone}
 use Rattle.gateway_serving.specs.declared.asked.Serving.{Serving}
 use Rattle.gateway_serving.specs.Telling.{DoorsTold, StartAndStop, StartNone}
 use Rattle.gateway_journal.specs.DoorRuns.{DiskMembers, ServesDoor, LosesDoor}

@@ -1,7 +1,7 @@
 //! What serving over a journal comes to.
 
 use account_core::Account;
-use gateway_workers::WorkDone;
+use gateway_serving::WorkDone;
 use thiserror::Error;
 
 /// What the worker did, and the account of each client after it, in their order.

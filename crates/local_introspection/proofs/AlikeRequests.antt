@@ -16,9 +16,7 @@ use Rattle.plan_model.specs.Merging.{Position}
 use Rattle.plan_model.specs.Responses.{FitsSelections, response_cost}
 use Rattle.plan_model.specs.Visits.{visits, level_limit, node_limit, PlanAnswer, answer_of}
 use Rattle.plan_model.specs.Operations.{setting_of, root_position, root_place}
-use Rattle.asked_fields.specs.AskedNodes.{AskedNodes}
-use Rattle.asked_fields.specs.Asked.{asked}
-use Rattle.asked_fields.specs.Asking.{kept_below}
+use Rattle.meta_schema.specs.PassedOn.{AskedNodes, asked, kept_below}
 use Rattle.schema_facts.specs.Facts.{FactsData}
 use Rattle.schema_facts.specs.Things.{one, the_root}
 use Rattle.acceptance.specs.Refusals.{NamesBreach, NamesVariable, NamesNode}

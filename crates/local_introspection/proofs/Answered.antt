@@ -3,14 +3,14 @@ use Rattle.std.proofs.Common.{◌≡◌, ℕ, ◌*◌, ◌≤◌, List, ◌++◌
 use Rattle.cost_num.specs.declared.TheConstants.{UNIT, CAP}
 use Rattle.cost_num.specs.Capped.{capped}
 use Rattle.cost_num.specs.declared.Cost.{Cost}
-use Rattle.static_cost.specs.CostBound.{IsWithin}
+use Rattle.acceptance.specs.PassedOn.{IsWithin}
 use Rattle.response_model.specs.Cost.{types, fields}
 use Rattle.response_model.specs.ResponseText.{tree_text}
 use Rattle.local_introspection.specs.declared.walk.Stop.{Stop}
 use Rattle.local_introspection.specs.declared.walk.Stop.TheVariants.{TooLarge, Memory}
 use Rattle.local_introspection.specs.declared.walk.Local.{Local}
 use Rattle.schema_facts.specs.Facts.{FactsData}
-use Rattle.asked_fields.specs.AskedNodes.{AskedNodes}
+use Rattle.meta_schema.specs.PassedOn.{AskedNodes}
 use Rattle.schema_facts.specs.Things.{the_root}
 use Rattle.local_introspection.specs.Answers.{values_in}
 use Rattle.local_introspection.specs.Walking.{AddsTree, IsAnswer, answer_tree, answer_cost}

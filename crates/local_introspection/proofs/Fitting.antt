@@ -9,9 +9,7 @@ use Rattle.response_model.specs.Cost.{Part, types, fields, value_cost, entry_cos
 use Rattle.schema_facts.specs.declared.table.What.{What}
 use Rattle.schema_facts.specs.Facts.{FactsData}
 use Rattle.schema_facts.specs.Things.{ThingData, the_root, HeldData, nothing, one, many, leaf_of}
-use Rattle.asked_fields.specs.Asked.{Asked, no_field, field_then, AskedBelow, of_leaf, of_objects, of_nothing, nodes_in, plan_in}
-use Rattle.asked_fields.specs.Asking.{kept_of, kept_below}
-use Rattle.asked_fields.specs.Arguments.{argument_kept}
+use Rattle.meta_schema.specs.PassedOn.{Asked, no_field, field_then, AskedBelow, of_leaf, of_objects, of_nothing, nodes_in, plan_in, kept_of, kept_below, argument_kept}
 use Rattle.meta_schema.specs.MetaTypes.{number_of}
 use Rattle.meta_schema.specs.MetaForms.{form_of, below_of, leaf_type_of, holds as table_holds, meta_name}
 use Rattle.local_introspection.specs.Answers.{given_by, entries_of, tree_of_thing, leaf_or, tree_of_held, elements_for, field_cost, unless_leaf, cost_of_thing, cost_of_things, cost_of_held, cost_of_entries}

@@ -17,11 +17,10 @@ use Rattle.document_rules.specs.Checking.{Breach, first_broken}
 use Rattle.variable_coercion.specs.Refusals.{Refusal as Unvalued, missing, bad_value, too_large as too_large_value}
 use Rattle.variable_coercion.specs.Variables.{VariableData, variables_answer}
 use Rattle.variable_coercion.specs.Calls.{variable_told}
-use Rattle.merged_selections.specs.declared.fault.PlanFault.TheVariants.{TooLarge, Memory as NoPlanMemory}
-use Rattle.merged_selections.specs.Faults.{path_text, IsTold}
+use Rattle.acceptance.specs.PassedOn.{TooLarge, Memory as NoPlanMemory, path_text, IsTold}
 use Rattle.plan_model.specs.Visits.{NodeFault, too_deep, conflict, refused_argument, refused_size, no_possible_type, PlanAnswer, planned_well, faulty, too_large}
 use Rattle.acceptance.specs.Refusals.{NamesNode}
-use Rattle.asked_fields.specs.AskedNodes.{AskedNodes}
+use Rattle.meta_schema.specs.PassedOn.{AskedNodes}
 use Rattle.local_introspection.specs.declared.facts.Facts.{Facts}
 use Rattle.local_introspection.specs.declared.fault.LocalFault.{LocalFault}
 use Rattle.local_introspection.specs.declared.fault.LocalFault.TheVariants.{Mixed, Rule, Variable, Plan, TooLarge as LocalTooLarge, Memory}

@@ -5,11 +5,7 @@ use Rattle.std.specs.Str.{bytes_eq}
 use Rattle.gql_base.specs.names.Names.{place_of_name}
 use Rattle.input_values.specs.values.Coerced.{CoercedTree, coerced_null, coerced_integer, coerced_string, coerced_boolean, coerced_enum, coerced_list, coerced_object}
 use Rattle.schema_model.specs.Arguments.{ArgData}
-use Rattle.asked_fields.specs.declared.asked.Argument.{Argument}
-use Rattle.asked_fields.specs.AskedNodes.{AskedNodes, asked_then}
-use Rattle.asked_fields.specs.Asked.{Asked, no_field, field_then, AskedBelow, of_leaf, of_objects, of_nothing}
-use Rattle.asked_fields.specs.Asking.{kept_of, kept_below}
-use Rattle.asked_fields.specs.Arguments.{first_value, is_true_value, place_of_value, argument_kept}
+use Rattle.meta_schema.specs.PassedOn.{Argument, AskedNodes, asked_then, Asked, no_field, field_then, AskedBelow, of_leaf, of_objects, of_nothing, kept_of, kept_below, first_value, is_true_value, place_of_value, argument_kept}
 use Rattle.schema_facts.specs.declared.known.KnownType.{KnownType}
 use Rattle.schema_facts.specs.Facts.{known_name, known_type}
 

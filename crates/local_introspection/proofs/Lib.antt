@@ -18,3 +18,4 @@ pub mod HasVerdict
 pub mod AlikeRequests
 pub mod OneLines
 pub mod SharedFacts
+pub mod PassedOn

@@ -16,8 +16,7 @@ use Rattle.plan_model.proofs.FaultlessPlans.{NoFault, none_in_front, none_behind
 use Rattle.plan_model.proofs.PlannedWell.{none_at_fault}
 use Rattle.schema_facts.specs.declared.table.What.{What}
 use Rattle.schema_facts.specs.declared.table.What.TheVariants as what
-use Rattle.asked_fields.specs.Asked.{Asked, AskedBelow, fields_asked, asked_at, nothing_below, asked, asked_operation}
-use Rattle.asked_fields.specs.Arguments.{argument_kept}
+use Rattle.meta_schema.specs.PassedOn.{Asked, AskedBelow, fields_asked, asked_at, nothing_below, asked, asked_operation, argument_kept}
 use Rattle.meta_schema.specs.MetaForms.{below_of, leaf_type_of, meta_name}
 use Rattle.meta_schema.specs.MetaFields.{IsObjectType, meta_fill, place_by, meta_place, IsMetaField, HasMetaForm}
 use Rattle.meta_schema.specs.Fields.{what_asked}

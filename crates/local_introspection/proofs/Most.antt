@@ -7,7 +7,7 @@ use Rattle.response_model.specs.Response.{object, Entries}
 use Rattle.schema_facts.specs.Facts.{FactsData}
 use Rattle.schema_facts.specs.declared.table.What.{What}
 use Rattle.schema_facts.specs.declared.table.What.TheVariants as what
-use Rattle.asked_fields.specs.AskedNodes.{AskedNodes, nothing_asked, asked_then}
+use Rattle.meta_schema.specs.PassedOn.{AskedNodes, nothing_asked, asked_then}
 use Rattle.schema_facts.specs.Things.{ThingData, HeldData, nothing, one, many, leaf_of}
 use Rattle.meta_schema.specs.MetaTypes.{number_of}
 use Rattle.meta_schema.specs.Fields.{what_asked}

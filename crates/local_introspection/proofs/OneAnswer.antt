@@ -3,7 +3,7 @@ use Rattle.std.proofs.Common.{◌≡◌, List, [], ◌∷◌, Option, Some, None
 use Rattle.serde_json.specs.Data.{Data}
 use Rattle.response_model.specs.Response.{Tree, null, leaf, list_of, object, Elements, no_element, element, Entries, no_entry, entry}
 use Rattle.schema_facts.specs.Facts.{FactsData}
-use Rattle.asked_fields.specs.AskedNodes.{AskedNodes, nothing_asked, asked_then}
+use Rattle.meta_schema.specs.PassedOn.{AskedNodes, nothing_asked, asked_then}
 use Rattle.schema_facts.specs.Things.{ThingData, HeldData, nothing, one, many, leaf_of}
 use Rattle.meta_schema.specs.MetaTypes.{number_of}
 use Rattle.local_introspection.specs.Answers.{given_by, Gives, GivesEach, HasEntries, entries_of, leaf_or, tree_of_held, elements_for}

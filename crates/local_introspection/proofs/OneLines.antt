@@ -6,8 +6,7 @@ use Rattle.document_rules.specs.declared.rule.RuleFault.{RuleFault}
 use Rattle.document_rules.specs.declared.rule.RuleFault.TheVariants as rule
 use Rattle.variable_coercion.specs.declared.faults.CoerceFault.{CoerceFault}
 use Rattle.variable_coercion.specs.declared.faults.CoerceFault.TheVariants as variable
-use Rattle.merged_selections.specs.declared.fault.PlanFault.{PlanFault}
-use Rattle.merged_selections.specs.declared.fault.PlanFault.TheVariants as plan
+use Rattle.acceptance.specs.PassedOn.{PlanFault, Argument as PlanArgument, Conflict as PlanConflict, Memory as PlanMemory, NoPossibleType as PlanNoPossibleType, Size as PlanSize, TooDeep as PlanTooDeep, TooLarge as PlanTooLarge}
 use Rattle.acceptance.specs.declared.fault.Refusal.{Refusal}
 use Rattle.acceptance.specs.declared.fault.Refusal.TheVariants as refusal
 use Rattle.acceptance.specs.Texts.{refusal_text}
@@ -30,13 +29,13 @@ module _ (plain : (r : Refusal) → is_one_line (refusal_text r) ≡ true) where
 
   plan_plain : (fault : PlanFault) → is_one_line (local_plan_text fault) ≡ true
   unfolding is_one_line
-  plan_plain (plan.Argument at fault) = plain (refusal.Plan (plan.Argument at fault))
-  plan_plain (plan.Conflict at) = plain (refusal.Plan (plan.Conflict at))
-  plan_plain (plan.Size at fault) = plain (refusal.Plan (plan.Size at fault))
-  plan_plain (plan.NoPossibleType at) = plain (refusal.Plan (plan.NoPossibleType at))
-  plan_plain plan.TooLarge = refl
-  plan_plain (plan.TooDeep at) = plain (refusal.Plan (plan.TooDeep at))
-  plan_plain plan.Memory = refl
+  plan_plain (PlanArgument at fault) = plain (refusal.Plan (PlanArgument at fault))
+  plan_plain (PlanConflict at) = plain (refusal.Plan (PlanConflict at))
+  plan_plain (PlanSize at fault) = plain (refusal.Plan (PlanSize at fault))
+  plan_plain (PlanNoPossibleType at) = plain (refusal.Plan (PlanNoPossibleType at))
+  plan_plain PlanTooLarge = refl
+  plan_plain (PlanTooDeep at) = plain (refusal.Plan (PlanTooDeep at))
+  plan_plain PlanMemory = refl
 
   pub local_plain : (fault : LocalFault) → is_one_line (local_text fault) ≡ true
   unfolding is_one_line

@@ -20,16 +20,13 @@ use Rattle.variable_coercion.specs.declared.faults.ArgFault.TheVariants.{Missing
 use Rattle.variable_coercion.specs.Refusals.{Refusal as Unvalued, missing, bad_value, too_large as too_large_value}
 use Rattle.variable_coercion.specs.Variables.{VariableData, values_by_name, variables_answer}
 use Rattle.variable_coercion.specs.Calls.{variable_told}
-use Rattle.merged_selections.specs.declared.fault.PlanFault.{PlanFault}
-use Rattle.merged_selections.specs.declared.fault.PlanFault.TheVariants.{Argument, Conflict, Size, NoPossibleType, TooLarge, TooDeep, Memory as NoPlanMemory}
-use Rattle.merged_selections.specs.Faults.{path_text, IsFaultAt, IsTold}
+use Rattle.acceptance.specs.PassedOn.{PlanFault, Argument, Conflict, Size, NoPossibleType, TooLarge, TooDeep, Memory as NoPlanMemory, path_text, IsFaultAt, IsTold}
 use Rattle.plan_model.specs.SelectedFields.{Setting}
 use Rattle.plan_model.specs.Responses.{response_cost}
 use Rattle.plan_model.specs.Visits.{NodeFault, too_deep, conflict, refused_argument, refused_size, no_possible_type, PlanAnswer, planned_well, faulty, too_large}
 use Rattle.plan_model.specs.Operations.{setting_of, root_place, root_position, operation_answer}
 use Rattle.acceptance.specs.Refusals.{NamesBreach, NamesVariable, NamesNode}
-use Rattle.asked_fields.specs.Asked.{asked_operation}
-use Rattle.asked_fields.specs.Asking.{kept_below}
+use Rattle.meta_schema.specs.PassedOn.{asked_operation, kept_below}
 use Rattle.schema_facts.specs.Things.{one, the_root}
 use Rattle.local_introspection.specs.declared.fault.LocalFault.{LocalFault}
 use Rattle.local_introspection.specs.declared.fault.LocalFault.TheVariants.{Mixed, Rule, Variable, Plan, TooLarge as LocalTooLarge, Memory}

@@ -11,9 +11,7 @@ use Rattle.plan_model.specs.Responses.{FitsSelections, response_cost}
 use Rattle.plan_model.specs.Operations.{root_place, root_position, IsPlannedWell}
 use Rattle.schema_facts.specs.Facts.{FactsData}
 use Rattle.schema_facts.specs.Things.{the_root}
-use Rattle.asked_fields.specs.AskedNodes.{AskedNodes}
-use Rattle.asked_fields.specs.Asked.{asked_operation, plan_in, FitsAsAsked, CostsAsAsked}
-use Rattle.asked_fields.specs.Asking.{kept_below}
+use Rattle.meta_schema.specs.PassedOn.{AskedNodes, asked_operation, plan_in, FitsAsAsked, CostsAsAsked, kept_below}
 use Rattle.meta_schema.specs.MetaFields.{HasMetaForm}
 use Rattle.local_introspection.specs.Answers.{values_in}
 use Rattle.local_introspection.specs.Walking.{answer_tree, answer_cost}

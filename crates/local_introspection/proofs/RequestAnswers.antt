@@ -14,10 +14,7 @@ use Rattle.plan_model.specs.Operations.{setting_of, operation_answer}
 use Rattle.schema_facts.specs.declared.known.KnownType.{KnownType}
 use Rattle.schema_facts.specs.Facts.{KnownTree, known_name, known_type}
 use Rattle.schema_facts.specs.FactsViews.{facts_data}
-use Rattle.asked_fields.specs.declared.asked.AskedNode.{AskedNode}
-use Rattle.asked_fields.specs.AskedNodes.{AskedNodes, asked_nodes}
-use Rattle.asked_fields.specs.Asked.{asked_operation}
-use Rattle.asked_fields.specs.Asking.{kept_below, asked_for}
+use Rattle.meta_schema.specs.PassedOn.{AskedNode, AskedNodes, asked_nodes, asked_operation, kept_below, asked_for}
 use Rattle.local_introspection.specs.declared.facts.Facts.{Facts}
 use Rattle.local_introspection.specs.declared.fault.LocalFault.{LocalFault}
 use Rattle.local_introspection.specs.declared.walk.Local.{Local}

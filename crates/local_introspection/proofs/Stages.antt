@@ -16,8 +16,7 @@ use Rattle.document_rules.specs.declared.rule.RuleFault.TheVariants.{Broken, Mem
 use Rattle.document_rules.specs.declared.checking.Checked.{Checked}
 use Rattle.document_rules.specs.Parts.{operation_at}
 use Rattle.document_rules.specs.Checking.{Breach, first_broken, IsCheckOf, AnswersBreach}
-use Rattle.merged_selections.specs.declared.fault.PlanFault.{PlanFault}
-use Rattle.merged_selections.specs.Faults.{IsTold}
+use Rattle.acceptance.specs.PassedOn.{PlanFault, IsTold}
 use Rattle.plan_model.specs.Operations.{setting_of, operation_answer}
 use Rattle.operation_class.specs.declared.classes.Class.{Class}
 use Rattle.operation_class.specs.declared.classes.Class.TheVariants.{Local as LocalClass}

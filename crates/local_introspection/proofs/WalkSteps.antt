@@ -8,8 +8,7 @@ use Rattle.response_model.specs.Cost.{Part, types, fields}
 use Rattle.std.specs.Prelude.{Result}
 use Rattle.response_model.specs.ResponseText.{comma, key_text, tree_text, elements_text, entries_text}
 use Rattle.response_model.proofs.Pieces.{text_left}
-use Rattle.asked_fields.specs.declared.asked.AskedNode.{AskedNode}
-use Rattle.asked_fields.specs.AskedNodes.{AskedNodes, AskedOne, asked_then, asked_node, asked_nodes}
+use Rattle.meta_schema.specs.PassedOn.{AskedNode, AskedNodes, AskedOne, asked_then, asked_node, asked_nodes}
 use Rattle.schema_facts.specs.Facts.{FactsData}
 use Rattle.schema_facts.specs.declared.things.Thing.{Thing}
 use Rattle.schema_facts.specs.Things.{ThingData, HeldData, thing_data}

@@ -6,8 +6,7 @@ use Rattle.response_model.specs.Response.{Tree, null, leaf, list_of, object, Ele
 use Rattle.response_model.specs.Cost.{Part, types, fields, value_cost}
 use Rattle.schema_facts.specs.Facts.{FactsData}
 use Rattle.schema_facts.specs.declared.table.What.{What}
-use Rattle.asked_fields.specs.declared.asked.Argument.{Argument}
-use Rattle.asked_fields.specs.AskedNodes.{AskedNodes, nothing_asked, asked_then}
+use Rattle.meta_schema.specs.PassedOn.{Argument, AskedNodes, nothing_asked, asked_then}
 use Rattle.schema_facts.specs.Things.{ThingData, HeldData, nothing, one, many, leaf_of}
 use Rattle.meta_schema.specs.MetaTypes.{number_of, weight_of}
 use Rattle.meta_schema.specs.Fields.{what_asked}

@@ -11,3 +11,4 @@ pub mod LocalTexts
 pub mod Walking
 pub mod LocalStages
 pub mod PlainTexts
+pub mod PassedOn

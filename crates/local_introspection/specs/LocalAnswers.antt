@@ -10,8 +10,7 @@ use Rattle.document_rules.specs.Checking.{first_broken}
 use Rattle.variable_coercion.specs.declared.faults.CoerceFault.{CoerceFault}
 use Rattle.variable_coercion.specs.declared.faults.CoerceFault.TheVariants.{Memory as NoVariableMemory}
 use Rattle.variable_coercion.specs.Variables.{variables_answer}
-use Rattle.merged_selections.specs.declared.fault.PlanFault.{PlanFault}
-use Rattle.merged_selections.specs.declared.fault.PlanFault.TheVariants.{Memory as NoPlanMemory}
+use Rattle.acceptance.specs.PassedOn.{PlanFault, Memory as NoPlanMemory}
 use Rattle.acceptance.specs.Refusals.{NamesBreach, NamesVariable, NamesNode}
 use Rattle.local_introspection.specs.declared.fault.LocalFault.{LocalFault}
 use Rattle.local_introspection.specs.declared.fault.LocalFault.TheVariants.{Mixed, Rule, Variable, Plan, TooLarge, Memory}

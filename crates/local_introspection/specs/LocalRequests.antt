@@ -24,9 +24,7 @@ use Rattle.plan_model.specs.SelectedFields.{Setting}
 use Rattle.plan_model.specs.Responses.{FitsSelections, response_cost}
 use Rattle.plan_model.specs.Visits.{PlanAnswer, planned_well}
 use Rattle.plan_model.specs.Operations.{setting_of, root_place, root_position, operation_answer}
-use Rattle.asked_fields.specs.AskedNodes.{AskedNodes}
-use Rattle.asked_fields.specs.Asked.{asked_operation}
-use Rattle.asked_fields.specs.Asking.{kept_below}
+use Rattle.meta_schema.specs.PassedOn.{AskedNodes, asked_operation, kept_below}
 use Rattle.schema_facts.specs.Facts.{FactsData, known_name}
 use Rattle.schema_facts.specs.FactsViews.{facts_data}
 use Rattle.schema_facts.specs.Things.{one, the_root}

@@ -4,16 +4,14 @@ use Rattle.serde_json.specs.View.{view}
 use Rattle.document_rules.specs.declared.checking.Checked.{Checked}
 use Rattle.variable_coercion.specs.declared.variables.Variables.{Variables}
 use Rattle.plan_model.specs.Visits.{planned_well}
-use Rattle.merged_selections.specs.Building.{answer_for}
+use Rattle.acceptance.specs.PassedOn.{answer_for}
 use Rattle.local_introspection.specs.declared.answering.Asking.{Asking}
 use Rattle.local_introspection.specs.declared.facts.Facts.{Facts}
 use Rattle.local_introspection.specs.declared.fault.LocalFault.{LocalFault}
 use Rattle.local_introspection.specs.declared.fault.LocalFault.TheVariants.{TooLarge, Memory}
 use Rattle.local_introspection.specs.declared.walk.Stop.{Stop}
 use Rattle.local_introspection.specs.declared.walk.Stop.TheVariants.{TooLarge as LargeStop, Memory as MemoryStop}
-use Rattle.asked_fields.specs.declared.asked.AskedNode.{AskedNode}
-use Rattle.asked_fields.specs.AskedNodes.{asked_nodes}
-use Rattle.asked_fields.specs.Asking.{kept_below, asked_for}
+use Rattle.meta_schema.specs.PassedOn.{AskedNode, asked_nodes, kept_below, asked_for}
 use Rattle.schema_facts.specs.FactsViews.{facts_data}
 use Rattle.local_introspection.specs.LocalRequests.{LocalRequest, local_request, place_in}
 

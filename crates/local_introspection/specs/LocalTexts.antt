@@ -5,8 +5,7 @@ use Rattle.document_rules.specs.declared.rule.RuleFault.TheVariants as rule
 use Rattle.document_rules.specs.Names.{rule_number, rule_name}
 use Rattle.variable_coercion.specs.declared.faults.CoerceFault.{CoerceFault}
 use Rattle.variable_coercion.specs.declared.faults.CoerceFault.TheVariants as variable
-use Rattle.merged_selections.specs.declared.fault.PlanFault.{PlanFault}
-use Rattle.merged_selections.specs.declared.fault.PlanFault.TheVariants as plan
+use Rattle.acceptance.specs.PassedOn.{PlanFault, Argument as PlanArgument, Conflict as PlanConflict, Memory as PlanMemory, NoPossibleType as PlanNoPossibleType, Size as PlanSize, TooDeep as PlanTooDeep, TooLarge as PlanTooLarge}
 use Rattle.acceptance.specs.Texts.{placed, beside, naming, argument_text, size_text}
 use Rattle.local_introspection.specs.declared.fault.LocalFault.{LocalFault}
 use Rattle.local_introspection.specs.declared.fault.LocalFault.TheVariants.{Mixed, Rule, Variable, Plan, TooLarge, Memory}
@@ -24,13 +23,13 @@ local_variable_text (variable.TooLarge name) = naming (codes "local 3 Variable 3
 local_variable_text variable.Memory = []
 
 abbrev pub local_plan_text : PlanFault → List ℕ
-local_plan_text (plan.Argument at fault) = beside (naming (codes "local 4 Plan 1 Argument") at) (argument_text fault)
-local_plan_text (plan.Conflict at) = naming (codes "local 4 Plan 2 Conflict") at
-local_plan_text (plan.Size at fault) = beside (naming (codes "local 4 Plan 3 Size") at) (size_text fault)
-local_plan_text (plan.NoPossibleType at) = naming (codes "local 4 Plan 4 NoPossibleType") at
-local_plan_text plan.TooLarge = codes "local 4 Plan 5 TooLarge"
-local_plan_text (plan.TooDeep at) = naming (codes "local 4 Plan 6 TooDeep") at
-local_plan_text plan.Memory = []
+local_plan_text (PlanArgument at fault) = beside (naming (codes "local 4 Plan 1 Argument") at) (argument_text fault)
+local_plan_text (PlanConflict at) = naming (codes "local 4 Plan 2 Conflict") at
+local_plan_text (PlanSize at fault) = beside (naming (codes "local 4 Plan 3 Size") at) (size_text fault)
+local_plan_text (PlanNoPossibleType at) = naming (codes "local 4 Plan 4 NoPossibleType") at
+local_plan_text PlanTooLarge = codes "local 4 Plan 5 TooLarge"
+local_plan_text (PlanTooDeep at) = naming (codes "local 4 Plan 6 TooDeep") at
+local_plan_text PlanMemory = []
 
 -- the stage, the number of the fault, its name and what it holds
 abbrev pub local_text : LocalFault → List ℕ

@@ -5,8 +5,7 @@ use Rattle.cost_num.specs.declared.TheConstants.{UNIT}
 use Rattle.response_model.specs.Plan.{Selected, LeafType, type_name}
 use Rattle.schema_model.specs.Arguments.{ArgData}
 use Rattle.schema_facts.specs.declared.table.What.{What}
-use Rattle.asked_fields.specs.Asked.{Asked, no_field, field_then, AskedBelow, of_leaf, of_objects, of_nothing}
-use Rattle.asked_fields.specs.Arguments.{argument_kept}
+use Rattle.meta_schema.specs.PassedOn.{Asked, no_field, field_then, AskedBelow, of_leaf, of_objects, of_nothing, argument_kept}
 use Rattle.meta_schema.specs.MetaTypes.{weight_of}
 use Rattle.meta_schema.specs.MetaForms.{form_of, below_of, leaf_type_of, is_of, meta_name}
 use Rattle.meta_schema.specs.Fields.{what_asked}

@@ -10,7 +10,7 @@ use Rattle.response_model.specs.ResponseText.{tree_text, key_text, entries_text,
 use Rattle.schema_facts.specs.declared.table.What.{What}
 use Rattle.schema_facts.specs.Facts.{FactsData}
 use Rattle.schema_facts.specs.Things.{ThingData, HeldData, the_root}
-use Rattle.asked_fields.specs.AskedNodes.{AskedNodes, AskedOne}
+use Rattle.meta_schema.specs.PassedOn.{AskedNodes, AskedOne}
 use Rattle.meta_schema.specs.Fields.{what_asked}
 use Rattle.local_introspection.specs.declared.walk.Stop.{Stop}
 use Rattle.local_introspection.specs.declared.walk.Stop.TheVariants.{TooLarge, Memory}

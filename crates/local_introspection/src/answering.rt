@@ -3,7 +3,7 @@
 ghost use Rattle.std.specs.Prelude.{◌≡◌, IfOk, IfErr};
 ghost use Rattle.serde_json.specs.View.{view};
 ghost use Rattle.schema_model.specs.SchemaViews.{schema_data};
-ghost use Rattle.static_cost.specs.CostBound.{IsWithin};
+ghost use Rattle.acceptance.specs.PassedOn.{IsWithin};
 ghost use Rattle.document_rules.specs.Checking.{IsChecked};
 ghost use Rattle.variable_coercion.specs.Calls.{variables_data};
 ghost use Rattle.operation_class.specs.declared.classes.Class.TheVariants.{Local as LocalClass};
@@ -15,12 +15,10 @@ ghost use Rattle.local_introspection.specs.LocalStages.{ask_data, IsPlannedOver,
 use crate::facts::Facts;
 use crate::fault::LocalFault;
 use crate::walk::{Local, Stop, write_answer};
-use asked_fields::laws::responses_to_what_is_asked;
-use asked_fields::{AskedNode, ask};
+use acceptance::{PlanFault, build_plan};
 use document_reader::Document;
 use document_rules::{Checked, RuleFault, check};
-use merged_selections::{PlanFault, build_plan};
-use meta_schema::a_meta_schema_has_its_form;
+use meta_schema::{AskedNode, a_meta_schema_has_its_form, ask, responses_to_what_is_asked};
 use plan_table::Plan;
 use serde_json::Value;
 use std::alloc::{AllocError, Global};

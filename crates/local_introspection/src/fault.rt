@@ -1,7 +1,7 @@
 //! Why the gateway doesn't answer an operation that asks for its schema.
 
+use acceptance::PlanFault;
 use document_rules::RuleFault;
-use merged_selections::PlanFault;
 use thiserror::Error;
 use variable_coercion::CoerceFault;
 

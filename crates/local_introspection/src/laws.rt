@@ -11,7 +11,7 @@ ghost use Rattle.response_model.specs.Cost.{Part, types, fields};
 ghost use Rattle.response_model.specs.Response.{Tree};
 ghost use Rattle.schema_facts.specs.Facts.{FactsData};
 ghost use Rattle.schema_facts.specs.Things.{one, the_root};
-ghost use Rattle.asked_fields.specs.AskedNodes.{AskedNodes};
+ghost use Rattle.meta_schema.specs.PassedOn.{AskedNodes};
 ghost use Rattle.local_introspection.specs.Answers.{Gives, values_in};
 ghost use Rattle.local_introspection.specs.Walking.{answer_tree, answer_cost};
 ghost use Rattle.local_introspection.specs.LocalRequests.{LocalRequest, local_request, Prepared, IsTheAnswer, cost_of_response};
@@ -24,8 +24,7 @@ ghost use Rattle.local_introspection.specs.declared.fault.LocalFault.TheVariants
 ghost use Rattle.local_introspection.specs.declared.walk.Local.{Local as LocalAnswer};
 
 use acceptance::refusal_texts_are_one_line;
-use asked_fields::laws::responses_to_what_is_asked;
-use meta_schema::a_meta_schema_has_its_form;
+use meta_schema::{a_meta_schema_has_its_form, responses_to_what_is_asked};
 use operation_class::laws::equal_trees_have_one_class;
 
 /// There is one tree whose every entry is what the schema's facts give for it, and whose lists have just the items that they

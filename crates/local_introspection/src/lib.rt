@@ -13,6 +13,12 @@ mod sharing;
 mod telling;
 mod walk;
 
+pub use acceptance::texts::{lexical_place, named, named_twice, placed, placed_in};
+pub use acceptance::{
+    AcceptFault, Accepted, Refusal, Request, a_request_has_one_verdict, accept,
+    alike_requests_are_answered_alike, alike_requests_have_one_verdict, read,
+    read_values_have_each_key_once, refusal_text, refusal_texts_are_one_line, sent_for,
+};
 pub use answering::answer;
 pub use facts::Facts;
 pub use fault::LocalFault;

@@ -6,10 +6,9 @@ ghost use Rattle.local_introspection.specs.LocalTexts.{local_rule_text, local_va
 
 use crate::fault::LocalFault;
 use acceptance::texts::{beside, named, placed};
-use acceptance::{told_of_argument, told_of_size};
+use acceptance::{PlanFault, told_of_argument, told_of_size};
 use document_rules::{Rule, RuleFault};
 use gql_base::Text;
-use merged_selections::PlanFault;
 use std::alloc::{AllocError, Global};
 use variable_coercion::CoerceFault;
 

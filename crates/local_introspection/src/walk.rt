@@ -2,17 +2,16 @@
 
 ghost use Rattle.std.specs.Prelude.{◌≡◌, ◌++◌, ◌+◌, map, IfOk, IfErr, OnOk, string_bytes};
 ghost use Rattle.cost_num.specs.Capped.{capped};
-ghost use Rattle.asked_fields.specs.AskedNodes.{asked_nodes, asked_node};
+ghost use Rattle.meta_schema.specs.PassedOn.{asked_nodes, asked_node};
 ghost use Rattle.schema_facts.specs.Things.{thing_data, held_data, leaf_of};
 ghost use Rattle.schema_facts.specs.FactsViews.{facts_data};
 ghost use Rattle.local_introspection.specs.declared.walk.Stop.TheVariants.{TooLarge as LargeStop};
 ghost use Rattle.local_introspection.specs.Walking.{what_of, AddsLeaf, WritesThing, WritesEntries, WritesEntry, WritesHeld, WritesThings, IsAnswer};
 
 use crate::plain::{write_key, write_text};
-use asked_fields::AskedNode;
 use cost_num::{CAP, Cost, UNIT};
 use gql_base::{Text, print_value};
-use meta_schema::{weight_of, what_asked};
+use meta_schema::{AskedNode, weight_of, what_asked};
 use schema_facts::{Held, SchemaFacts, Thing, What, look_up};
 use std::alloc::{AllocError, Global};
 

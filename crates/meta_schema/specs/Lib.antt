@@ -7,3 +7,4 @@ pub mod MetaFields
 pub mod MetaTests
 pub mod TestedSchemas
 pub mod MetaSchemas
+pub mod PassedOn

@@ -8,6 +8,8 @@ mod schema;
 mod tables;
 mod testing;
 
+pub use asked_fields::laws::responses_to_what_is_asked;
+pub use asked_fields::{AskedNode, ask};
 pub use fields::what_asked;
 pub use laws::a_meta_schema_has_its_form;
 pub use schema::MetaSchema;

@@ -6,11 +6,7 @@ use Rattle.operation_class.specs.declared.classes.Class.{Class}
 use Rattle.operation_class.specs.declared.classes.Class.TheVariants as class
 use Rattle.operation_class.specs.Classes.{class_at}
 use Rattle.operation_class.specs.Routes.{IsPicked}
-use Rattle.local_introspection.specs.declared.facts.Facts.{Facts}
-use Rattle.local_introspection.specs.declared.fault.LocalFault.TheVariants.{Mixed}
-use Rattle.local_introspection.specs.declared.walk.Local.{Local}
-use Rattle.local_introspection.specs.LocalAnswers.{IsAnsweredWith}
-use Rattle.local_introspection.specs.AskedHere.{asked_at}
+use Rattle.command_outcomes.specs.PassedOn.{Facts, Mixed, Local, IsAnsweredWith, asked_at}
 use Rattle.command_words.specs.declared.command.Asked.{Asked}
 use Rattle.operation_commands.specs.declared.asked.AskedTexts.{AskedTexts}
 use Rattle.operation_commands.specs.declared.asking.Inputs.{Inputs}

@@ -9,8 +9,7 @@ use Rattle.command_words.specs.declared.command.Asked.{Asked}
 use Rattle.acceptance.specs.Requests.{RequestData}
 use Rattle.acceptance.specs.Bounds.{IsAccepted}
 use Rattle.operation_class.specs.Routes.{GoesUpstream}
-use Rattle.local_introspection.specs.declared.walk.Local.{Local}
-use Rattle.local_introspection.specs.AskedHere.{IsAnsweredHere}
+use Rattle.command_outcomes.specs.PassedOn.{Local, IsAnsweredHere}
 use Rattle.command_outcomes.specs.declared.outcome.Outcome.{Outcome}
 use Rattle.command_outcomes.specs.declared.outcome.Outcome.TheVariants.{Refused, Memory}
 use Rattle.command_outcomes.specs.Known.{AreKnownOf}

@@ -7,8 +7,7 @@ use Rattle.acceptance.specs.declared.fault.Refusal.TheVariants.{Pick}
 use Rattle.acceptance.specs.Requests.{RequestData}
 use Rattle.operation_class.specs.declared.classes.Class.TheVariants.{Upstream}
 use Rattle.operation_class.specs.Routes.{IsPicked}
-use Rattle.local_introspection.specs.declared.walk.Local.{Local}
-use Rattle.local_introspection.specs.AskedHere.{IsAnsweredHere, IsRefusedHere}
+use Rattle.command_outcomes.specs.PassedOn.{Local, IsAnsweredHere, IsRefusedHere}
 use Rattle.command_words.specs.declared.command.Asked.{Asked}
 use Rattle.command_outcomes.specs.declared.outcome.Outcome.{Outcome}
 use Rattle.command_outcomes.specs.declared.outcome.Outcome.TheVariants.{Memory}

@@ -3,12 +3,7 @@ use Rattle.std.specs.Prelude.{◌≡◌, ◌≢◌, ℕ, List, Option, None, Som
 use Rattle.static_cost.specs.CostBound.{IsWithin}
 use Rattle.acceptance.specs.Requests.{RequestData}
 use Rattle.operation_class.specs.Routes.{GoesUpstream}
-use Rattle.local_introspection.specs.declared.fault.LocalFault.TheVariants.{Memory as NoLocalMemory}
-use Rattle.local_introspection.specs.declared.walk.Local.{Local}
-use Rattle.local_introspection.specs.LocalRequests.{LocalRequest}
-use Rattle.local_introspection.specs.LocalAnswers.{IsRefusedFor}
-use Rattle.local_introspection.specs.LocalTexts.{local_text}
-use Rattle.local_introspection.specs.AskedHere.{IsAnsweredHere, IsRefusedHere}
+use Rattle.command_outcomes.specs.PassedOn.{Memory as NoLocalMemory, Local, LocalRequest, IsRefusedFor, local_text, IsAnsweredHere, IsRefusedHere}
 use Rattle.command_words.specs.declared.command.Asked.{Asked}
 use Rattle.command_outcomes.specs.Known.{AreKnownOf}
 use Rattle.operation_commands.specs.declared.asking.AskedFault.{AskedFault}

@@ -10,8 +10,7 @@ use Rattle.document_rules.specs.declared.rule.RuleFault.{RuleFault}
 use Rattle.document_rules.specs.declared.rule.RuleFault.TheVariants as rule
 use Rattle.acceptance.specs.declared.fault.Refusal.{Refusal}
 use Rattle.acceptance.specs.declared.fault.Refusal.TheVariants.{Document, Rule}
-use Rattle.local_introspection.specs.declared.fault.LocalFault.{LocalFault}
-use Rattle.local_introspection.specs.declared.fault.LocalFault.TheVariants as own
+use Rattle.command_outcomes.specs.PassedOn.{LocalFault, Mixed as OwnMixed, Rule as OwnRule}
 use Rattle.command_outcomes.specs.declared.checked.SchemaRefusal.{SchemaRefusal}
 use Rattle.command_outcomes.specs.declared.checked.SchemaRefusal.TheVariants.{NoSchemaText, Fails, Misuses}
 use Rattle.schema_model.specs.declared.fault.SchemaFault.{SchemaFault}
@@ -58,8 +57,8 @@ refusal_at (Rule fault) = rule_at fault
 refusal_at other = None
 
 abbrev pub own_at : LocalFault → Option ℕ
-own_at (own.Mixed at) = Some at
-own_at (own.Rule fault) = rule_at fault
+own_at (OwnMixed at) = Some at
+own_at (OwnRule fault) = rule_at fault
 own_at other = None
 
 -- What is wrong with a schema is told of this thing. Of a name that stands twice the first isn't shown.

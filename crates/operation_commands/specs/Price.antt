@@ -8,8 +8,7 @@ use Rattle.acceptance.specs.Requests.{RequestData}
 use Rattle.acceptance.specs.Bounds.{IsAccepted}
 use Rattle.acceptance.specs.Refusals.{IsRefusedFor}
 use Rattle.operation_class.specs.Routes.{GoesUpstream}
-use Rattle.local_introspection.specs.declared.walk.Local.{Local}
-use Rattle.local_introspection.specs.AskedHere.{IsAnsweredHere, IsRefusedHere}
+use Rattle.command_outcomes.specs.PassedOn.{Local, IsAnsweredHere, IsRefusedHere}
 use Rattle.operation_commands.specs.declared.asking.AskedRefusal.TheVariants.{NoOperation}
 use Rattle.operation_commands.specs.declared.own_answers.OwnRefusal.{OwnRefusal}
 use Rattle.operation_commands.specs.declared.own_answers.OwnRefusal.TheVariants as refusal

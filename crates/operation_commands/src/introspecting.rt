@@ -13,10 +13,9 @@ use crate::asking::{AskedRefusal, inputs_in, request_of};
 use crate::own_answers::{OwnFault, OwnRefusal, asked_fault, own_answer, refused_own};
 use crate::pricing::text_of_cost;
 use acceptance::{Refusal, Request};
-use command_outcomes::{Outcome, SCHEMA_LIMIT};
+use command_outcomes::{Local, Outcome, SCHEMA_LIMIT};
 use command_words::Asked;
 use document_reader::pick;
-use local_introspection::Local;
 use outside::Files;
 use std::alloc::{AllocError, Global};
 

@@ -6,8 +6,7 @@ ghost use Rattle.acceptance.specs.Requests.{request_data};
 ghost use Rattle.operation_class.specs.declared.classes.Class.TheVariants.{Local as LocalClass};
 ghost use Rattle.operation_class.specs.Classes.{class_at};
 ghost use Rattle.operation_class.specs.Routes.{IsPicked, IsRoute};
-ghost use Rattle.local_introspection.specs.LocalAnswers.{IsAnsweredWith};
-ghost use Rattle.local_introspection.specs.AskedHere.{asked_at};
+ghost use Rattle.command_outcomes.specs.PassedOn.{IsAnsweredWith, asked_at};
 ghost use Rattle.command_outcomes.specs.Reading.{IsText};
 ghost use Rattle.command_outcomes.specs.Outcomes.{IsRefusedAs};
 ghost use Rattle.operation_commands.specs.OwnAnswers.{IsOwn, IsOwnWithin, IsNotOwn, TellsLocal, IfOwnRefused, IsAskedFault, own_text};
@@ -15,9 +14,10 @@ ghost use Rattle.operation_commands.specs.OwnAnswers.{IsOwn, IsOwnWithin, IsNotO
 use crate::asked::AskedTexts;
 use crate::asking::{AskedFault, AskedRefusal, refused_asked};
 use acceptance::Request;
-use command_outcomes::{Outcome, SCHEMA_LIMIT, known_of, refused_as};
+use command_outcomes::{
+    Facts, Local, LocalFault, Outcome, SCHEMA_LIMIT, answer, known_of, local_text, refused_as,
+};
 use command_words::Asked;
-use local_introspection::{Facts, Local, LocalFault, answer, local_text};
 use operation_class::{Route, route_of};
 use std::alloc::{AllocError, Global};
 use thiserror::Error;

@@ -14,6 +14,7 @@ mod totals;
 
 pub use choices::chosen_types;
 pub use filling::{VALUE_LIMIT, WorstFault, worst};
+pub use plan_table::Plan;
 pub use response_model::Part;
 pub use too_costly::TooCostly;
 pub use totals::{bound, entry_cost, value_cost, values_cost};

@@ -1,6 +1,6 @@
 -- Nothing was open before, and the accounts are those of the calls.
 use Rattle.replay_scripts.specs.Answers.{steps_of}
-use Rattle.gateway_core.specs.Gates.{rules_of}
+use Rattle.gateway_replay.specs.PassedOn.{rules_of}
 use Rattle.gateway_replay.proofs.FreshAccounts.{fresh_idle}
 use Rattle.account_commands.proofs.Replays.{ends_as}
 use Rattle.account_commands.proofs.replay_end.replay_fresh.Goals as goal

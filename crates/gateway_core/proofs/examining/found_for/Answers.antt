@@ -1,8 +1,7 @@
 -- What was found of the request holds of what the body asks.
 use Rattle.std.proofs.Common.{subst, Some}
 use Rattle.request_bodies.specs.Bodies.{request_data as asked_data}
-use Rattle.acceptance.specs.Requests.{request_data}
-use Rattle.acceptance.specs.Refusals.{IsRefusedFor}
+use Rattle.local_introspection.specs.PassedOn.{request_data, IsRefusedFor}
 use Rattle.gateway_core.specs.Gates.{rules_of}
 use Rattle.gateway_core.specs.Requests.{request_of, GoesUpstream, IsPromised}
 use Rattle.gateway_core.specs.Begins.{IfRefusal}

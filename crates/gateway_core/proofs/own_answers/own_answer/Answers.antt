@@ -1,6 +1,6 @@
 -- Where the operation is answered that is picked.
 use Rattle.std.proofs.Common.{subst}
-use Rattle.acceptance.specs.Requests.{request_data}
+use Rattle.local_introspection.specs.PassedOn.{request_data}
 use Rattle.operation_class.specs.Routes.{IsRoute}
 use Rattle.local_introspection.specs.LocalAnswers.{IsAnsweredWith}
 use Rattle.gateway_core.specs.Gates.{rules_of}

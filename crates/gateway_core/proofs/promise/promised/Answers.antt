@@ -1,7 +1,7 @@
 -- What is accepted covers its replies.
 use Rattle.std.proofs.Common.{ap}
 use Rattle.schema_model.specs.SchemaViews.{schema_data}
-use Rattle.acceptance.specs.Requests.{request_data}
+use Rattle.local_introspection.specs.PassedOn.{request_data}
 use Rattle.gateway_core.proofs.PlanCovers.{covers}
 use Rattle.gateway_core.proofs.promise.promised.Goals as goal
 

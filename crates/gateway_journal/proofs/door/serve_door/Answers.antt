@@ -1,6 +1,6 @@
 -- What the worker did is what came of the door.
 use Rattle.std.proofs.Common.{refl, false}
-use Rattle.gateway_connections.specs.Exchanges.{telling}
+use Rattle.gateway_workers.specs.PassedOn.{telling}
 use Rattle.gateway_workers.specs.Tours.{door_members}
 use Rattle.gateway_workers.specs.declared.work_done.WorkDone.{WorkDone}
 use Rattle.gateway_journal.specs.declared.worker.KeptWorker.{KeptWorker}

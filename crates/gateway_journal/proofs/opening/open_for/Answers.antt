@@ -2,7 +2,7 @@
 use Rattle.std.proofs.lemmas.List.Elements.{All-get_or}
 use Rattle.account_core.specs.Numbers.{FitsCap}
 use Rattle.account_journal.specs.Histories.{no_limit}
-use Rattle.gateway_core.specs.Rules.{greatest}
+use Rattle.gateway_workers.specs.PassedOn.{greatest}
 use Rattle.gateway_journal.proofs.OpenedJournals.{opened_for}
 use Rattle.gateway_journal.proofs.opening.open_for.Goals as goal
 

@@ -1,7 +1,7 @@
 -- The disk that is handed back is that of the journal in whose call it failed.
 use Rattle.std.proofs.Common.{sym, subst}
 use Rattle.doors.specs.Visits.{Told}
-use Rattle.gateway_connections.specs.Exchanges.{telling}
+use Rattle.gateway_workers.specs.PassedOn.{telling}
 use Rattle.gateway_journal.specs.Kept.{IsLostIn}
 use Rattle.gateway_journal.specs.Served.{LosesKept}
 use Rattle.gateway_journal.proofs.serving.serve_kept.Goals as goal

@@ -1,7 +1,7 @@
 -- What was gained in the journal holds of every history that it follows.
 use Rattle.std.proofs.Common.{refl, arith}
 use Rattle.doors.specs.Visits.{Told}
-use Rattle.gateway_connections.specs.Exchanges.{service_in, telling}
+use Rattle.gateway_workers.specs.PassedOn.{service_in, telling}
 use Rattle.gateway_journal.specs.declared.kept.Kept.{Kept}
 use Rattle.gateway_journal.specs.Kept.{kept_slots, HasGained, IsLostIn}
 use Rattle.gateway_journal.proofs.ServedCalls.{kept_serves, kept_until}

@@ -1,5 +1,5 @@
 use Rattle.std.proofs.Common.{◌∙◌, arith, refl, sym}
-use Rattle.gateway_connections.specs.Connections.{end_number}
+use Rattle.gateway_workers.specs.PassedOn.{end_number}
 use Rattle.gateway_workers.proofs.Turns.{some_at, none_at, one_visit}
 use Rattle.gateway_journal.proofs.ServedDoors.{did_still, did_one, lost_one}
 use Rattle.gateway_journal.proofs.working.serve_one.Goals as goal

@@ -1,6 +1,6 @@
 -- The words were not read into a command, and doors and disks are as before.
 use Rattle.std.proofs.Common.{ap, refl, Err}
-use Rattle.command_outcomes.specs.Outcomes.{files_told}
+use Rattle.account_commands.specs.PassedOn.{files_told}
 use Rattle.gateway_run.specs.Serve.{doors_call, disks_call, outside_call}
 use Rattle.gateway_run.proofs.WordEnds.{unread}
 use Rattle.gateway_run.proofs.program.answer_words.Goals as goal

@@ -1,6 +1,6 @@
 -- By the command: what it came to, and that doors and disks are as before.
 use Rattle.std.proofs.Common.{sym, subst, refl}
-use Rattle.command_outcomes.specs.Outcomes.{files_told}
+use Rattle.account_commands.specs.PassedOn.{files_told}
 use Rattle.gateway_run.specs.Serve.{doors_call, disks_call, outside_call}
 use Rattle.gateway_run.specs.Program.{CommandCameTo}
 use Rattle.gateway_run.proofs.program.outcome_of.Goals as goal

@@ -3,12 +3,10 @@ use Rattle.std.proofs.Common.{inr, ap, ◌∙◌, subst, map, List}
 use Rattle.sha2.specs.Sha256.{sha256}
 use Rattle.client_files.specs.declared.client.Client.{Client}
 use Rattle.client_files.specs.Written.{client_file}
-use Rattle.gateway_core.specs.Rules.{client_limit}
-use Rattle.gateway_core.specs.Gates.{limits_of}
+use Rattle.gateway_serving.specs.PassedOn.{client_limit, limits_of}
 use Rattle.gateway_serving.specs.Decisions.{Rules}
 use Rattle.gateway_serving.specs.Telling.{doors_told}
-use Rattle.gateway_journal.specs.Kept.{kept_slots}
-use Rattle.gateway_journal.specs.Served.{service_kept}
+use Rattle.journal_serving.specs.PassedOn.{kept_slots, service_kept}
 use Rattle.journal_serving.specs.Keeping.{disks_told}
 use Rattle.gateway_run.specs.Serve.{kept_service_by, IsKeptTold}
 use Rattle.gateway_run.proofs.Services.{same_service, same_limits, came_alike}

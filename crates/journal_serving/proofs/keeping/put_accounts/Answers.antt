@@ -3,7 +3,7 @@ use Rattle.std.proofs.Common.{◌<◌, ◌++◌, ◌∷◌, [], ◌∙◌, ap, s
 use Rattle.std.proofs.lemmas.List.{take_more, take_all}
 use Rattle.account_core.specs.declared.Account.{Account}
 use Rattle.account_journal.specs.Histories.{no_account}
-use Rattle.gateway_core.specs.Rules.{IsSettledWithin, IsCarriedWithin}
+use Rattle.gateway_journal.specs.PassedOn.{IsSettledWithin, IsCarriedWithin}
 use Rattle.journal_serving.proofs.CappedAccounts.{all_settled, all_carried}
 use Rattle.journal_serving.proofs.keeping.put_accounts.Goals as goal
 

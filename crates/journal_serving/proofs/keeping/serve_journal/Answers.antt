@@ -4,9 +4,8 @@ use Rattle.std.specs.Prelude.{is_some}
 use Rattle.account_journal.specs.Slots.{bodies}
 use Rattle.account_journal.specs.Reading.{IsFaultOf}
 use Rattle.journal_disk.specs.Shutting.{shut_with}
-use Rattle.gateway_core.specs.Gates.{limits_of}
-use Rattle.gateway_connections.specs.Exchanges.{telling}
-use Rattle.gateway_workers.specs.Tours.{door_members}
+use Rattle.gateway_journal.specs.PassedOn.{limits_of, telling}
+use Rattle.gateway_serving.specs.PassedOn.{door_members}
 use Rattle.gateway_journal.specs.DoorRuns.{disk_members}
 use Rattle.journal_serving.proofs.Histories.{each_told}
 use Rattle.journal_serving.proofs.Endings.{ends_shut, unopened_failed}

@@ -1,7 +1,7 @@
 -- The door was started, and what was told of doors before is still so; or none was.
 use Rattle.std.proofs.Common.{ap, Err}
-use Rattle.gateway_connections.specs.Exchanges.{telling}
-use Rattle.gateway_workers.specs.Tours.{door_members}
+use Rattle.gateway_journal.specs.PassedOn.{telling}
+use Rattle.gateway_serving.specs.PassedOn.{door_members}
 use Rattle.gateway_journal.specs.DoorRuns.{disk_members}
 use Rattle.journal_serving.proofs.Endings.{was_kept}
 use Rattle.journal_serving.proofs.keeping.serve_opened.Goals as goal

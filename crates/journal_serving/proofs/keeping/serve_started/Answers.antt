@@ -3,8 +3,8 @@ use Rattle.std.proofs.Common.{◌≡◌, refl, subst, Result}
 use Rattle.std.specs.Prelude.{IfOk, IfErr}
 use Rattle.doors.specs.Starts.{IsNew, stopped_by}
 use Rattle.account_journal.specs.declared.journal.Journal.{Journal}
-use Rattle.gateway_connections.specs.Exchanges.{telling}
-use Rattle.gateway_workers.specs.Tours.{door_members}
+use Rattle.gateway_journal.specs.PassedOn.{telling}
+use Rattle.gateway_serving.specs.PassedOn.{door_members}
 use Rattle.gateway_journal.specs.DoorRuns.{disk_members, ServesDoor, LosesDoor}
 use Rattle.journal_serving.proofs.Endings.{one_door, stops_one}
 use Rattle.journal_serving.proofs.keeping.serve_started.Goals as goal

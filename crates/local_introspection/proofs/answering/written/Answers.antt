@@ -1,6 +1,6 @@
 use Rattle.serde_json.specs.View.{view}
 use Rattle.schema_facts.specs.FactsViews.{facts_data}
-use Rattle.asked_fields.specs.AskedNodes.{asked_nodes}
+use Rattle.meta_schema.specs.PassedOn.{asked_nodes}
 use Rattle.local_introspection.proofs.Answered.{is_within}
 use Rattle.local_introspection.proofs.RequestAnswers.{is_answered, is_stopped}
 use Rattle.local_introspection.proofs.answering.written.Goals as goal

@@ -1,6 +1,6 @@
 use Rattle.std.proofs.Common.{◌++◌, ◌∷◌, [], refl, sym, ap, ◌∙◌, arith, string_bytes}
 use Rattle.std.proofs.lemmas.Result.{err_from_is_err_and}
-use Rattle.asked_fields.specs.AskedNodes.{asked_node, asked_nodes, asked_depth, AskedOne}
+use Rattle.meta_schema.specs.PassedOn.{asked_node, asked_nodes, asked_depth, AskedOne}
 use Rattle.response_model.specs.ResponseText.{key_text}
 use Rattle.schema_facts.specs.FactsViews.{facts_data}
 use Rattle.schema_facts.specs.Things.{thing_data, held_data}

@@ -2,7 +2,7 @@
 use Rattle.std.proofs.Common.{◌+◌, ◌*◌, drop, map, string_bytes}
 use denote.Text.{Utf8}
 use denote.Shadow.{shadow}
-use Rattle.asked_fields.specs.AskedNodes.{asked_nodes, asked_node, asked_depth}
+use Rattle.meta_schema.specs.PassedOn.{asked_nodes, asked_node, asked_depth}
 use Rattle.schema_facts.specs.FactsViews.{facts_data}
 use Rattle.schema_facts.specs.Things.{thing_data}
 use Rattle.local_introspection.proofs.WalkSteps.{EntriesGoOn, ThingsGoOn}

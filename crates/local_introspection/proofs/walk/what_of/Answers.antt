@@ -1,5 +1,5 @@
 use Rattle.std.proofs.Common.{sym, ap, ◌∙◌}
-use Rattle.asked_fields.specs.declared.asked.AskedNode.TheViews.{out-AskedNode}
+use Rattle.meta_schema.specs.PassedOn.{out-AskedNode}
 use Rattle.meta_schema.specs.Fields.{what_asked}
 use Rattle.local_introspection.specs.Walking.{what_of}
 use Rattle.local_introspection.proofs.Opened.{open_asked}

@@ -1,6 +1,6 @@
 use Rattle.std.proofs.Common.{◌++◌, ◌∙◌, ap, refl, codes, string_bytes}
 use Rattle.schema_facts.specs.FactsViews.{facts_data}
-use Rattle.asked_fields.specs.AskedNodes.{asked_nodes}
+use Rattle.meta_schema.specs.PassedOn.{asked_nodes}
 use Rattle.local_introspection.proofs.Answered.{is_answered}
 use Rattle.local_introspection.proofs.walk.write_answer.Goals as goal
 

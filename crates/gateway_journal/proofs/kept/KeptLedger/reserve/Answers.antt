@@ -5,7 +5,7 @@ use Rattle.account_core.specs.Numbers.{reservation_reply}
 use Rattle.account_journal.specs.declared.journal.KeptReply.TheVariants.{Granted}
 use Rattle.account_journal.specs.declared.journal.KeptTicket.{KeptTicket}
 use Rattle.account_journal.specs.Journals.{Follows, Stores, limit_in, account_in, answer_in, IsAnswered, IsReserved, gained_by, HoldsReply}
-use Rattle.gateway_core.proofs.LostAccounts.{on_err}
+use Rattle.gateway_workers.proofs.PassedOn.{on_err}
 use Rattle.gateway_journal.specs.Kept.{HasGained}
 use Rattle.gateway_journal.specs.Composed.{none_gained}
 use Rattle.gateway_journal.proofs.OpenedJournals.{known_here}

@@ -1,7 +1,7 @@
 -- An open grant may be settled, and its settlement is the journal's.
 use Rattle.std.proofs.Common.{[], ◌∷◌, ◌++◌, ap, ◌∙◌}
 use Rattle.account_journal.specs.Journals.{ticket_settlement}
-use Rattle.gateway_core.proofs.LostAccounts.{on_err}
+use Rattle.gateway_workers.proofs.PassedOn.{on_err}
 use Rattle.gateway_journal.specs.Kept.{kept_ticket}
 use Rattle.gateway_journal.proofs.KeptCalls.{settled_gained}
 use Rattle.gateway_journal.proofs.kept.KeptLedger.settle.Goals as goal

@@ -1,0 +1,2 @@
+-- Lemmas of the crates below, passed on to those above, which so need no entry for the crates where these are at home.
+pub use Rattle.acceptance.proofs.AlikeDocuments.{same_pick}
