@@ -397,6 +397,11 @@ def nearly_alike(kinds, types):
     return "type Query { %s } %s %s %s" % (" ".join("n%d: I%d" % (i, i) for i in range(kinds)), " ".join("interface %s { a: Int }" % it for it in names), all_of, own)
 
 
+def beside_none(types):
+    """An interface of so many types, and one of none."""
+    return "type Query { n: I } interface I { a: Int } interface E { a: Int } " + " ".join("type T%d implements I { a: Int }" % i for i in range(types))
+
+
 def below_all(kinds, types):
     """So many interfaces of as many types, and one of them all."""
     numbers = range(kinds)
@@ -480,6 +485,31 @@ def crossed(count, types):
     """So many types, each of as many interfaces."""
     names = ["I%d" % i for i in range(count)]
     return "type Query{n:I0}" + " ".join("interface %s{n:I0 a:Int}" % it for it in names) + "".join("type T%d implements %s{n:I0 a:Int}" % (i, "&".join(names)) for i in range(types))
+
+
+def crossed_but_one(count, types):
+    """The same, where each type lacks one of them."""
+    names = ["I%d" % i for i in range(count)]
+    lacking = lambda i: "&".join(it for at, it in enumerate(names) if at != 1 + i % (count - 1))
+    return "type Query{n:I0}" + " ".join("interface %s{n:I0 a:Int}" % it for it in names) + "".join("type T%d implements %s{n:I0 a:Int}" % (i, lacking(i)) for i in range(types))
+
+
+def lacking_pairs(count, types):
+    """So many types, each of all interfaces of so many but for a pair of its own."""
+    pairs = itertools.islice(itertools.combinations(range(1, count), 2), types)
+    names = ["I%d" % i for i in range(count)]
+    all_types = " ".join("type T%d implements %s { a: Int }" % (i, " & ".join(it for at, it in enumerate(names) if at not in pair)) for i, pair in enumerate(pairs))
+    return "type Query { %s } %s %s" % (" ".join("n%d: I0" % i for i in range(count)), " ".join("interface %s { a: Int }" % it for it in names), all_types)
+
+
+def chain_beside_conditions(count):
+    """Keys that spread a chain of fragments, of which the first has a condition on each of so many interfaces too."""
+    def build(length):
+        conditions = "".join("...on I%d{a}" % i for i in range(1, count))
+        keys = "{%s}" % "".join("n%d{...F0 %s}" % (i, conditions if i == 0 else "") for i in range(count))
+        chain = filled(length - len(keys) - 40, lambda i: "fragment F%d on I0{...F%d}" % (i, i + 1))
+        return "%s%sfragment F%d on I0{a}" % (keys, chain, chain.count("fragment"))
+    return build
 
 
 def nested_interfaces(count):
@@ -633,6 +663,188 @@ def long_string(room):
     return json.dumps({"s": "x" * (room - 20)}, separators=(",", ":"))
 
 
+def types_of(count, fields, other=""):
+    """An interface of so many types with these fields, in which each type may have something of its own by its number."""
+    types = "".join(" type T%d implements I { %s }" % (i, fields(i)) for i in range(count))
+    return "%s type Query { n: I } interface I { %s }%s" % (other, fields(None), types)
+
+
+def defaulted(i):
+    return "o(i: [Int]%s): Int" % ("" if i is None else " z: Int = %d" % i)
+
+
+def weighed(i):
+    return "o(i: [Int]%s): Int" % ("" if i is None else ' @cost(weight: "0.%06d")' % (i + 1))
+
+
+def input_of(count):
+    return "input J { %s }" % " ".join("p%d: Int = %d" % (i, i) for i in range(count))
+
+
+def lists_of_own_lengths(keys, item):
+    """So many keys whose calls have great lists, each of a length of its own."""
+    def build(length):
+        each = min(19990, (length // keys - 40) // len(item))
+        return "{%s}" % "".join("k%d:n{o(i:[%s])}" % (i, item * max(1, each - i)) for i in range(keys))
+    return build
+
+
+def small_lists(item, each):
+    """Keys whose calls have lists of about so many items, each of a length of its own."""
+    return lambda n: "{%s}" % filled(n - 2, lambda i: "k%d:n{o(i:[%s])}" % (i, item * (each - i)))
+
+
+def ids(i):
+    """A list of identifiers, written as numbers and as texts by the digits of a number."""
+    return " ".join(('"%d"' if i >> at & 1 else "%d") % (at % 10) for at in range(13))
+
+
+def ids_at_places(length):
+    """Keys that each have a key of their own below, beside a fragment of calls whose lists of identifiers are equal and each written otherwise."""
+    fragment = "fragment F on N{%s}" % filled(length // 2, lambda i: "b(ids:[%s])" % ids(i))
+    return "{%s}%s" % (filled(length - len(fragment) - 2, lambda i: "k%d:n{x%d:a ...F}" % (i, i)), fragment)
+
+
+def ids_in_a_chain(length):
+    """The same in a chain of fragments, which keys enter at many places."""
+    count = max(2, length * 2 // 3 // 75)
+    chain = "".join("fragment F%d on I{b(ids:[%s])%s}" % (i, ids(i), "...F%d" % (i + 1) if i + 1 < count else "") for i in range(count))
+    return "{%s}%s" % (filled(length - len(chain) - 2, lambda i: "k%d:n{...F%d}" % (i, i * 7 % (count // 2))), chain)
+
+
+def given_by_a_list(length):
+    """One call with a list of many variables."""
+    (heads, items), _ = paired(length - 40, lambda i: ("$v%d:Int=1 " % i, "$v%d " % i))
+    return "query(%s){n{o(i:[%s])}}" % (heads, items)
+
+
+def weighed_fields(count):
+    return "type Query { n: N } type N { %s }" % " ".join('f%d(i: [Int] @cost(weight: "0.%06d")): Int' % (i, i + 1) for i in range(count))
+
+
+def long_default(length):
+    """An input type whose default is a text of so many bytes."""
+    return 'input I { s: String = "%s" } type Query { n: N o(i: I): Int } type N { n: N a: Int }' % ("x" * length)
+
+
+def long_value(length):
+    """An input type whose default is an enum value with a name of so many bytes."""
+    return "enum E { %s } input I { e: E = %s } type Query { o(i: [I]): Int }" % ("V" * length, "V" * length)
+
+
+def behind_short_calls(count, build):
+    """The same behind as many short calls."""
+    first = "".join("z%d:o(i:[{f%d:1}])" % (i, i) for i in range(count))
+    return lambda n: "{" + first + build(n - len(first))[1:]
+
+
+def scalar_objects(length):
+    """Keys that each have a key of their own below, beside a fragment of four sets whose calls have great equal objects, in which the last text is written otherwise."""
+    fields = filled(length // 9, lambda i: "k%d:0 " % i)
+    fragment = "fragment F on N{%s}" % "".join("n{b(x:{%sz:%s})}" % (fields, it) for it in ('"ab"', '"""ab"""', '"\\u0061b"', '"a\\u0062"'))
+    return "{%s}%s" % (filled(length - len(fragment) - 2, lambda i: "k%d:n{n{x%d:a}...F}" % (i, i)), fragment)
+
+
+def blank_lines(length):
+    """Keys beside a fragment of calls with the same block string, between other numbers of blank lines."""
+    fragment = "fragment F on N{%s}" % filled(length * 3 // 4, lambda i: 'b(x:"""%s a%s""")' % ("\n" * (i % 40 + 1), "\n" * (i % 23)))
+    return "{%s}%s" % (filled(length - len(fragment) - 2, lambda i: "k%d:n{x%d:a ...F}" % (i, i)), fragment)
+
+
+def conditions_at_places(length):
+    """Keys that each have a key of their own three levels below, beside a fragment of sets that differ in the variable of a condition."""
+    (heads, sets), _ = paired(length // 2, lambda i: ("$v%d:Boolean=true " % i, "n{n{n{a@include(if:$v%d)}}}" % i))
+    return "query(%s){%s}fragment F on N{%s}" % (heads, filled(length - len(heads) - len(sets) - 40, lambda i: "k%d:n{n{n{n{x%d:a}}}...F}" % (i, i)), sets)
+
+
+def field_of_interfaces(count):
+    """A type of so many interfaces, of which the last alone says the weight and the size of its field."""
+    field = "f(first: Int): [O]"
+    said = ' @listSize(slicingArguments: ["first"]) @cost(weight: "3")'
+    interfaces = "".join("interface I%d { %s%s } " % (i, field, said if i == count - 1 else "") for i in range(count))
+    return "type Query { o: O } %stype O implements %s { a: Int %s }" % (interfaces, " & ".join("I%d" % i for i in range(count)), field)
+
+
+SLICED = ' @listSize(slicingArguments: ["first"], requireOneSlicingArgument: false)'
+
+
+def spreading_all_later(length):
+    """Fragments that each spread all later ones, and keys that each have a key of their own beside two of them."""
+    def fragments(count):
+        return "".join("fragment F%d on N{a %s}" % (i, " ".join("...F%d" % j for j in range(i + 1, count))) for i in range(count))
+    count = 2
+    while len(fragments(count + 1)) < length // 2:
+        count += 1
+    return "{%s}%s" % (filled(length - len(fragments(count)) - 2, lambda i: "k%d:n{x%d:a ...F%d ...F%d}" % (i, i, i % count, (i // count * 7 + i + 1) % count)), fragments(count))
+
+
+def written_in_two_ways(one, other):
+    """Keys that each have a key of their own beside a fragment of two calls, which are equal and take half the length."""
+    def build(length):
+        fragment = "fragment F on N{b(x:%s)b(x:%s)}" % (one(length // 4), other(length // 4))
+        room = length - len(json.dumps(fragment)) - 2
+        return "{%s}%s" % (filled(room, lambda i: "k%d:n{x%d:a ...F}" % (i, i)), fragment)
+    return build
+
+
+def lines_of_one(room):
+    return "x\n" * (room // 4)
+
+
+def object_that_ends(text):
+    """An object of a custom scalar, whose last value is this."""
+    return lambda room: "{%sz:%s}" % (filled(room, lambda i: "a%d:%d " % (i, i % 10)), text)
+
+
+def great_defaults(count):
+    """A field with so many arguments, whose defaults are lists as great as they may be."""
+    return "type Query { o(x: Int %s): Int }" % " ".join('a%d: [Int] = [%s] @cost(weight: "0.001")' % (i, "1 " * 998) for i in range(count))
+
+
+def literals_at_places_of_their_own(count, item=" 1", first="%d"):
+    """Keys that each have a key of their own beside a fragment of so many calls with great literals."""
+    def build(length):
+        items = item * min(19990 // (2 if "{" in item else 1), length * 2 // 3 // count // len(item))
+        fragment = "fragment F on N{%s}" % " ".join("c%d:b(x:[%s%s])" % (i, first % i, items) for i in range(count))
+        return "{%s}%s" % (filled(length - len(fragment) - 2, lambda i: "k%d:n{x%d:a ...F}" % (i, i)), fragment)
+    return build
+
+
+def small_variables(variable, item, many):
+    """Keys that make a call with a list of one value of its own and so many of a variable."""
+    return lambda n: "query(%s){%s}" % (variable, filled(n - len(variable) - 9, lambda i: "k%d:n{o(i:[%s%s])}" % (i, item % i, "$v" * many)))
+
+
+def many_types_below(count):
+    """A field of an interface of so many types, below a type."""
+    return "type Query { n: N } type N { i: I } interface I { a: Int }" + "".join(" type T%d implements I { a: Int }" % i for i in range(count))
+
+
+def sets_of_two_types(count):
+    """Three keys that spread a fragment of sets at one key, each with conditions on two of so many types of its own; two of them add a set."""
+    def build(length):
+        head = "{x:n{...F}y:n{...F i{...on T0{b:a}}}z:n{...F i{...on T%d{b:a}}}}" % (count - 1)
+        return head + "fragment F on N{%s}" % filled(length - len(head) - 17, lambda i: "i{...on T%d{a}...on T%d{a}}" % (i % count, (i + 1 + i // count * 7) % count))
+    return build
+
+
+def directives_again(count):
+    """A type whose definition has so many directives, and says behind them that its field is deprecated."""
+    return 'directive @x repeatable on FIELD_DEFINITION type Query { b: Int a: Int %s @deprecated(reason: "r") }' % ("@x" * count)
+
+
+def long_directives(count):
+    """A field, its argument and its type with so many directives, with weights of as many places and half more, and with as many names of sized fields."""
+    said = '%s @cost(weight: "1.%s")' % ("@x" * count, "0" * (count * 3 // 2))
+    return "directive @x repeatable on FIELD_DEFINITION | ARGUMENT_DEFINITION | OBJECT type Query { p(x: Int %s): P %s @listSize(assumedSize: 2, sizedFields: [%s]) } type P %s { l: [N] b: [N] } type N { a: Int }" % (
+        said, said, '"l"' * count, said)
+
+
+def longer_keys(most, text):
+    """Keys of calls that all differ, as many as fit, but at most so many: in longer bodies they are longer."""
+    return lambda n: "{%s}" % filled(n - 2, lambda i: "k%0*d:" % (max(1, n // most - 14), i) + text % i)
+
+
 INPUTS = "type Query { o(i: I): Int } input I { z: Int i: I l: [I] d: Int = 1 }"
 SCALARS = "type Query { o(x: [S]): Int } scalar S"
 THIRTY = "type Query { n: N o(i: [I]): Int } type N { n: N o(i: [I]): Int } input I { z: Int %s }" % " ".join("f%d: Int = 1" % i for i in range(30))
@@ -705,6 +917,8 @@ FAMILIES = {
     "sixteen types apart": (two_apart(16, 4880), apart),
     "interfaces nearly alike": (nearly_alike(20, 4900), lambda n: "{%s}" % filled(n - 2, lambda i: "k%d:n%d{...on T0{a}}" % (i, i % 20))),
     "interfaces beside a chain": (below_all(100, 48), kinds_beside_chain(100)),
+    "an interface without objects": (lambda: beside_none(4900), lambda n: "{%s}" % filled(n - 2, key("...on E{a}"))),
+    "an interface without objects, in a fragment": (lambda: beside_none(4900), lambda n: "{%s}fragment F on I{...on E{a}}" % filled(n - 40, key("...F"))),
     "interfaces nearly alike beside a chain": (lambda: nearly_alike(64, 4800), each_beside_chain(64)),
     "interfaces beside conditions": (beside_another(64, 4000), beside_conditions(64)),
     "a chain at the last type": (last_type(4990), bare_chain),
@@ -712,6 +926,8 @@ FAMILIES = {
     "long keys that agree": (ONE, agreeing_keys),
     "interfaces of interfaces": (lambda: interfaces_of_interfaces(1100), nested_interfaces(1100)),
     "types of all interfaces": (lambda: crossed(800, 900), nested_interfaces(800)),
+    "types of all interfaces but one": (lambda: crossed_but_one(800, 900), nested_interfaces(800)),
+    "a chain beside conditions": (lambda: lacking_pairs(64, 1900), chain_beside_conditions(64)),
     "unions of all types": (lambda: unions(400, 1500), nested_unions(400)),
     "conditions by variables": (ONE, by_variables),
     "type names": (ONE, lambda n: halves(n, key("...F"), lambda i: "__typename ...on N{__typename}")),
@@ -743,9 +959,42 @@ FAMILIES = {
     "sets apart at doubled places": (apart_below_queries(2450, 2450), doubled(12, "a:q{...F%d}b:q{...F%d}", "".join("n{...on J{...on K{x%d:a}}}" % i for i in range(15)), "Query", "q")),
     "a long string in calls that differ": ("type Query { o(s: String, x: Int): Int }", own_calls("s:$s x:%d", "query($s:String)"), long_string),
     "a long string in a great list": ("type Query { o(s: [String]): Int }", lambda n: "query($s:String){o(s:[%s])}" % ("$s " * min(19990, (n - 40) // 3)), long_string),
+    "a list at thousands of types": (lambda: types_of(4900, defaulted), lists_of_own_lengths(4, "1 ")),
+    "objects with defaults at fifty types": (types_of(50, lambda i: "o(i: [J]): Int", input_of(29)), small_lists("{}", 600)),
+    "objects with defaults at fifty types, beside what slices": (types_of(50, lambda i: "o(i: [J] first: Int): [Int]" + SLICED, input_of(29)), small_lists("{}", 600)),
+    "objects at four hundred types": (types_of(400, lambda i: "o(i: [J]): Int", "input J { a: Int b: Int c: [Int] }"), lists_of_own_lengths(40, "{}")),
+    "enum values at four hundred types": (types_of(400, lambda i: "o(i: [E]): Int", "enum E { A B }"), lists_of_own_lengths(40, "A ")),
+    "lists of ids at places of their own": ("type Query { n: N } type N { a: Int n: N b(ids: [ID!]): Int }", ids_at_places),
+    "lists of ids in a chain": (types_of(50, lambda i: "b(ids: [ID!]): Int"), ids_in_a_chain),
+    "variables at thousands of weights": (lambda: types_of(4900, weighed), given_by_a_list),
+    "variables at fifty weights": (types_of(50, weighed), given_by_a_list),
+    "variables at four hundred weights": (types_of(400, weighed), given_by_a_list),
+    "variables in objects at four hundred types": (types_of(400, lambda i: "o(i: [J]): Int", "input J { a: Int b: Int c: [Int] }"), lambda n: "query($v:Int)" + lists_of_own_lengths(40, "{a:$v}")(n - 13)),
+    "a great variable at thousands of weights": (lambda: weighed_fields(19000), lambda n: "query($a:[Int]){n{%s}}" % filled(n - 30, lambda i: "k%d:f%d(i:$a)" % (i, i % 19000)), great(1)),
+    "a great variable beside what slices": ("type Query { l(first: Int ids: [ID!]): [N]%s } type N { a: Int }" % SLICED, lambda n: "query($a:[ID!]){%s}" % filled(n - 30, lambda i: "k%d:l(first:%d ids:$a){a}" % (i, i)), great(1)),
+    "variables of a long default": (lambda: long_default(100000), lambda n: "query(%s){%so(i:$v0)}" % (filled(n - 1600, lambda i: "$v%d:I={} " % i), "".join("p%d:__typename " % i for i in range(100)))),
+    "a long enum value by default": (lambda: long_value(30000), lambda n: "{o(i:[%s])}" % ("{}" * min(9990, (n - 12) // 2))),
+    "objects of a great input type behind short calls": (lambda: optional_fields(20000), behind_short_calls(17, lambda n: "{o(i:[%s])}" % ("{}" * min(19990, (n - 12) // 2)))),
+    "scalar objects at places of their own": ("type Query { n: N } scalar S type N { a: Int n: N b(x: S): Int }", scalar_objects),
+    "blank lines of block strings": ("type Query { n: N } type N { a: Int b(x: String): Int }", blank_lines),
+    "conditions of variables at places of their own": (ONE, conditions_at_places),
+    "a field of thousands of interfaces": (lambda: field_of_interfaces(4900), lambda n: "{%s}" % filled(n - 2, lambda i: "k%d:o{x%d:f(first:1){a}}" % (i, i))),
     "deprecated values of the schema": (lambda: deprecated_values(20000), lambda n: '{__type(name:"E"){%s}}' % filled(n - 22, lambda i: "k%d:enumValues{name}" % i)),
     "a long key at all fields of the schema": (many_fields(200, 20), lambda n: "{__schema{types{fields{%s:name}}}}" % ("x" * (n - 37))),
     "descriptions of the schema": (lambda: many_fields(200, 20, "Lorem ipsum dolor sit amet " * 4), lambda n: "{__schema{types{fields{%s}}}}" % filled(n - 28, lambda i: "k%d:description " % i)),
+    "fragments that spread all later ones": (ONE, spreading_all_later),
+    "a text written in two ways": ("type Query { n: N } type N { a: Int b(x: String): Int }", written_in_two_ways(lambda room: '"""%sx"""' % lines_of_one(room), lambda room: json.dumps(lines_of_one(room) + "x"))),
+    "a custom object written in two ways": ("type Query { n: N } scalar S type N { a: Int b(x: S): Int }", written_in_two_ways(object_that_ends('"ab"'), object_that_ends('"\\u0061b"'))),
+    "great defaults of arguments": (lambda: great_defaults(1900), own_calls("x:%d")),
+    "equal great variables in lists": ("type Query { o(i: [[Int]]): Int }", lambda n: "query($a:[Int],$b:[Int]){%s}" % filled(n - 30, lambda i: "k%d:o(i:[$a[%d]])k%d:o(i:[$b[%d]])" % (i, i, i, i)), great(1, 1)),
+    "sets of two types": (lambda: many_types_below(4900), sets_of_two_types(4900)),
+    "asked again behind a million directives": (lambda: directives_again(1000000), lambda n: '{__type(name:"Query"){fields(includeDeprecated:true){%s}}}' % filled(n - 60, lambda i: "k%d:%s " % (i, "deprecationReason" if i % 2 else "isDeprecated"))),
+    "a field whose directives are long": (lambda: long_directives(200000), longer_keys(6600, "p(x:%d){b{a}}")),
+    "great literals at places of their own": (LITERALS.replace("{ b", "{ a: Int b"), literals_at_places_of_their_own(5)),
+    "great lists of objects at places of their own": ("input I { a: Int } type Query { n: N } type N { a: Int b(x: [I]): Int }", literals_at_places_of_their_own(5, "{a:1}", "{a:%d}")),
+    "lists of one beside a great variable": ("type Query { o(f: F): Int } input F { i: [Int] s: [String] }", lambda n: "query($a:[Int]){%s}" % filled(n - 30, lambda i: 'k%d:o(f:{i:$a s:"%d"})k%d:o(f:{i:$a s:["%d"]})' % (i, i, i, i)), great(1)),
+    "small lists of variables at fifty types": (lambda: types_of(50, lambda i: "o(i: [[Int]]): Int"), small_variables("$v:[Int]=[%s]" % " ".join("1" * 60), "[%d]", 320)),
+    "small objects of variables at fifty types": (lambda: types_of(50, lambda i: "o(i: [J]): Int", input_of(58)), small_variables("$v:J={}", "{p0:%d}", 330)),
 }
 
 
