@@ -16,7 +16,6 @@ use crate::node::{Looked, look_again};
 use crate::stop::{Stop, stopped, under};
 use crate::why::Why;
 use collected_fields::{Collected, Collector, Group};
-use gql_base::Text;
 use input_values::TypeId;
 use plan_table::{NodeRow, Plan, size_from};
 use schema_model::{FieldId, Schema};
@@ -86,7 +85,7 @@ impl<'p, 'a> Building<'p, 'a> {
     {
         let asked = any_asks(self.plan.schema(), field, others);
         let key = self.keys.row_key(alloc, key_of(field))?;
-        let name = Text::copy_of(alloc, name_of(field))?;
+        let name = self.keys.row_key(alloc, name_of(field))?;
         self.plan.push(NodeRow {
             key,
             depth,

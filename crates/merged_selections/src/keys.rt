@@ -1,4 +1,4 @@
-//! The response keys of a plan that is being built: rows share long ones.
+//! The response keys of a plan that is being built, and the names of its fields: rows share long ones.
 
 ghost use Rattle.std.specs.Prelude.{◌≡◌, IfOk, IfSome};
 

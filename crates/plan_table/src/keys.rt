@@ -1,4 +1,4 @@
-//! Response keys of rows.
+//! Response keys of rows, and names of their fields.
 
 ghost use Rattle.std.specs.Prelude.{◌≡◌, IfOk};
 
@@ -7,7 +7,7 @@ use std::alloc::{AllocError, Global};
 use std::marker::Model;
 use std::sync::Arc;
 
-/// How long keys are, in bytes, whose text each row has for itself. Rows share a longer one.
+/// How long keys and names are, in bytes, whose text each row has for itself. Rows share a longer one.
 pub const SHORT_KEY: usize = 64;
 
 /// The text of a key.
@@ -17,7 +17,7 @@ enum Held {
     Common(Arc<Text>),
 }
 
-/// The response key of a row. Contracts see it as the list of its bytes.
+/// The response key of a row, or the name of its field. Contracts see it as the list of its bytes.
 #[derive(Drop)]
 pub struct RowKey {
     held: Held,

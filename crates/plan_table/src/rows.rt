@@ -6,7 +6,6 @@ ghost use Rattle.plan_table.specs.ListSizes.{size_from};
 
 use crate::keys::RowKey;
 use cost_directives::SizeSource;
-use gql_base::Text;
 use input_values::TypeId;
 use schema_model::FieldId;
 
@@ -18,7 +17,7 @@ pub struct NodeRow {
     /// How many fields are on the path down to it; 1 at the root.
     pub depth: u32,
     /// The field's name.
-    pub name: Text,
+    pub name: RowKey,
     /// The object type in whose objects the entry stands.
     pub on: TypeId,
     /// Whether it is the first node of this type at its position.
