@@ -6,6 +6,7 @@ pub mod InputsTogether
 pub mod LinearCosts
 pub mod LoadsOfPlaces
 pub mod ValuesTogether
+pub mod ObjectsTogether
 pub mod WrittenPlaces
 pub mod ItemsTogether
 pub mod KeptInputs

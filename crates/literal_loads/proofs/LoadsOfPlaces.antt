@@ -1,7 +1,7 @@
 -- Loads at named types, in lists, and at other places of the same type.
-use Rattle.std.proofs.Common.{◌≡◌, ◌+◌, ◌-◌, ◌*◌, ◌/◌, mul-div_cancel, ◌≤◌, ◌&&◌, ℕ, Bool, true, false, not, cond, List, get_or, Option, None, Some, Ok, refl, sym, ap, ap₂, ◌∙◌, subst, arith}
+use Rattle.std.proofs.Common.{◌≡◌, ◌+◌, ◌*◌, ◌≤◌, ◌&&◌, ℕ, Bool, true, false, not, cond, List, get_or, Option, None, Some, Ok, refl, sym, ap, ap₂, ◌∙◌, subst, arith}
 use Rattle.std.proofs.lemmas.Option.{same_Some}
-use Rattle.input_values.specs.values.Coerced.{CoercedTree, coerced_tree, is_coerced_null, nodes, CoercedTrees, coerced_null, coerced_integer, coerced_string, coerced_boolean, coerced_enum, coerced_list, coerced_object, no_coerced, coerced_then}
+use Rattle.input_values.specs.values.Coerced.{CoercedTree, coerced_tree, is_coerced_null, CoercedTrees, coerced_null, coerced_integer, coerced_string, coerced_boolean, coerced_enum, coerced_list, coerced_object, no_coerced, coerced_then}
 use Rattle.input_values.specs.declared.values.coerced.Coerced.{Coerced}
 use Rattle.input_values.specs.inputs.Shapes.{ShapeTree, named_shape, list_shape, is_nullable}
 use Rattle.input_values.specs.coercion.Answers.{Answer, refused, mapped}
@@ -13,9 +13,8 @@ use Rattle.schema_model.specs.InputForms.{input_forms}
 use Rattle.cost_directives.specs.ArgumentCosts.{ObjectInputs, leaf_cost, object_cost, value_cost, items_cost, fields_at, fields_cost}
 use Rattle.cost_directives.specs.Weights.{objects_in}
 use Rattle.literal_loads.specs.declared.load.Load.{Load}
-use Rattle.cost_num.specs.declared.TheConstants.{UNIT}
 use Rattle.literal_loads.specs.LoadSums.{IsList}
-use Rattle.literal_loads.proofs.LinearCosts.{value_parts, list_cost_at}
+use Rattle.literal_loads.proofs.LinearCosts.{list_cost_at}
 use Rattle.literal_loads.specs.Loads.{Scale, IsLoad, Weighs, WeighsNamed, WeighsVariable}
 use Rattle.literal_loads.specs.KnownInputs.{lists_round, IsHeldAs}
 
@@ -76,21 +75,6 @@ pub held_everywhere : (e : Scale) (name : List ℕ) (t : CoercedTree) (shape : S
     → (s : ShapeTree) → innermost s ≡ of → lists_round s ≡ lists → IsHeldAs e name s load
 held_everywhere e name t shape load of lists value is same round s same_too round_too = λ u again.
     subst (λ x. IsLoad e s x load) (same_Some t u (sym value ∙ again)) (held_elsewhere e t shape s load (same_too ∙ same) (round_too ∙ round) is)
-
--- ---- by three costs
-
--- The parts of a cost are those that were found by it at no weight of the place, at the weight nothing, and at the least weight.
-pub found_load : (e : Scale) (shape : ShapeTree) (t : CoercedTree) (load : Load) (plain marked : ℕ) → load.nodes ≡ nodes t → load.inside ≡ value_cost (objects_in e.weights) shape (Some 0) t → plain ≡ value_cost (objects_in e.weights) shape None t
-    → marked ≡ value_cost (objects_in e.weights) shape (Some 1) t → load.objects ≡ (plain - load.inside) / UNIT → load.leaves ≡ (marked - load.inside) - load.objects → IsLoad e shape t load
-found_load e shape t load plain marked size inside plainly marks objects leaves =
-    let parts = value_parts (objects_in e.weights) t shape in
-    let none = parts.same (Some 0) in
-    let plain_parts = parts.same None in
-    let one = parts.same (Some 1) in
-    let same_inside : load.inside ≡ parts.inside = omega (arith, inside, none) in
-    let same_objects : load.objects ≡ parts.objects = objects ∙ (ap (λ n. n / UNIT) (let a : plain - load.inside ≡ parts.objects * UNIT = omega (arith, plainly, plain_parts, same_inside) in a) ∙ mul-div_cancel parts.objects (omega arith)) in
-    let same_leaves : load.leaves ≡ parts.leaves = omega (arith, leaves, marks, one, same_inside, same_objects) in
-    record { size = size; price = λ own. ap₂ (λ x y. x + y) (ap₂ (λ x y. leaf_cost own * x + object_cost own * y) same_leaves same_objects) same_inside ∙ parts.same own }
 
 -- ---- values and variables
 

@@ -1,18 +1,18 @@
 -- What values that are built come to: lists by their items, and objects.
-use Rattle.std.proofs.Common.{◌≡◌, ◌+◌, ◌*◌, ◌<◌, ◌≤◌, ℕ, suc, Bool, true, false, List, length, map, drop, get_or, Vec, Global, Option, None, Some, sym, ap, ap₂, ◌∙◌, subst, arith}
+use Rattle.std.proofs.Common.{◌≡◌, ◌+◌, ◌*◌, ◌<◌, ◌≤◌, ℕ, suc, Bool, List, length, map, drop, get_or, Vec, Global, Option, refl, sym, ap, ap₂, ◌∙◌, subst, arith}
 use Rattle.std.proofs.lemmas.List.{drop_all}
 use Rattle.gql_base.proofs.Lists.{at_front}
 use Rattle.input_values.specs.declared.values.coerced.Coerced.{Coerced}
 use Rattle.input_values.specs.declared.values.coerced.Coerced.TheViews.{List as ListValue}
-use Rattle.input_values.specs.values.Coerced.{CoercedTree, CoercedTrees, CoercedFields, coerced_tree, trees_from, nodes, item_nodes, coerced_then, coerced_list, coerced_object}
+use Rattle.input_values.specs.values.Coerced.{CoercedTree, CoercedTrees, coerced_tree, trees_from, nodes, item_nodes, coerced_then, coerced_null, coerced_integer, coerced_string, coerced_boolean, coerced_enum, coerced_list, coerced_object}
 use Rattle.input_values.specs.inputs.Shapes.{ShapeTree, named_shape, list_shape}
 use Rattle.input_values.proofs.CoercedTrees.{list_made}
-use Rattle.cost_directives.specs.ArgumentCosts.{ObjectInputs, InputWeightData, leaf_cost, object_cost, fields_at, value_cost, items_cost, fields_cost}
+use Rattle.cost_directives.specs.ArgumentCosts.{ObjectInputs, leaf_cost, object_cost, value_cost, items_cost}
 use Rattle.cost_directives.specs.Weights.{objects_in}
 use Rattle.literal_loads.specs.declared.load.Load.{Load}
-use Rattle.literal_loads.specs.LoadSums.{cost_at, IsBoth, IsList}
-use Rattle.literal_loads.specs.Loads.{Scale, IsLoad, AreLoads, has_inputs, is_input_place}
-use Rattle.literal_loads.proofs.LinearCosts.{cost_of_parts, list_cost_at, both_cost_at}
+use Rattle.literal_loads.specs.LoadSums.{cost_at, IsBoth, IsLeaf, IsList}
+use Rattle.literal_loads.specs.Loads.{Scale, IsLoad, AreLoads}
+use Rattle.literal_loads.proofs.LinearCosts.{list_cost_at, both_cost_at}
 
 -- ---- items
 
@@ -27,7 +27,7 @@ pub record AreSummed (e : Scale) (item : ShapeTree) (vs : List Coerced) (at : �
 more : (sum one now here value rest whole : ℕ) → sum + here ≡ whole → here ≡ value + rest → one ≡ value → now ≡ sum + one → now + rest ≡ whole
 more sum one now here value rest whole same front is both = omega arith
 
-first : (sum whole : ℕ) → sum ≡ 0 → sum + whole ≡ whole
+pub first : (sum whole : ℕ) → sum ≡ 0 → sum + whole ≡ whole
 first sum whole none = omega arith
 
 last : (sum rest whole : ℕ) → rest ≡ 0 → sum + rest ≡ whole → sum ≡ whole
@@ -74,35 +74,59 @@ module _ (e : Scale) (item : ShapeTree) (vs : List Coerced) where
       } in
       subst (λ t. IsLoad e s t list) (sym tree) (subst (λ x. IsLoad e x (coerced_list (items_in vs)) list) (sym shaped) here)
 
--- ---- objects
+-- ---- leaves
 
-inputs_here : (own : Option ℕ) (fields : List InputWeightData → ℕ) (found : Option (List InputWeightData)) → has_inputs found ≡ true → cost_of_parts own 0 1 (fields_at (Some 0) fields found) ≡ fields_at own fields found
-inputs_here own fields None is = absurd (cc)
-inputs_here own fields (Some inputs) is = omega arith
+-- neither null nor a list nor an object
+abbrev pub IsPlain : CoercedTree → Type 0
+IsPlain coerced_null = ⊥
+IsPlain (coerced_integer z) = Unit {0}
+IsPlain (coerced_string b) = Unit {0}
+IsPlain (coerced_boolean b) = Unit {0}
+IsPlain (coerced_enum name) = Unit {0}
+IsPlain (coerced_list items) = ⊥
+IsPlain (coerced_object fields) = ⊥
 
-none_here : (own : Option ℕ) (fields : List InputWeightData → ℕ) (found : Option (List InputWeightData)) → has_inputs found ≡ false → cost_of_parts own 1 0 (fields_at (Some 0) fields found) ≡ fields_at own fields found
-none_here own fields None is = omega arith
-none_here own fields (Some inputs) is = absurd (cc)
+leaf_cost_at : (own : Option ℕ) (n : ℕ) (leaf : Load) → IsLeaf n leaf → cost_at own leaf ≡ leaf_cost own
+leaf_cost_at own n leaf is = ap₂ (λ x y. x + y) (ap₂ (λ x y. leaf_cost own * x + object_cost own * y) is.leaves is.objects) is.inside ∙ omega arith
 
-object_here : (objects : ObjectInputs) (s : ShapeTree) (fields : CoercedFields) (own : Option ℕ) → is_input_place objects s ≡ true → cost_of_parts own 0 1 (value_cost objects s (Some 0) (coerced_object fields)) ≡ value_cost objects s own (coerced_object fields)
+pub leaf_load : (e : Scale) (s : ShapeTree) (t : CoercedTree) (leaf : Load) → IsLeaf (nodes t) leaf → ((own : Option ℕ) → leaf_cost own ≡ value_cost (objects_in e.weights) s own t) → IsLoad e s t leaf
+leaf_load e s t leaf is price = record { size = is.size; price = λ own. leaf_cost_at own (nodes t) leaf is ∙ price own }
+
+plain_nodes : (t : CoercedTree) → IsPlain t → 1 ≡ nodes t
+plain_nodes coerced_null plain = absurd plain
+plain_nodes (coerced_integer z) plain = refl
+plain_nodes (coerced_string b) plain = refl
+plain_nodes (coerced_boolean b) plain = refl
+plain_nodes (coerced_enum name) plain = refl
+plain_nodes (coerced_list items) plain = absurd plain
+plain_nodes (coerced_object fields) plain = absurd plain
+
+plain_cost : (objects : ObjectInputs) (s : ShapeTree) (own : Option ℕ) (t : CoercedTree) → IsPlain t → leaf_cost own ≡ value_cost objects s own t
 unfolding value_cost
-object_here objects (named_shape of nullable) fields own is = inputs_here own (λ inputs. fields_cost objects inputs fields) (get_or objects of None) is
-object_here objects (list_shape item nullable) fields own is = absurd (cc)
+plain_cost objects s own coerced_null plain = absurd plain
+plain_cost objects s own (coerced_integer z) plain = refl
+plain_cost objects s own (coerced_string b) plain = refl
+plain_cost objects s own (coerced_boolean b) plain = refl
+plain_cost objects s own (coerced_enum name) plain = refl
+plain_cost objects s own (coerced_list items) plain = absurd plain
+plain_cost objects s own (coerced_object fields) plain = absurd plain
 
-leaf_here : (objects : ObjectInputs) (s : ShapeTree) (fields : CoercedFields) (own : Option ℕ) → is_input_place objects s ≡ false → cost_of_parts own 1 0 (value_cost objects s (Some 0) (coerced_object fields)) ≡ value_cost objects s own (coerced_object fields)
+pub plain_load : (e : Scale) (s : ShapeTree) (t u : CoercedTree) (leaf : Load) → t ≡ u → IsPlain u → IsLeaf 1 leaf → IsLoad e s t leaf
+plain_load e s t u leaf same plain is = subst (λ x. IsLoad e s x leaf) (sym same) (leaf_load e s u leaf (subst (λ n. IsLeaf n leaf) (plain_nodes u plain) is) (λ own. plain_cost (objects_in e.weights) s own u plain))
+
+null_here : (e : Scale) (s : ShapeTree) (load : Load) → load.nodes ≡ 1 → load.leaves ≡ 0 → load.objects ≡ 0 → load.inside ≡ 0 → IsLoad e s coerced_null load
 unfolding value_cost
-leaf_here objects (named_shape of nullable) fields own is = none_here own (λ inputs. fields_cost objects inputs fields) (get_or objects of None) is
-leaf_here objects (list_shape item nullable) fields own is = omega arith
+null_here e s load n l o i = record { size = n; price = λ own. no_cost own load l o i }
 
-load_of_parts : (e : Scale) (s : ShapeTree) (t : CoercedTree) (load : Load) (leaves objects inside : ℕ) → load.nodes ≡ nodes t → load.leaves ≡ leaves → load.objects ≡ objects → load.inside ≡ inside
-    → ((own : Option ℕ) → cost_of_parts own leaves objects inside ≡ value_cost (objects_in e.weights) s own t) → IsLoad e s t load
-load_of_parts e s t load leaves objects inside n l o i price = record { size = n; price = λ own. ap₂ (λ x y. x + y) (ap₂ (λ x y. leaf_cost own * x + object_cost own * y) l o) i ∙ price own }
+pub null_load : (e : Scale) (s : ShapeTree) (t : CoercedTree) (load : Load) → t ≡ coerced_null → load.nodes ≡ 1 → load.leaves ≡ 0 → load.objects ≡ 0 → load.inside ≡ 0 → IsLoad e s t load
+null_load e s t load is n l o i = subst (λ x. IsLoad e s x load) (sym is) (null_here e s load n l o i)
 
-module _ (e : Scale) (s : ShapeTree) (t : CoercedTree) (fields : CoercedFields) (is : t ≡ coerced_object fields) (load : Load) (n : load.nodes ≡ nodes t) (i : load.inside ≡ value_cost (objects_in e.weights) s (Some 0) t) where
-  pub input_object_load : is_input_place (objects_in e.weights) s ≡ true → load.leaves ≡ 0 → load.objects ≡ 1 → IsLoad e s t load
-  input_object_load place l o = load_of_parts e s t load 0 1 (value_cost (objects_in e.weights) s (Some 0) t) n l o i
-      (λ own. subst (λ x. cost_of_parts own 0 1 (value_cost (objects_in e.weights) s (Some 0) x) ≡ value_cost (objects_in e.weights) s own x) (sym is) (object_here (objects_in e.weights) s fields own place))
+list_leaf_cost : (objects : ObjectInputs) (of : ℕ) (nullable : Bool) (own : Option ℕ) (items : CoercedTrees) → leaf_cost own ≡ value_cost objects (named_shape of nullable) own (coerced_list items)
+unfolding value_cost
+list_leaf_cost objects of nullable own items = refl
 
-  pub other_object_load : is_input_place (objects_in e.weights) s ≡ false → load.leaves ≡ 1 → load.objects ≡ 0 → IsLoad e s t load
-  other_object_load place l o = load_of_parts e s t load 1 0 (value_cost (objects_in e.weights) s (Some 0) t) n l o i
-      (λ own. subst (λ x. cost_of_parts own 1 0 (value_cost (objects_in e.weights) s (Some 0) x) ≡ value_cost (objects_in e.weights) s own x) (sym is) (leaf_here (objects_in e.weights) s fields own place))
+-- a list in the value of a custom scalar
+pub list_leaf : (e : Scale) (s : ShapeTree) (of : ℕ) (nullable : Bool) (t : CoercedTree) (items : CoercedTrees) (leaf : Load) → s ≡ named_shape of nullable → t ≡ coerced_list items → IsLeaf (nodes t) leaf → IsLoad e s t leaf
+list_leaf e s of nullable t items leaf shaped is leafs =
+    leaf_load e s t leaf leafs
+    (λ own. subst (λ x. leaf_cost own ≡ value_cost (objects_in e.weights) x own t) (sym shaped) (subst (λ x. leaf_cost own ≡ value_cost (objects_in e.weights) (named_shape of nullable) own x) (sym is) (list_leaf_cost (objects_in e.weights) of nullable own items)))

@@ -15,6 +15,20 @@ pub record IsBoth (load other now : Load) : Type 0 where
   pub objects : now.objects ≡ load.objects + other.objects
   pub inside : now.inside ≡ load.inside + other.inside
 
+-- A leaf has so many nodes.
+pub record IsLeaf (nodes : ℕ) (leaf : Load) : Type 0 where
+  pub size : leaf.nodes ≡ nodes
+  pub leaves : leaf.leaves ≡ 1
+  pub objects : leaf.objects ≡ 0
+  pub inside : leaf.inside ≡ 0
+
+-- An input object has so many nodes, and what is inside of it costs so much.
+pub record HasInside (nodes cost : ℕ) (object : Load) : Type 0 where
+  pub size : object.nodes ≡ nodes
+  pub leaves : object.leaves ≡ 0
+  pub objects : object.objects ≡ 1
+  pub inside : object.inside ≡ cost
+
 -- Items come to a list.
 pub record IsList (items list : Load) : Type 0 where
   pub size : list.nodes ≡ suc items.nodes

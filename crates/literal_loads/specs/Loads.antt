@@ -1,21 +1,23 @@
 -- What values come to: how many nodes they have, and what they cost. Costs are in millionths.
-use Rattle.std.specs.Prelude.{◌≡◌, ◌≤◌, ℕ, Bool, true, false, List, get_or, Option, None, Some, Ok}
+use Rattle.std.specs.Prelude.{◌≡◌, ◌≤◌, ℕ, Bool, false, List, get_or, Option, None, Ok}
 use Rattle.gql_base.specs.declared.parts.trees.Value.{Value}
 use Rattle.gql_base.specs.declared.parts.trees.Argument.{Argument}
 use Rattle.gql_base.specs.parts.Trees.{value_tree}
-use Rattle.input_values.specs.values.Coerced.{CoercedTree, CoercedTrees, coerced_list, nodes, item_nodes}
+use Rattle.input_values.specs.values.Coerced.{CoercedTree, CoercedTrees, CoercedFields, NamedTree, coerced_list, nodes, item_nodes, field_nodes}
 use Rattle.input_values.specs.inputs.Shapes.{ShapeTree, named_shape, list_shape}
 use Rattle.input_values.specs.coercion.Answers.{Answer, mapped}
 use Rattle.input_values.specs.coercion.Coercion.{coerced, items_coerced, find_coerced}
 use Rattle.input_values.specs.coercion.Literals.{Environment, literal_given, literal_items, literal_fields, variable_given}
 use Rattle.input_values.specs.coercion.Objects.{object_at}
+use Rattle.input_values.specs.coercion.Places.{innermost}
 use Rattle.input_values.specs.coercion.Sizes.{items_written, fields_written}
 use Rattle.schema_model.specs.SchemaData.{SchemaData}
 use Rattle.schema_model.specs.InputForms.{input_forms}
-use Rattle.cost_directives.specs.ArgumentCosts.{ObjectInputs, InputWeightData, value_cost, items_cost}
+use Rattle.cost_directives.specs.ArgumentCosts.{ObjectInputs, InputWeightData, value_cost, items_cost, fields_cost, field_cost}
 use Rattle.cost_directives.specs.Weights.{WeightsData, objects_in}
 use Rattle.variable_coercion.specs.Refusals.{value_limit}
 use Rattle.literal_loads.specs.declared.load.Load.{Load}
+use Rattle.literal_loads.specs.declared.load.Sum.{Sum}
 use Rattle.literal_loads.specs.LoadSums.{cost_at}
 
 -- What literals are weighed by.
@@ -37,14 +39,26 @@ pub record AreLoads (e : Scale) (item : ShapeTree) (ts : CoercedTrees) (load : L
   pub size : load.nodes ≡ item_nodes ts
   pub price : (own : Option ℕ) → cost_at own load ≡ items_cost (objects_in e.weights) item own ts
 
--- Places of this shape are ones of an input object type.
-abbrev pub has_inputs : Option (List InputWeightData) → Bool
-has_inputs None = false
-has_inputs (Some inputs) = true
+-- the inputs of the input object type that places of this shape have; none at other places
+abbrev pub inputs_there : ObjectInputs → ShapeTree → Option (List InputWeightData)
+inputs_there objects (named_shape of nullable) = get_or objects of None
+inputs_there objects (list_shape item nullable) = None
 
-abbrev pub is_input_place : ObjectInputs → ShapeTree → Bool
-is_input_place objects (named_shape of nullable) = has_inputs (get_or objects of None)
-is_input_place objects (list_shape item nullable) = false
+-- Nothing is paid for what an input is given: it has no weight of its own, and its type has no inputs.
+abbrev pub IsFree : ObjectInputs → InputWeightData → Type 0
+IsFree objects i = (i.own ≡ None) × (get_or objects (innermost i.shape) None ≡ None)
+
+-- a field of an input object with these inputs
+pub record IsField (e : Scale) (inputs : List InputWeightData) (field : NamedTree) (sum : Sum) : Type 0 where
+  pub fine : sum.refused ≡ 0
+  pub size : sum.nodes ≡ nodes field.1
+  pub price : sum.cost ≡ field_cost (objects_in e.weights) inputs field
+
+-- all of its fields
+pub record AreFields (e : Scale) (inputs : List InputWeightData) (fields : CoercedFields) (sum : Sum) : Type 0 where
+  pub fine : sum.refused ≡ 0
+  pub size : sum.nodes ≡ field_nodes fields
+  pub price : sum.cost ≡ fields_cost (objects_in e.weights) inputs fields
 
 -- what is coerced there
 abbrev pub Weighs : Scale → ShapeTree → Answer CoercedTree → Load → Type 0

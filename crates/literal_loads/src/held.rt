@@ -20,7 +20,7 @@ pub struct HeldLoad<'p> {
 }
 
 /// A value of more nodes is great.
-const MANY: usize = 64;
+const MANY: usize = 8;
 
 /// How many of so many nodes are left when those of a value are counted; none where it has more. It ends there.
 #[cycle(counts)]

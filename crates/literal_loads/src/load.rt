@@ -1,7 +1,7 @@
 //! Nodes and costs, added up.
 
 ghost use Rattle.std.specs.Prelude.{◌≡◌, ◌+◌, IfSome};
-ghost use Rattle.literal_loads.specs.LoadSums.{cost_at, IsBoth, IsList, IsObject, AreBoth, IsInPlace};
+ghost use Rattle.literal_loads.specs.LoadSums.{cost_at, IsBoth, IsLeaf, HasInside, IsList, IsObject, AreBoth, IsInPlace};
 
 use cost_num::UNIT;
 
@@ -81,6 +81,30 @@ pub fn with_value(sum: Sum, was: Sum, nodes: u64, cost: u64) -> Option<Sum>
         nodes,
         cost,
     })
+}
+
+/// A leaf of so many nodes: of one, or of more in the value of a custom scalar.
+pub fn leaf_of(nodes: u64) -> Load
+    ensures { IsLeaf nodes result }
+{
+    Load {
+        nodes,
+        leaves: 1,
+        objects: 0,
+        inside: 0,
+    }
+}
+
+/// An input object of so many nodes, inside of which things cost so much.
+pub fn object_with(nodes: u64, inside: u64) -> Load
+    ensures { HasInside nodes inside result }
+{
+    Load {
+        nodes,
+        leaves: 0,
+        objects: 1,
+        inside,
+    }
 }
 
 /// A list with these items.

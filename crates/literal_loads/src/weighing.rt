@@ -15,8 +15,7 @@ ghost use Rattle.literal_loads.specs.Loads.{WeighsLiteral, ComesTo};
 ghost use Rattle.literal_loads.specs.Sums.{IsAbsentSum};
 ghost use Rattle.literal_loads.specs.KnownInputs.{scale_of};
 
-use crate::load::{Load, Sum};
-use crate::values::nodes_within;
+use crate::load::{Load, Sum, cost_at};
 use cost_directives::Weights;
 use gql_base::{Indexed, Value};
 use input_values::places::is_nullable;
@@ -102,11 +101,11 @@ impl<'p> Weighing<'p> {
     {
         match &input.default {
             Some(default) => {
-                let nodes = nodes_within(default)?;
-                let cost = self.cost_within(&input.shape, own, default)?;
+                let load = self.value_load(default, &input.shape)?;
+                let cost = cost_at(own, load)?;
                 Some(Sum {
                     refused: 0,
-                    nodes,
+                    nodes: load.nodes,
                     cost,
                 })
             }
