@@ -10,5 +10,6 @@ pub mod ObjectsTogether
 pub mod WrittenPlaces
 pub mod ItemsTogether
 pub mod KeptInputs
+pub mod SameValues
 pub mod SameAnswers
 pub mod SameInputs

@@ -1,4 +1,5 @@
-//! Whether what is written in two places comes to the same, seen without building it.
+//! Whether what is written in two places comes to the same. Where two literals are written in one form it is seen by their parts; else
+//! these two are built.
 
 ghost use Rattle.std.specs.Prelude.{◌≡◌, All, IsTrue, IfOk};
 ghost use Rattle.gql_base.specs.parts.Trees.{value_tree};
@@ -11,13 +12,13 @@ ghost use Rattle.literal_loads.specs.Loads.{ComesTo};
 ghost use Rattle.literal_loads.specs.KnownInputs.{scale_of, placed_in, IsKnown, AreRight};
 ghost use Rattle.literal_loads.specs.Comparing.{AreSame, AreSameLists, AreSameObjects, AreLike, IsDefault, IsSameAmong, IsAmong, AreSameInputs, AreSameArguments};
 
-use crate::held::is_leaf;
 use crate::inputs::{KnownInputs, Owner};
 use crate::loads::Loads;
+use crate::same_values::same_value;
 use crate::weighing::Weighing;
 use gql_base::{Argument, NameIndex, Value, index_of};
 use input_values::places::innermost;
-use input_values::{Coerced, InputDef, Shape, TypeId, value_of};
+use input_values::{Coerced, InputDef, Shape, TypeId};
 use schema_model::{FieldId, Kind};
 use std::alloc::{AllocError, Global};
 
@@ -35,36 +36,6 @@ fn same_variable(value: &Value, other: &Value) -> bool
     }
 }
 
-/// Whether two values are the same that are neither lists nor objects; of values that are shared it says no.
-#[tactic(auto, using(crate::proofs::OpenedTrees::opened_values))]
-fn same_leaf_value(value: &Coerced, other: &Coerced) -> bool
-    ensures { IsTrue result → coerced_tree value.now ≡ coerced_tree other.now }
-{
-    match value {
-        Coerced::Null => match other {
-            Coerced::Null => true,
-            _ => false,
-        },
-        Coerced::Int(number) => match other {
-            Coerced::Int(same) => *number == *same,
-            _ => false,
-        },
-        Coerced::Str(text) => match other {
-            Coerced::Str(same) => text.as_str() == same.as_str(),
-            _ => false,
-        },
-        Coerced::Bool(truth) => match other {
-            Coerced::Bool(same) => *truth == *same,
-            _ => false,
-        },
-        Coerced::EnumName(name) => match other {
-            Coerced::EnumName(same) => name.as_str() == same.as_str(),
-            _ => false,
-        },
-        _ => false,
-    }
-}
-
 impl<'p> Weighing<'p> {
     /// Whether neither of two literals is a variable without a value, or both are.
     fn are_alike_absent(&self, literal: &Value, other: &Value) -> bool
@@ -73,41 +44,22 @@ impl<'p> Weighing<'p> {
         self.is_absent(literal) == self.is_absent(other)
     }
 
-    /// Whether a literal comes to neither a list nor an object, as far as that is seen without building it.
-    fn comes_to_leaf(&self, literal: &Value) -> bool {
-        match literal {
-            Value::List(_) => false,
-            Value::Object(_) => false,
-            Value::Var(name) => match value_of(self.variables, name.text.as_str()) {
-                Some(value) => is_leaf(value),
-                None => true,
-            },
-            _ => true,
-        }
-    }
-
-    /// Whether a literal comes to this value. Of lists and objects it says no.
+    /// Whether a literal comes to this value.
     fn comes_to(&self, alloc: Global, shape: &Shape, literal: &Value, value: &Coerced) -> bool
         ensures { IsTrue result → ComesTo (scale_of self.now) (shape_tree shape.now) literal.now (coerced_tree value.now) }
     {
-        if !self.comes_to_leaf(literal) {
-            return false;
-        }
         match self.built(alloc, shape, literal) {
-            Some(built) => same_leaf_value(&built, value),
+            Some(built) => same_value(&built, value),
             None => false,
         }
     }
 
-    /// Whether two literals are the same variable, or come to the same value. Of lists and objects it says no.
-    fn are_same_leaves(&self, alloc: Global, shape: &Shape, literal: &Value, other: &Value) -> bool
+    /// Whether two literals are the same variable, or come to the same value when they are built.
+    fn are_same_built(&self, alloc: Global, shape: &Shape, literal: &Value, other: &Value) -> bool
         ensures { IsTrue result → AreSame (scale_of self.now) (shape_tree shape.now) literal.now other.now }
     {
         if same_variable(literal, other) {
             return true;
-        }
-        if !self.comes_to_leaf(literal) {
-            return false;
         }
         match self.built(alloc, shape, literal) {
             Some(built) => self.comes_to(alloc, shape, other, &built),
@@ -115,7 +67,7 @@ impl<'p> Weighing<'p> {
         }
     }
 
-    /// Whether what is written for an input comes to what it is without it. Of lists and objects it says no.
+    /// Whether what is written for an input comes to what it is without it.
     fn is_default(&self, alloc: Global, input: &InputDef, literal: &Value) -> bool
         ensures { IsTrue result → IsDefault (scale_of self.now) (input_data input.now) literal.now }
     {
@@ -142,20 +94,23 @@ impl<'p> Loads<'p> {
                     Shape::ListOf { item, .. } => {
                         self.are_same_lists(alloc, &**item, items.as_slice(), others.as_slice())
                     }
-                    Shape::Named { .. } => false,
+                    Shape::Named { .. } => self.of.are_same_built(alloc, shape, value, other),
                 },
-                _ => false,
+                _ => self.of.are_same_built(alloc, shape, value, other),
             },
             Value::Object(fields) => match other {
-                Value::Object(others) => self.are_same_objects(
-                    alloc,
-                    innermost(shape),
-                    fields.as_slice(),
-                    others.as_slice(),
-                ),
-                _ => false,
+                Value::Object(others) => match self.of.schema.kind(innermost(shape)) {
+                    Kind::Input => self.are_same_objects(
+                        alloc,
+                        innermost(shape),
+                        fields.as_slice(),
+                        others.as_slice(),
+                    ),
+                    _ => self.of.are_same_built(alloc, shape, value, other),
+                },
+                _ => self.of.are_same_built(alloc, shape, value, other),
             },
-            _ => self.of.are_same_leaves(alloc, shape, value, other),
+            _ => self.of.are_same_built(alloc, shape, value, other),
         }
     }
 

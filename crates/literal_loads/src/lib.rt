@@ -9,6 +9,7 @@ mod load;
 mod loads;
 mod needs;
 mod placed;
+mod same_values;
 mod values;
 mod weighing;
 

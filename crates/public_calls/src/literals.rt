@@ -129,6 +129,31 @@ const PAIRS: &[(&str, &str, bool)] = &[
         r#"{"v": 2}"#,
         true,
     ),
+    (
+        "{ a: f(n: 1, l: {y: 1}) b: f(n: 1, l: [[{y: 1}]]) }",
+        "{}",
+        true,
+    ),
+    (
+        "{ a: f(n: 1, l: {y: 1}) b: f(n: 1, l: [[{y: 2}]]) }",
+        "{}",
+        false,
+    ),
+    (
+        "{ a: f(n: 1, i: {must: 1, js: [{}, {y: 1}]}) b: f(n: 1, i: {must: 1}) }",
+        "{}",
+        true,
+    ),
+    (
+        "{ a: f(n: 1, i: {must: 1, js: [{y: 1}, {}]}) b: f(n: 1, i: {must: 1}) }",
+        "{}",
+        false,
+    ),
+    (
+        "query($v: [J!]) { a: f(n: 1, l: [$v]) b: f(n: 1, l: [[{y: 1}, {}]]) }",
+        r#"{"v": [{"y": 1}, {}]}"#,
+        true,
+    ),
 ];
 
 // The cost as the arguments are written, and as they are built.

@@ -54,13 +54,13 @@ are_same_literals-returns-in-ListOf t c = λ right same.
     let shaped = ap shape_tree c.in-ListOf.is ∙ (list_made c.in-ListOf.item c.in-ListOf.nullable ∙ ap (λ x. list_shape (shape_tree x) c.in-ListOf.nullable) (sym c.deref.ensures)) in
     same_lists_at (scale_of c.args.self.now.of) s c.args.value.now c.args.other.now item c.in-ListOf.nullable c.in-List.items c.in-List-other.others c.as_slice.result.now c.as_slice-in-ListOf.result.now shaped c.in-List.is c.as_slice.ensures.value c.in-List-other.is c.as_slice-in-ListOf.ensures.value (c.are_same_lists.ensures right same)
 
-pub are_same_literals-returns-in-Object-other : goal.are_same_literals-returns-in-Object-other
-are_same_literals-returns-in-Object-other t c = λ right same.
+pub are_same_literals-returns-in-Input : goal.are_same_literals-returns-in-Input
+are_same_literals-returns-in-Input t c = λ right same.
     let e = scale_of c.args.self.now.of in
-    let fields = c.as_slice-in-Object-other.result.now in
-    let others = c.as_slice-in-Object-other-2.result.now in
-    same_objects_at e (shape_tree c.args.shape.now) c.args.value.now c.args.other.now c.in-Object.fields c.in-Object-other.others fields others c.in-Object.is c.as_slice-in-Object-other.ensures.value c.in-Object-other.is c.as_slice-in-Object-other-2.ensures.value
-    (subst (λ n. AreSameObjects e n fields others) c.innermost.ensures (c.are_same_objects.ensures right same))
+    let fields = c.as_slice-in-Input.result.now in
+    let others = c.as_slice-in-Input-2.result.now in
+    same_objects_at e (shape_tree c.args.shape.now) c.args.value.now c.args.other.now c.in-Object.fields c.in-Object-other.others fields others c.in-Object.is c.as_slice-in-Input.ensures.value c.in-Object-other.is c.as_slice-in-Input-2.ensures.value
+    (subst (λ n. AreSameObjects e n fields others) c.innermost-in-Input.ensures (c.are_same_objects.ensures right same))
 
 pub are_same_objects-returns-in-Some : goal.are_same_objects-returns-in-Some
 are_same_objects-returns-in-Some t c = λ right same.

@@ -3,7 +3,7 @@ use Rattle.input_values.specs.values.Coerced.{coerced_tree}
 use Rattle.input_values.specs.inputs.Shapes.{shape_tree}
 use Rattle.literal_loads.specs.KnownInputs.{scale_of}
 use Rattle.literal_loads.proofs.WrittenPlaces.{same_by_likeness, same_by_value}
-use Rattle.literal_loads.proofs.weighing.Weighing.are_same_leaves.Goals as goal
+use Rattle.literal_loads.proofs.weighing.Weighing.are_same_built.Goals as goal
 
 pub returns-then-same_variable : goal.returns-then-same_variable
 returns-then-same_variable c = λ same. same_by_likeness (scale_of c.args.self.now) (shape_tree c.args.shape.now) c.args.literal.now c.args.other.now (c.if-same_variable.ensures refl)
