@@ -37,6 +37,8 @@ pub struct Loads<'p> {
     pub(crate) great: Vec<bool>,
     /// Whether one of them is.
     pub(crate) some_great: bool,
+    /// The fields that were asked for, by numbers. Nothing rests on it.
+    pub(crate) asked: HashMap<u64, usize>,
 }
 
 /// Nothing was found.
@@ -52,6 +54,7 @@ pub fn no_loads<'p>(alloc: Global, of: Weighing<'p>) -> Loads<'p>
         held_places: HashMap::new(alloc),
         great: Vec::new(alloc),
         some_great: false,
+        asked: HashMap::new(alloc),
     }
 }
 

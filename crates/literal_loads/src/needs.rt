@@ -13,6 +13,9 @@ use input_values::{Shape, value_of};
 use schema_model::{FieldId, Kind};
 use std::alloc::{AllocError, Global};
 
+/// So few arguments are built sooner than the inputs of a field are learned.
+const SHORT: usize = 8;
+
 /// So many values of variables are held at most.
 const HELD: usize = 20_000;
 
@@ -203,7 +206,41 @@ impl<'p> Loads<'p> {
         }
     }
 
-    /// What the arguments of a field cost as they are written; none where one is refused, or where that isn't known.
+    /// Whether arguments are few, and none of them is a list, an object or a variable whose value is great.
+    fn write_little(&self, written: &[Argument]) -> bool {
+        if written.len() > SHORT {
+            return false;
+        }
+        for argument in written {
+            match &argument.value {
+                Value::List(_) => return false,
+                Value::Object(_) => return false,
+                Value::Var(name) => {
+                    if self.has_great_value(name.text.as_str()) {
+                        return false;
+                    }
+                }
+                _ => {}
+            }
+        }
+        true
+    }
+
+    /// Whether a field is asked for the first time.
+    fn is_first(&mut self, of: FieldId) -> Result<bool, AllocError>
+        ensures of { self.new.of ≡ self.old.of }
+        ensures right { AreRight self.old → AreRight self.new }
+    {
+        let number = owner_number(Owner::OfField(of));
+        if self.asked.contains_key(&number) {
+            return Ok(false);
+        }
+        self.asked.insert(number, 0)?;
+        Ok(true)
+    }
+
+    /// What the arguments of a field cost as they are written; none where one is refused, or where that isn't known. Where little is
+    /// written the first time that a field is asked for, nothing is told: what is called once isn't learned.
     pub fn cost_of(
         &mut self,
         alloc: Global,
@@ -214,6 +251,10 @@ impl<'p> Loads<'p> {
         ensures right { AreRight self.old → AreRight self.new }
         ensures cost { AreRight self.old → IfOk result (λ found. IfSome found (HasWeighed (scale_of self.old.of) of.number written.now)) }
     {
+        self.measure()?;
+        if self.write_little(written) && self.is_first(of)? {
+            return Ok(None);
+        }
         self.learn_inputs(alloc, Owner::OfField(of), written)?;
         Ok(self.cost_known(alloc, of, written))
     }

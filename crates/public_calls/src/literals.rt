@@ -167,6 +167,8 @@ fn both_costs(
 ) -> Result<(Option<u64>, Option<u64>), Fail> {
     let written = field.arguments.as_slice();
     let mut loads = no_loads(alloc, weighing_of(schema, weights, variables));
+    // The first time it may tell nothing, where little is written.
+    let _ = loads.cost_of(alloc, of, written)?;
     let found = loads.cost_of(alloc, of, written)?;
     match coerce_arguments(alloc, schema, of, written, variables) {
         Ok(args) => Ok((found, Some(weights.argument_cost(of, &args)))),
