@@ -4,6 +4,8 @@ pub mod MakingSteps
 pub mod Listed
 pub mod ShownByNumbers
 pub mod Arguments
+pub mod Placed
+pub mod PlacesListed
 pub mod TurnedLists
 pub mod PossibleSteps
 pub mod SharedParts

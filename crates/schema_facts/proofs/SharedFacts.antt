@@ -35,7 +35,7 @@ definitions_send : IsSend (vec.the_field definition_row heap.the_row ghosts).row
 definitions_send = search (sendable, crosses, definition_send) depth 40
 
 pub facts_field_send : IsSend (the_field).row
-facts_field_send = struct_send (shape the_type) (description_send, (indexed.the_field_send known_row names known_send, (lists_send, (lists_send, (name_send, (number_send, (maybe_send, (maybe_send, (definitions_send, tt)))))))))
+facts_field_send = struct_send (shape the_type) (description_send, (indexed.the_field_send known_row names known_send, (lists_send, (lists_send, (lists_send, (name_send, (number_send, (maybe_send, (maybe_send, (definitions_send, tt))))))))))
 
 pub facts_send : IsSend the_row
 facts_send = recorded_send (the_field).row _ _ (the_type).to_one facts_field_send
@@ -59,7 +59,7 @@ definitions_sync : IsSync (vec.the_field definition_row heap.the_row ghosts).row
 definitions_sync = search (sendable, crosses, definition_sync) depth 40
 
 pub facts_field_sync : IsSync (the_field).row
-facts_field_sync = struct_sync (shape the_type) (description_sync, (indexed.the_field_sync known_row names known_sync, (lists_sync, (lists_sync, (name_sync, (number_sync, (maybe_sync, (maybe_sync, (definitions_sync, tt)))))))))
+facts_field_sync = struct_sync (shape the_type) (description_sync, (indexed.the_field_sync known_row names known_sync, (lists_sync, (lists_sync, (lists_sync, (name_sync, (number_sync, (maybe_sync, (maybe_sync, (definitions_sync, tt))))))))))
 
 pub facts_sync : IsSync the_row
 facts_sync = recorded_sync (the_field).row _ _ (the_type).to_one facts_field_sync

@@ -1,8 +1,8 @@
 -- What is shown by the numbers of what isn't deprecated is what is shown.
 use Rattle.std.proofs.Common.{◌≡◌, ℕ, suc, ◌+◌, Bool, true, false, List, [], ◌∷◌, map, if◌then◌else◌, Option, Some, None, refl, ap, ap₂, ◌∙◌, arith}
 use Rattle.std.specs.Prelude.{slice_get}
-use Rattle.schema_reader.specs.Schemas.{FieldDefTree, EnumValueTree, BodyTree, schema_body, scalar_body, object_body, interface_body, union_body, enum_body, input_body, directive_body, DefinitionTree}
-use Rattle.schema_facts.specs.Facts.{KnownTree, built_in, defined, FactsData, definition_body, numbers_from}
+use Rattle.schema_reader.specs.Schemas.{FieldDefTree, EnumValueTree, BodyTree, schema_body, scalar_body, object_body, interface_body, union_body, enum_body, input_body, directive_body}
+use Rattle.schema_facts.specs.Facts.{KnownTree, built_in, defined, definition_body, numbers_from}
 use Rattle.schema_facts.specs.Things.{ThingData, a_field, an_enum_value, many}
 use Rattle.schema_facts.specs.Table.{shown_fields, shown_values, fields_in, values_in, in_body, definition_in}
 use Rattle.schema_facts.specs.Making.{list_of}

@@ -1,6 +1,6 @@
 -- What the directives `@deprecated` and `@specifiedBy` say (GraphQL October 2021, 3.13.3 and 3.13.4). Of repeated directives
 -- and arguments the first counts.
-use Rattle.std.specs.Prelude.{ℕ, Bool, List, [], ◌∷◌, Option, None, Some, is_some, codes, if◌then◌else◌}
+use Rattle.std.specs.Prelude.{ℕ, ◌+◌, Bool, List, [], ◌∷◌, Option, None, Some, is_some, codes, if◌then◌else◌}
 use Rattle.std.specs.Str.{bytes_eq}
 use Rattle.gql_base.specs.parts.Values.{ValueTree, NamedValue, variable_value, integer_value, string_value, boolean_value, null_value, enum_value, list_value, object_value}
 use Rattle.gql_base.specs.parts.Arguments.{DirectiveTree}
@@ -10,6 +10,18 @@ use Rattle.schema_rules.specs.First.{or_else}
 abbrev pub arguments_of : List ℕ → List DirectiveTree → Option (List NamedValue)
 arguments_of name [] = None
 arguments_of name (d ∷ directives) = if bytes_eq d.0.0 name then Some d.1 else arguments_of name directives
+
+-- the place of the first directive of this name where the first of all has the place n, or that behind the last where none has it
+abbrev pub place_from : ℕ → List ℕ → List DirectiveTree → ℕ
+place_from n name [] = n
+place_from n name (d ∷ directives) = if bytes_eq d.0.0 name then n else place_from (n + 1) name directives
+
+abbrev pub place_of : List ℕ → List DirectiveTree → ℕ
+place_of name directives = place_from 0 name directives
+
+abbrev pub arguments_in : Option DirectiveTree → Option (List NamedValue)
+arguments_in None = None
+arguments_in (Some d) = Some d.1
 
 abbrev pub value_if : List ℕ → NamedValue → Option ValueTree
 value_if name a = if bytes_eq a.0.0 name then Some a.1 else None

@@ -8,5 +8,6 @@ pub mod Table
 -- what serves proofs
 pub mod Making
 pub mod Shown
+pub mod Places
 pub mod Turning
 pub mod Possible

@@ -5,6 +5,7 @@ use Rattle.schema_reader.specs.Schemas.{DefinitionTree}
 use Rattle.schema_rules.specs.Items.{items_of}
 use Rattle.schema_facts.specs.declared.making.Told.{Told}
 use Rattle.schema_facts.specs.Facts.{KnownTree, FactsData, root_in, is_mentioned, possible_types}
+use Rattle.schema_facts.specs.Places.{places_of}
 use Rattle.schema_facts.specs.Shown.{shown_of}
 
 pub record IsTold (text : List DefinitionTree) (told : Told) : Type 0 where
@@ -25,3 +26,7 @@ listed f number = list_of (possible_types f.types) (slice_get f.types number)
 -- the numbers of what isn't deprecated of the type of a number
 abbrev pub shown_at : FactsData → ℕ → List ℕ
 shown_at f number = list_of shown_of (slice_get f.types number)
+
+-- the places that are held of the type of a number
+abbrev pub places_at : FactsData → ℕ → List ℕ
+places_at f number = list_of places_of (slice_get f.types number)

@@ -1,15 +1,17 @@
 //! The fields of types that tell what stands in the bodies of their definitions.
 
-ghost use Rattle.std.specs.Prelude.{◌≡◌, ◌++◌, [], IfOk, map, option_map, Some, None, slice_get};
+ghost use Rattle.std.specs.Prelude.{◌≡◌, ◌<◌, ◌++◌, [], IfOk, get_or, length, map, option_map, Some, None, slice_get};
 ghost use Rattle.schema_reader.specs.Trees.{definition_tree, field_tree, input_tree, enum_value_tree, body_tree};
 ghost use Rattle.schema_facts.specs.Facts.{number_named, possible_types};
 ghost use Rattle.schema_facts.specs.FactsViews.{facts_data};
 ghost use Rattle.schema_facts.specs.Things.{thing_data, held_data, a_type, an_input, a_field, an_enum_value};
 ghost use Rattle.schema_facts.specs.Table.{kind, kind_word, of_body, in_body, fields_in, interfaces_in, values_in, inputs_in, specified_by, url_in, definition_at, possible, possible_at, kind_of_type};
-ghost use Rattle.schema_facts.specs.Making.{listed, shown_at};
+ghost use Rattle.schema_facts.specs.Making.{listed, places_at, shown_at};
+ghost use Rattle.schema_facts.specs.Places.{field_place, value_place, places_in};
 ghost use Rattle.schema_facts.specs.Shown.{shown_by, picked, fields_by, values_by};
 
-use crate::deprecations::url_of;
+use crate::deprecable::{FieldThing, ValueThing};
+use crate::deprecations::url_at;
 use crate::facts::SchemaFacts;
 use crate::held::{Held, maybe_word, word};
 use crate::things::{Thing, number_named};
@@ -62,33 +64,65 @@ fn shown_at(facts: &SchemaFacts, number: usize) -> &[usize]
     }
 }
 
-fn every_field<'f>(alloc: Global, fields: &'f [FieldDef]) -> Result<Vec<Thing<'f>>, AllocError>
+// The places of directives that are held of the type of a number.
+fn places_at(facts: &SchemaFacts, number: usize) -> &[usize]
+    ensures { result.now ≡ places_at (facts_data facts.now) number }
+{
+    match facts.places.get(number) {
+        Some(places) => places,
+        None => &[],
+    }
+}
+
+fn field_thing<'f>(fields: &'f [FieldDef], places: &[usize], number: usize) -> FieldThing<'f>
+    requires within { number < length fields.now }
+    requires found { places.now ≡ map field_place (map field_tree fields.now) }
+    ensures { result.of.now ≡ get_or fields.now number result.of.now }
+{
+    FieldThing {
+        of: &fields[number],
+        place: places[number],
+    }
+}
+
+fn field_at<'f>(fields: &'f [FieldDef], places: &[usize], number: usize) -> Option<FieldThing<'f>>
+    requires { places.now ≡ map field_place (map field_tree fields.now) }
+    ensures { option_map (λ d. field_tree d.of.now) result ≡ slice_get (map field_tree fields.now) number }
+{
+    if number < fields.len() {
+        Some(field_thing(fields, places, number))
+    } else {
+        None
+    }
+}
+
+fn every_field<'f>(
+    alloc: Global,
+    places: &[usize],
+    fields: &'f [FieldDef],
+) -> Result<Vec<Thing<'f>>, AllocError>
+    requires { places.now ≡ map field_place (map field_tree fields.now) }
     ensures { IfOk result (λ things. map thing_data things.items ≡ map a_field (map field_tree fields.now)) }
 {
     let mut things = Vec::new(alloc);
-    'fields: for field in fields {
-        things.push(Thing::Field(field))?;
+    'fields: for number in 0..fields.len() {
+        things.push(Thing::Field(field_thing(fields, places, number)))?;
     }
     Ok(things)
 }
 
-#[tactic(auto, using(crate::proofs::Lists::gotten))]
-fn field_at<'f>(fields: &'f [FieldDef], number: usize) -> Option<&'f FieldDef>
-    ensures { option_map (λ d. field_tree d.now) result ≡ slice_get (map field_tree fields.now) number }
-{
-    fields.get(number)
-}
-
 fn picked_fields<'f>(
     alloc: Global,
-    fields: &'f [FieldDef],
     numbers: &[usize],
+    places: &[usize],
+    fields: &'f [FieldDef],
 ) -> Result<Vec<Thing<'f>>, AllocError>
+    requires { places.now ≡ map field_place (map field_tree fields.now) }
     ensures { IfOk result (λ things. map thing_data things.items ≡ picked a_field (map field_tree fields.now) numbers.now) }
 {
     let mut things = Vec::new(alloc);
     'numbers: for number in numbers {
-        if let Some(field) = field_at(fields, *number) {
+        if let Some(field) = field_at(fields, places, *number) {
             things.push(Thing::Field(field))?;
         }
     }
@@ -100,14 +134,16 @@ fn fields_by<'f>(
     alloc: Global,
     all: bool,
     numbers: &[usize],
+    places: &[usize],
     fields: &'f [FieldDef],
 ) -> Result<Vec<Thing<'f>>, AllocError>
+    requires { places.now ≡ map field_place (map field_tree fields.now) }
     ensures { IfOk result (λ things. map thing_data things.items ≡ shown_by a_field all numbers.now (map field_tree fields.now)) }
 {
     if all {
-        every_field(alloc, fields)
+        every_field(alloc, places, fields)
     } else {
-        picked_fields(alloc, fields, numbers)
+        picked_fields(alloc, numbers, places, fields)
     }
 }
 
@@ -115,17 +151,19 @@ fn fields_in<'f>(
     alloc: Global,
     all: bool,
     numbers: &[usize],
+    places: &[usize],
     definition: Option<&'f SchemaDef>,
 ) -> Result<Held<'f>, AllocError>
+    requires { places.now ≡ places_in (option_map (λ d. definition_tree d.now) definition) }
     ensures { IfOk result (λ found. held_data found ≡ in_body (fields_by all numbers.now) (option_map (λ d. definition_tree d.now) definition.entry)) }
 {
     match definition {
         Some(definition) => match &definition.body {
             DefBody::Object { fields, .. } => {
-                Ok(Held::Many(fields_by(alloc, all, numbers, fields)?))
+                Ok(Held::Many(fields_by(alloc, all, numbers, places, fields)?))
             }
             DefBody::Interface { fields, .. } => {
-                Ok(Held::Many(fields_by(alloc, all, numbers, fields)?))
+                Ok(Held::Many(fields_by(alloc, all, numbers, places, fields)?))
             }
             _ => Ok(Held::Nothing),
         },
@@ -143,7 +181,8 @@ fn fields_at<'f>(
     ensures { IfOk result (λ found. held_data found ≡ in_body (fields_in all) (definition_at (facts_data facts.now) number)) }
 {
     let numbers = shown_at(facts, number);
-    fields_in(alloc, all, numbers, definition_at(facts, number))
+    let places = places_at(facts, number);
+    fields_in(alloc, all, numbers, places, definition_at(facts, number))
 }
 
 pub fn fields<'f>(
@@ -257,33 +296,59 @@ pub fn possible<'f>(
     }
 }
 
-fn every_value<'f>(alloc: Global, values: &'f [EnumValueDef]) -> Result<Vec<Thing<'f>>, AllocError>
+fn value_thing<'f>(values: &'f [EnumValueDef], places: &[usize], number: usize) -> ValueThing<'f>
+    requires within { number < length values.now }
+    requires found { places.now ≡ map value_place (map enum_value_tree values.now) }
+    ensures { result.of.now ≡ get_or values.now number result.of.now }
+{
+    ValueThing {
+        of: &values[number],
+        place: places[number],
+    }
+}
+
+fn value_at<'f>(
+    values: &'f [EnumValueDef],
+    places: &[usize],
+    number: usize,
+) -> Option<ValueThing<'f>>
+    requires { places.now ≡ map value_place (map enum_value_tree values.now) }
+    ensures { option_map (λ d. enum_value_tree d.of.now) result ≡ slice_get (map enum_value_tree values.now) number }
+{
+    if number < values.len() {
+        Some(value_thing(values, places, number))
+    } else {
+        None
+    }
+}
+
+fn every_value<'f>(
+    alloc: Global,
+    places: &[usize],
+    values: &'f [EnumValueDef],
+) -> Result<Vec<Thing<'f>>, AllocError>
+    requires { places.now ≡ map value_place (map enum_value_tree values.now) }
     ensures { IfOk result (λ things. map thing_data things.items ≡ map an_enum_value (map enum_value_tree values.now)) }
 {
     let mut things = Vec::new(alloc);
-    'values: for value in values {
-        things.push(Thing::EnumValue(value))?;
+    'values: for number in 0..values.len() {
+        things.push(Thing::EnumValue(value_thing(values, places, number)))?;
     }
     Ok(things)
 }
 
-#[tactic(auto, using(crate::proofs::Lists::gotten))]
-fn value_at<'f>(values: &'f [EnumValueDef], number: usize) -> Option<&'f EnumValueDef>
-    ensures { option_map (λ d. enum_value_tree d.now) result ≡ slice_get (map enum_value_tree values.now) number }
-{
-    values.get(number)
-}
-
 fn picked_values<'f>(
     alloc: Global,
-    values: &'f [EnumValueDef],
     numbers: &[usize],
+    places: &[usize],
+    values: &'f [EnumValueDef],
 ) -> Result<Vec<Thing<'f>>, AllocError>
+    requires { places.now ≡ map value_place (map enum_value_tree values.now) }
     ensures { IfOk result (λ things. map thing_data things.items ≡ picked an_enum_value (map enum_value_tree values.now) numbers.now) }
 {
     let mut things = Vec::new(alloc);
     'numbers: for number in numbers {
-        if let Some(value) = value_at(values, *number) {
+        if let Some(value) = value_at(values, places, *number) {
             things.push(Thing::EnumValue(value))?;
         }
     }
@@ -295,14 +360,16 @@ fn values_by<'f>(
     alloc: Global,
     all: bool,
     numbers: &[usize],
+    places: &[usize],
     values: &'f [EnumValueDef],
 ) -> Result<Vec<Thing<'f>>, AllocError>
+    requires { places.now ≡ map value_place (map enum_value_tree values.now) }
     ensures { IfOk result (λ things. map thing_data things.items ≡ shown_by an_enum_value all numbers.now (map enum_value_tree values.now)) }
 {
     if all {
-        every_value(alloc, values)
+        every_value(alloc, places, values)
     } else {
-        picked_values(alloc, values, numbers)
+        picked_values(alloc, numbers, places, values)
     }
 }
 
@@ -310,13 +377,17 @@ fn values_in<'f>(
     alloc: Global,
     all: bool,
     numbers: &[usize],
+    places: &[usize],
     definition: Option<&'f SchemaDef>,
 ) -> Result<Held<'f>, AllocError>
+    requires { places.now ≡ places_in (option_map (λ d. definition_tree d.now) definition) }
     ensures { IfOk result (λ found. held_data found ≡ in_body (values_by all numbers.now) (option_map (λ d. definition_tree d.now) definition.entry)) }
 {
     match definition {
         Some(definition) => match &definition.body {
-            DefBody::Enum(values) => Ok(Held::Many(values_by(alloc, all, numbers, values)?)),
+            DefBody::Enum(values) => {
+                Ok(Held::Many(values_by(alloc, all, numbers, places, values)?))
+            }
             _ => Ok(Held::Nothing),
         },
         None => Ok(Held::Nothing),
@@ -333,7 +404,8 @@ fn values_at<'f>(
     ensures { IfOk result (λ found. held_data found ≡ in_body (values_in all) (definition_at (facts_data facts.now) number)) }
 {
     let numbers = shown_at(facts, number);
-    values_in(alloc, all, numbers, definition_at(facts, number))
+    let places = places_at(facts, number);
+    values_in(alloc, all, numbers, places, definition_at(facts, number))
 }
 
 pub fn enum_values<'f>(
@@ -386,12 +458,14 @@ pub fn input_fields<'f>(
     }
 }
 
-fn url_in<'f>(definition: Option<&'f SchemaDef>) -> Held<'f>
+// What a scalar says, of whose `@specifiedBy` the place is held first.
+fn url_in<'f>(places: &[usize], definition: Option<&'f SchemaDef>) -> Held<'f>
+    requires { places.now ≡ places_in (option_map (λ d. definition_tree d.now) definition) }
     ensures { held_data result ≡ url_in (option_map (λ d. definition_tree d.now) definition.entry) }
 {
     match definition {
         Some(definition) => match &definition.body {
-            DefBody::Scalar => maybe_word(url_of(&definition.directives)),
+            DefBody::Scalar => maybe_word(url_at(&definition.directives, places[0])),
             _ => Held::Nothing,
         },
         None => Held::Nothing,
@@ -402,7 +476,7 @@ pub fn specified_by<'f>(facts: &'f SchemaFacts, of: Thing<'f>) -> Held<'f>
     ensures { held_data result ≡ specified_by (facts_data facts.now) (thing_data of.entry) }
 {
     match of {
-        Thing::TypeAt(number) => url_in(definition_at(facts, number)),
+        Thing::TypeAt(number) => url_in(places_at(facts, number), definition_at(facts, number)),
         _ => Held::Nothing,
     }
 }

@@ -1,6 +1,7 @@
 //! What is known of a schema.
 
 ghost use Rattle.schema_facts.specs.Facts.{KnowsPossible};
+ghost use Rattle.schema_facts.specs.Places.{KnowsPlaces};
 ghost use Rattle.schema_facts.specs.Shown.{KnowsShown};
 
 use crate::known::KnownType;
@@ -16,6 +17,8 @@ pub struct SchemaFacts {
     pub(crate) possible: Vec<Vec<usize>>,
     /// The numbers of the fields or values of each type that aren't deprecated.
     pub(crate) shown: Vec<Vec<usize>>,
+    /// Of each type the places of `@deprecated` at its fields or values, or that of `@specifiedBy` at a scalar.
+    pub(crate) places: Vec<Vec<usize>>,
     /// The name of the type of queries.
     pub(crate) query_name: Text,
     pub(crate) query: usize,
@@ -24,4 +27,5 @@ pub struct SchemaFacts {
     pub(crate) directives: Vec<SchemaDef>,
     ghost knows: { KnowsPossible possible.items types.items.items },
     ghost shows: { KnowsShown shown.items types.items.items },
+    ghost finds: { KnowsPlaces places.items types.items.items },
 }

@@ -2,6 +2,7 @@
 #![tactic(auto)]
 
 mod bodies;
+mod deprecable;
 mod deprecations;
 mod directives;
 mod facts;
@@ -10,6 +11,7 @@ mod known;
 mod making;
 mod members;
 mod meta_schema;
+mod places;
 mod possible;
 mod scalars;
 mod sharing;

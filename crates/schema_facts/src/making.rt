@@ -12,6 +12,7 @@ use crate::directives::add_not_defined;
 use crate::facts::SchemaFacts;
 use crate::known::KnownType;
 use crate::meta_schema::{built_in_directives, meta_text};
+use crate::places::all_places;
 use crate::possible::all_possible;
 use crate::scalars::{add_scalar, is_mentioned};
 use crate::shown::all_shown;
@@ -129,6 +130,7 @@ fn facts_with(
     let types = index_owned(alloc, types)?;
     let possible = all_possible(alloc, &types)?;
     let shown = all_shown(alloc, types.items())?;
+    let places = all_places(alloc, types.items())?;
     let query_name = Text::copy_of(alloc, or_empty(&told.query))?;
     Ok(SchemaFacts {
         description,
@@ -139,6 +141,7 @@ fn facts_with(
         types,
         possible,
         shown,
+        places,
         directives,
     })
 }

@@ -11,7 +11,7 @@ ghost use Rattle.schema_facts.specs.Things.{thing_data, held_data};
 ghost use Rattle.schema_facts.specs.Table.{described, name_of_type, of_type, directive_arguments, type_of, is_location, location_words, locations_in, repeatable_in, maybe_default, description, reason, locations, name, repeatable, default_of, arguments, type_system_locations, deprecated, executable_locations};
 
 use crate::bodies::inputs;
-use crate::deprecations::{is_deprecated, reason_of};
+use crate::deprecations::{is_deprecated_at, reason_at};
 use crate::facts::SchemaFacts;
 use crate::held::{Held, described, maybe_word, word};
 use crate::known::KnownType;
@@ -36,9 +36,9 @@ pub fn description<'f>(facts: &'f SchemaFacts, of: Thing<'f>) -> Held<'f>
     match of {
         Thing::Schema => described(&facts.description),
         Thing::TypeAt(number) => described_type(definition_at(facts, number)),
-        Thing::Field(field) => described(&field.description),
+        Thing::Field(field) => described(&field.of.description),
         Thing::Input(input) => described(&input.description),
-        Thing::EnumValue(value) => described(&value.description),
+        Thing::EnumValue(value) => described(&value.of.description),
         Thing::Directive(directive) => described(&directive.description),
         _ => Held::Nothing,
     }
@@ -58,9 +58,9 @@ pub fn name<'f>(facts: &'f SchemaFacts, of: Thing<'f>) -> Held<'f>
 {
     match of {
         Thing::TypeAt(number) => name_of_type(known_at(facts, number)),
-        Thing::Field(field) => word(field.name.as_str()),
+        Thing::Field(field) => word(field.of.name.as_str()),
         Thing::Input(input) => word(input.name.as_str()),
-        Thing::EnumValue(value) => word(value.name.as_str()),
+        Thing::EnumValue(value) => word(value.of.name.as_str()),
         Thing::Directive(directive) => word(directive.name.as_str()),
         _ => Held::Nothing,
     }
@@ -89,7 +89,7 @@ pub fn arguments<'f>(alloc: Global, of: Thing<'f>) -> Result<Held<'f>, AllocErro
     ensures { IfOk result (λ found. held_data found ≡ arguments (thing_data of.entry)) }
 {
     match of {
-        Thing::Field(field) => Ok(Held::Many(inputs(alloc, &field.arguments)?)),
+        Thing::Field(field) => Ok(Held::Many(inputs(alloc, &field.of.arguments)?)),
         Thing::Directive(directive) => {
             Ok(Held::Many(inputs(alloc, directive_arguments(&directive.body))?))
         }
@@ -101,7 +101,7 @@ pub fn field_type<'f>(facts: &'f SchemaFacts, of: Thing<'f>) -> Held<'f>
     ensures { held_data result ≡ type_of (facts_data facts.now) (thing_data of.entry) }
 {
     match of {
-        Thing::Field(field) => Held::One(type_thing(facts, &field.of)),
+        Thing::Field(field) => Held::One(type_thing(facts, &field.of.of)),
         Thing::Input(input) => Held::One(type_thing(facts, &input.of)),
         _ => Held::Nothing,
     }
@@ -111,8 +111,12 @@ pub fn deprecated<'f>(of: Thing<'f>) -> Held<'f>
     ensures { held_data result ≡ deprecated (thing_data of.entry) }
 {
     match of {
-        Thing::Field(field) => Held::One(Thing::Flag(is_deprecated(&field.directives))),
-        Thing::EnumValue(value) => Held::One(Thing::Flag(is_deprecated(&value.directives))),
+        Thing::Field(field) => {
+            Held::One(Thing::Flag(is_deprecated_at(&field.of.directives, field.place)))
+        }
+        Thing::EnumValue(value) => {
+            Held::One(Thing::Flag(is_deprecated_at(&value.of.directives, value.place)))
+        }
         _ => Held::Nothing,
     }
 }
@@ -121,8 +125,8 @@ pub fn reason<'f>(of: Thing<'f>) -> Held<'f>
     ensures { held_data result ≡ reason (thing_data of.entry) }
 {
     match of {
-        Thing::Field(field) => maybe_word(reason_of(&field.directives)),
-        Thing::EnumValue(value) => maybe_word(reason_of(&value.directives)),
+        Thing::Field(field) => maybe_word(reason_at(&field.of.directives, field.place)),
+        Thing::EnumValue(value) => maybe_word(reason_at(&value.of.directives, value.place)),
         _ => Held::Nothing,
     }
 }

@@ -6,10 +6,11 @@ ghost use Rattle.schema_facts.specs.Facts.{number_named};
 ghost use Rattle.schema_facts.specs.FactsViews.{facts_data};
 ghost use Rattle.schema_facts.specs.Things.{thing_data, type_thing};
 
+use crate::deprecable::{FieldThing, ValueThing};
 use crate::facts::SchemaFacts;
 use crate::types::number_in;
 use gql_base::{TypeRef, Value};
-use schema_reader::{EnumValueDef, FieldDef, InputValue, SchemaDef};
+use schema_reader::{InputValue, SchemaDef};
 
 /// A thing of a schema: what stands where the schema of schemas has an object or a leaf.
 #[derive(Clone, Copy)]
@@ -22,9 +23,9 @@ pub enum Thing<'f> {
     /// The list type, and the non-null type, of a type.
     ListOf(&'f TypeRef),
     NonNull(&'f TypeRef),
-    Field(&'f FieldDef),
+    Field(FieldThing<'f>),
     Input(&'f InputValue),
-    EnumValue(&'f EnumValueDef),
+    EnumValue(ValueThing<'f>),
     Directive(&'f SchemaDef),
     Word(&'f str),
     Flag(bool),

@@ -4,4 +4,4 @@ use Rattle.schema_facts.specs.Things.{thing_data, a_field}
 use Rattle.schema_facts.proofs.bodies.every_field.Given as goal
 
 abbrev pub invariant-fields : goal.invariant-fields
-invariant-fields l = map thing_data l.things.items ++ map a_field (map field_tree (drop l.field-index l.fields)) ≡ map a_field (map field_tree l.fields)
+invariant-fields l = map thing_data l.things.items ++ map a_field (map field_tree (drop l.number l.fields)) ≡ map a_field (map field_tree l.fields)

@@ -4,4 +4,4 @@ use Rattle.schema_facts.specs.Things.{thing_data, an_enum_value}
 use Rattle.schema_facts.proofs.bodies.every_value.Given as goal
 
 abbrev pub invariant-values : goal.invariant-values
-invariant-values l = map thing_data l.things.items ++ map an_enum_value (map enum_value_tree (drop l.value-index l.values)) ≡ map an_enum_value (map enum_value_tree l.values)
+invariant-values l = map thing_data l.things.items ++ map an_enum_value (map enum_value_tree (drop l.number l.values)) ≡ map an_enum_value (map enum_value_tree l.values)
