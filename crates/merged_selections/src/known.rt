@@ -15,6 +15,7 @@ use crate::lookups::Handed;
 use crate::node::{Looked, look};
 use crate::written::are_more;
 use collected_fields::{Collected, Group, Planning, asks};
+use gql_base::Text;
 use input_values::TypeId;
 use schema_model::Schema;
 use std::alloc::{AllocError, Global};
@@ -26,6 +27,9 @@ const MANY: usize = 32;
 
 /// Arguments that write more values than so many are great.
 const GREAT: usize = 64;
+
+/// To compare longer lists of names takes as long as to look at nodes again.
+const SHORT: usize = 64;
 
 /// All groups that are kept have no more numbers below them than this.
 const ROOM: usize = 1_000_000;
@@ -231,10 +235,16 @@ fn looked_at<'a>(
     Ok(found)
 }
 
+fn are_one_list(names: &[Text], others: &[Text]) -> bool
+    ensures { IsTrue result → names.now ≡ others.now }
+{
+    names.len() <= SHORT && names == others
+}
+
 fn is_one_handed(handed: Handed<'_>, other: Handed<'_>) -> bool
     ensures { IsTrue result → one_handed handed.entry ≡ one_handed other.entry }
 {
-    handed.size == other.size && handed.sized == other.sized
+    handed.size == other.size && are_one_list(handed.sized, other.sized)
 }
 
 /// Whether two sizes that are handed down are the same.

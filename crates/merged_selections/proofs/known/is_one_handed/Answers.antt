@@ -1,5 +1,4 @@
 use Rattle.std.proofs.Common.{◌≡◌, refl, subst}
-use Rattle.std.proofs.lemmas.Slice.Eq.{slice_eq-Decides, bytes_eq-Decides}
 use Rattle.merged_selections.proofs.known.is_one_handed.Goals as goal
 
 same_pair : {A B : Type 0} (x y : A) (m n : B) → x ≡ y → m ≡ n → ◌≡◌ {A = A × B} (x, m) (y, n)
@@ -7,4 +6,4 @@ same_pair {A} {B} x y m n first second = subst (λ (b : B). ◌≡◌ {A = A × 
 
 pub returns-then-handed-other : goal.returns-then-handed-other
 returns-then-handed-other c = λ same. same_pair c.args.handed.sized.now c.args.other.sized.now c.args.handed.size c.args.other.size
-    ((slice_eq-Decides bytes_eq-Decides c.args.handed.sized.now c.args.other.sized.now c.eq.result c.eq.ensures).0 same) c.if-handed-other.true
+    (c.are_one_list.ensures same) c.if-handed-other.true
