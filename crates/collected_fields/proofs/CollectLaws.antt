@@ -1,28 +1,31 @@
 -- What is collected from prepared selection sets.
-use Rattle.std.proofs.Common.{◌≡◌, ◌+◌, ℕ, zero, suc, ◌<◌, List, [], ◌∷◌, ◌++◌, map, filter, flat_map, length, get_or, slice_get, None, Some, refl, sym, ap, ◌∙◌, subst, append-nil, if◌then◌else◌, Bool, true, false, arith}
-use Rattle.std.specs.Prelude.{All}
+use Rattle.std.proofs.Common.{◌≡◌, ◌+◌, ℕ, zero, suc, ◌<◌, List, [], ◌∷◌, ◌++◌, map, filter, flat_map, length, get_or, slice_get, None, Some, refl, sym, ap, ◌∙◌, subst, append-nil, if◌then◌else◌, Bool, true, false, true≢false, Option, arith}
+use Rattle.std.specs.Prelude.{All, not}
 use Rattle.std.proofs.lemmas.Bool.{lt-ltb}
 use Rattle.std.proofs.lemmas.List.{length-map}
 use Rattle.std.proofs.lemmas.List.Elements.{All-head, All-tail, All-cons}
-use Rattle.std.proofs.lemmas.Option.{get_or_from_slice_get, none-some}
+use Rattle.std.proofs.lemmas.Option.{get_or_from_slice_get, none-some, slice_get-map}
 use Rattle.document_reader.specs.Documents.{no_selection}
+use Rattle.document_reader.specs.DocumentReading.{selections_from}
+use Rattle.schema_model.specs.SchemaViews.{schema_data}
 use Rattle.document_rules.proofs.Lists.{map_twice}
 use Rattle.plan_model.specs.SelectedFields.{Setting}
-use Rattle.plan_model.specs.Collecting.{CollectedField, WrittenSelections, collected, collected_to, nesting}
+use Rattle.plan_model.specs.Collecting.{CollectedField, WrittenSelections, fields_written, fields_spread, collected, collected_to, nesting}
 use Rattle.plan_model.specs.Merging.{selections_below, fields_at, keys_from, keys_of}
-use Rattle.plan_model.specs.MergingWalk.{IsAcyclic, AllRanked, FragmentsRanked}
+use Rattle.plan_model.specs.MergingWalk.{IsAcyclic, AreRanked, AllRanked, FragmentsRanked}
 use Rattle.plan_model.specs.Repeats.{LeavesOutRepeats, IsThinned}
 use Rattle.collected_fields.specs.declared.collector.Collector.{Collector}
 use Rattle.collected_fields.specs.Views.{fragment_seen}
-use Rattle.collected_fields.specs.Gathering.{IsReady, setting_at, written_at, sets_at, meaning_at, IsNumber, position_at, ComesTo, ComesToAt, HasOne, IsReadyCollector, AreFoundAt, LeavesOutFieldless}
+use Rattle.collected_fields.specs.Gathering.{IsReady, setting_at, written_at, sets_at, meaning_at, IsNumber, position_at, ComesTo, ComesToAt, HasOne, IsReadyCollector, AreComeTo, AreFoundAt, LeavesOutFieldless}
 use Rattle.collected_fields.specs.Prepared.{ListData, EntryData, list_data, entry_data, written_of, IsListed, AreSound}
 use Rattle.collected_fields.specs.Lists.{lists_of_joins}
 use Rattle.collected_fields.specs.declared.reach.Reach.{Reach}
-use Rattle.collected_fields.specs.Reached.{reaches}
-use Rattle.collected_fields.specs.Reaching.{SetsCollectNothing, AreAllReached, ReachesNumbers}
+use Rattle.collected_fields.specs.declared.reaching.Reaches.{Reaches}
+use Rattle.collected_fields.specs.Reached.{IsObjectType, reaches, found_of, is_missed}
+use Rattle.collected_fields.specs.Reaching.{steps_listed, CollectNothing, SetsCollectNothing, AreReachedFor, AreAllReached, ReachesNumbers}
 use Rattle.collected_fields.specs.Serving.{sets_of, Serve}
-use Rattle.collected_fields.specs.Walks.{NumberedField, WalkData, IsBlank, numbered_by_key, found_in, known_for, steps_at, walk_numbers}
-use Rattle.collected_fields.proofs.WalkLaws.{walked_numbers}
+use Rattle.collected_fields.specs.Walks.{NumberedField, WalkData, IsBlank, numbered_by_key, found_in, known_for, steps_at, steps_unless, walk_numbers, numbers_in}
+use Rattle.collected_fields.proofs.WalkLaws.{seen_as, walked_numbers}
 use Rattle.collected_fields.proofs.JoinLaws.{new_set}
 use Rattle.collected_fields.proofs.ReachingLaws.{numbers_walked}
 use Rattle.collected_fields.proofs.ServingLaws.{serve_none, serve_joined, serve_one}
@@ -132,21 +135,6 @@ module _ (c : Collector) (T : ℕ) (ready : IsReadyCollector c) where
         let found : ComesTo c T (number ∷ []) fields = (ready.kept T number fields (known_found number fields h)).1 (record { rank = rank; fragments = ranks; spreads = subst (λ ws. AllRanked rank (nesting e) ws) (sym same) r }) in
         (found.come.left, (subst (λ ws. LeavesOutRepeats (collected_to e T (nesting e) ws) found.come.left) same found.come.repeats, record { served = found.come.served; known = found.known }))
 
-  walk_of : List ℕ → WalkData → WalkData
-  walk_of numbers w = walk_numbers e.schema T (steps_at (lists_of c)) (known_for c.kept T) (entries_of c) (sets_at c) (nesting e) numbers w
-
-  walk_comes : (numbers : List ℕ) (w : WalkData) → IsBlank w → ComesToAt c T numbers (walk_of numbers w).fields
-  unfolding collected walk_of
-  walk_comes numbers w blank acyclic =
-      let same = written_numbers c numbers in
-      let found = walked_numbers acyclic.rank e T acyclic.fragments (lists_of c) (entries_of c) ready.sound (nesting e) Serves none_served both_served one_served (known_for c.kept T)
-      (λ number l there. known_rightly acyclic.rank acyclic.fragments number (number ∷ []) (sets_of_listed c ready number (subst (λ n. number < n) (length-map c.tables.lists.items list_data) (within (lists_of c) number l there))))
-      (sets_at c) (λ number. known_rightly acyclic.rank acyclic.fragments number (sets_at c number) refl) numbers w blank (subst (λ ws. AllRanked acyclic.rank (nesting e) ws) same acyclic.spreads) in
-      record {
-        come = record { left = found.0; repeats = subst (λ ws. LeavesOutRepeats (collected_to e T (nesting e) ws) found.0) (sym same) found.1.0; served = found.1.1.served };
-        known = found.1.1.known;
-      }
-
   -- where nothing that is kept is taken
   plain_walk : List ℕ → WalkData → WalkData
   plain_walk numbers w = walk_numbers e.schema T (steps_at (lists_of c)) (λ number. None) (entries_of c) (sets_at c) (nesting e) numbers w
@@ -155,7 +143,7 @@ module _ (c : Collector) (T : ℕ) (ready : IsReadyCollector c) where
   unfolding collected plain_walk
   plain_comes numbers w blank acyclic =
       let same = written_numbers c numbers in
-      let found = walked_numbers acyclic.rank e T acyclic.fragments (lists_of c) (entries_of c) ready.sound (nesting e) Serves none_served both_served one_served (λ number. None)
+      let found = walked_numbers acyclic.rank e T acyclic.fragments (lists_of c) (entries_of c) ready.sound (nesting e) Serves none_served both_served one_served (λ number. None) (λ number. false) (λ number l there h. absurd (true≢false (sym h)))
       (λ number l there fields h r. absurd (none-some fields h)) (sets_at c) (λ number fields h r. absurd (none-some fields h)) numbers w blank (subst (λ ws. AllRanked acyclic.rank (nesting e) ws) same acyclic.spreads) in
       record {
         come = record { left = found.0; repeats = subst (λ ws. LeavesOutRepeats (collected_to e T (nesting e) ws) found.0) (sym same) found.1.0; served = found.1.1.served };
@@ -178,17 +166,67 @@ module _ (c : Collector) (T : ℕ) (ready : IsReadyCollector c) where
       let comes : ComesTo c T numbers [] = subst (λ (fs : List NumberedField). ComesTo c T numbers fs) (numbers_walked c.tables T (sets_at c) (nesting e) numbers blank nothing) (plain_comes numbers blank (λ n. refl, refl) acyclic) in
       left_none (fields_at e T (position_at c numbers)) comes.come.left comes.come.repeats comes.come.served.keys
 
-pub found_at : (c : Collector) (T : ℕ) (numbers : List ℕ) (w v : WalkData) (of_keys : List (List NumberedField)) → IsBlank w
-    → v ≡ walk_numbers (setting_at c).schema T (steps_at (lists_of c)) (known_for c.kept T) (entries_of c) (sets_at c) (length c.tables.planning.fragments.now + 2) numbers w → of_keys ≡ numbered_by_key v.fields → AreFoundAt c T numbers of_keys
+  -- where sets are passed over of which it was found that they have no fields
+  module _ (found : Reaches) (right : AreReachedFor c.tables T found) where
+    abbrev out : ℕ → Bool
+    out = λ number. is_missed (found_of found number) T
+
+    misses_right : (number : ℕ) (o : Option Reach) → found_of found number ≡ o → is_missed o T ≡ true → CollectNothing c.tables T (steps_listed c.tables T number)
+    misses_right number None is h = absurd (true≢false (sym h))
+    misses_right number (Some reach) is h = right number reach is (missing (reaches reach T) h)
+      where
+        missing : (b : Bool) → not b ≡ true → b ≡ false
+        missing true h = sym h
+        missing false h = refl
+
+    out_fieldless : (rank : List ℕ → ℕ) → FragmentsRanked rank e → (number : ℕ) (l : ListData) → slice_get (lists_of c) number ≡ Some l → out number ≡ true → AreRanked rank (nesting e) (selections_from l.selections)
+        → fields_written e T (fields_spread e T (nesting e)) (written_of l) ≡ []
+    unfolding collected
+    out_fieldless rank ranks number l there is_out ranked =
+        let less : number < length c.tables.lists.items = subst (λ n. number < n) (length-map c.tables.lists.items list_data) (within (lists_of c) number l there) in
+        let listed : IsListed (lists_of c) (written_of l) number = slice_get-map written_of (lists_of c) number ∙ ap (seen_as written_of) there in
+        let same : (position_at c (number ∷ [])).selections ≡ written_of l ∷ [] = append-nil (meaning_at c number) ∙ has_one c (written_of l) number ready listed in
+        let nothing : SetsCollectNothing c.tables T (flat_map (sets_at c) (number ∷ [])) = subst (λ (xs : List ℕ). SetsCollectNothing c.tables T (xs ++ [])) (sym (sets_of_listed c ready number less)) (misses_right number (found_of found number) refl is_out, tt) in
+        let none : fields_at e T (position_at c (number ∷ [])) ≡ [] = no_fields (number ∷ []) nothing (record { rank = rank; fragments = ranks; spreads = subst (λ ws. AllRanked rank (nesting e) ws) (sym same) (ranked, tt) }) in
+        sym (append-nil (fields_written e T (fields_spread e T (nesting e)) (written_of l))) ∙ subst (λ ws. collected_to e T (nesting e) ws ≡ []) same none
+
+    pub walk_of : List ℕ → WalkData → WalkData
+    walk_of numbers w = walk_numbers e.schema T (steps_unless out (steps_at (lists_of c))) (known_for c.kept T) (entries_of c) (sets_at c) (nesting e) numbers w
+
+    pub walk_comes : (numbers : List ℕ) (w : WalkData) → IsBlank w → ComesToAt c T numbers (walk_of numbers w).fields
+    unfolding collected walk_of
+    walk_comes numbers w blank acyclic =
+        let same = written_numbers c numbers in
+        let found = walked_numbers acyclic.rank e T acyclic.fragments (lists_of c) (entries_of c) ready.sound (nesting e) Serves none_served both_served one_served (known_for c.kept T) out (out_fieldless acyclic.rank acyclic.fragments)
+        (λ number l there. known_rightly acyclic.rank acyclic.fragments number (number ∷ []) (sets_of_listed c ready number (subst (λ n. number < n) (length-map c.tables.lists.items list_data) (within (lists_of c) number l there))))
+        (sets_at c) (λ number. known_rightly acyclic.rank acyclic.fragments number (sets_at c number) refl) numbers w blank (subst (λ ws. AllRanked acyclic.rank (nesting e) ws) same acyclic.spreads) in
+        record {
+          come = record { left = found.0; repeats = subst (λ ws. LeavesOutRepeats (collected_to e T (nesting e) ws) found.0) (sym same) found.1.0; served = found.1.1.served };
+          known = found.1.1.known;
+        }
+
+-- what a walk comes to
+pub walked_to : (c : Collector) (T : ℕ) (numbers : List ℕ) (found : Reaches) (w v : WalkData) (fields : List NumberedField) → (IsReady c → AreReachedFor c.tables T found) → IsBlank w
+    → v ≡ numbers_in c.tables c.kept found T (length c.tables.planning.fragments.now + 2) (sets_at c) numbers w → fields ≡ v.fields → AreComeTo c T numbers fields
 unfolding walk_of
-found_at c T numbers w v of_keys blank walks grouped = record {
-  fields = v.fields;
-  grouped = grouped;
-  found = λ ready. subst (λ (x : WalkData). ComesToAt c T numbers x.fields) (sym (walks ∙ ap (λ n. walk_numbers (setting_at c).schema T (steps_at (lists_of c)) (known_for c.kept T) (entries_of c) (sets_at c) n numbers w) deep)) (walk_comes c T (of_ready c ready) numbers w blank);
-}
+walked_to c T numbers found w v fields right blank walks is ready =
+    subst (λ (fs : List NumberedField). ComesToAt c T numbers fs) (sym (is ∙ ap (λ (x : WalkData). x.fields) (walks ∙ ap (λ n. numbers_in c.tables c.kept found T n (sets_at c) numbers w) deep)))
+    (walk_comes c T (of_ready c ready) found (right ready) numbers w blank)
   where
     deep : length c.tables.planning.fragments.now + 2 ≡ nesting (setting_at c)
     deep = ap (λ n. n + 2) (sym (length-map c.tables.planning.fragments.now fragment_seen))
+
+-- the groups of what it comes to
+pub grouped_from : (c : Collector) (T : ℕ) (numbers : List ℕ) (fields : List NumberedField) (of_keys : List (List NumberedField)) → AreComeTo c T numbers fields → of_keys ≡ numbered_by_key fields → AreFoundAt c T numbers of_keys
+grouped_from c T numbers fields of_keys come grouped = record { fields = fields; grouped = grouped; found = come }
+
+-- what was found is right for a type of objects
+pub reached_for : (c : Collector) (T : ℕ) → IsObjectType (schema_data c.tables.planning.schema.now) T → IsReady c → AreReachedFor c.tables T c.reaches.sets
+reached_for c T object ready set reach h misses = (of_ready c ready).reached.sets set reach h T object misses
+
+-- where nothing was found
+pub none_reached_for : (c : Collector) (T : ℕ) (found : Reaches) → ((set : ℕ) → found_of found set ≡ None) → IsReady c → AreReachedFor c.tables T found
+none_reached_for c T found none ready set reach h misses = absurd (none-some reach (sym (none set) ∙ h))
 
 pub ready_made : (c : Collector) → AreSound (setting_at c) (lists_of c) (entries_of c) → c.joins.count ≡ length c.tables.lists.items → lists_of_joins c.joins ≡ [] ∷ [] → ((T number : ℕ) → found_in c.kept T number ≡ None) → AreAllReached c.tables c.joins c.reaches → IsReady c
 ready_made c sound counted one unkept found = is_ready c (record {

@@ -13,8 +13,8 @@ use Rattle.collected_fields.specs.declared.reaching.AllReaches.{AllReaches}
 use Rattle.collected_fields.specs.declared.reaching.Reaches.{Reaches}
 use Rattle.collected_fields.specs.declared.tables.Tables.{Tables}
 use Rattle.collected_fields.specs.Prepared.{EntryData, list_data, entry_data}
-use Rattle.collected_fields.specs.Reached.{IsObjectType, reaches, Misses, MissesMore, MissesWhere}
-use Rattle.collected_fields.specs.Reaching.{steps_listed, enter_plain, CollectNothing, FragmentCollectsNothing, SetsCollectNothing, Passes, Reaching, ReachesSteps, ReachesStep, ReachesFragment, ReachesWhere, ReachesSets, found_of, AreReached, AreListsReached, AreAllReached, FindsOne}
+use Rattle.collected_fields.specs.Reached.{IsObjectType, found_of, reaches, Misses, MissesMore, MissesWhere}
+use Rattle.collected_fields.specs.Reaching.{steps_listed, enter_plain, CollectNothing, FragmentCollectsNothing, SetsCollectNothing, Passes, Reaching, ReachesSteps, ReachesStep, ReachesFragment, ReachesWhere, ReachesSets, AreReached, AreListsReached, AreAllReached, FindsOne}
 use Rattle.collected_fields.specs.Kinds.{KnowsKinds}
 use Rattle.collected_fields.specs.Lists.{lists_of_joins, sets_in_joins, IsNumberIn, HasMore}
 use Rattle.collected_fields.specs.Serving.{sets_of}

@@ -16,7 +16,7 @@ use Rattle.plan_model.proofs.Walking.{none_below_none, not_below_itself, opened}
 use Rattle.plan_model.proofs.RankedBelow.{all_higher}
 use Rattle.collected_fields.specs.Steps.{StepData, field_step, spread_step, inline_step, fields_of_steps, by_number, fields_of_fragment, IsRankedFragment, StepsRanked, LeavesOutUnknown, StandsFor}
 use Rattle.collected_fields.specs.Prepared.{ListData, EntryData, written_of, entry_seen, entry_wanted, steps_in, IsListed, ArePrepared, AreListed, AreSound}
-use Rattle.collected_fields.specs.Walks.{NumberedField, WalkData, is_marked, marked, kept, IsBlank, steps_at, walk_steps, walk_sets, walk_known, walk_entry, walk_fragment, walk_numbers}
+use Rattle.collected_fields.specs.Walks.{NumberedField, WalkData, is_marked, marked, kept, IsBlank, steps_at, steps_unless, walk_steps, walk_sets, walk_known, walk_entry, walk_fragment, walk_numbers}
 
 -- ---- lists
 
@@ -79,7 +79,10 @@ module _ (rank : List ℕ → ℕ) (e : Setting) (T : ℕ) (ranks : FragmentsRan
     -- which numbered fields stand in the place of fields
     (Serves : List CollectedField → List NumberedField → Type 0) (none : Serves [] []) (joined : (fs gs : List CollectedField) (ns ms : List NumberedField) → Serves fs ns → Serves gs ms → Serves (fs ++ gs) (ns ++ ms))
     (one : (f : CollectedField) (number : ℕ) → IsListed lists (selections_below e f) number → Serves (f ∷ []) ((f, number) ∷ []))
-    (kept_for : ℕ → Option (List NumberedField)) where
+    (kept_for : ℕ → Option (List NumberedField))
+    -- which selection sets are passed over, and that they have no fields
+    (out : ℕ → Bool)
+    (fieldless : (number : ℕ) (l : ListData) → slice_get lists number ≡ Some l → out number ≡ true → AreRanked rank depth (selections_from l.selections) → fields_written e T (fields_spread e T depth) (written_of l) ≡ []) where
   abbrev pub Fields : Type 0
   Fields = List CollectedField
 
@@ -183,15 +186,15 @@ module _ (rank : List ℕ → ℕ) (e : Setting) (T : ℕ) (ranks : FragmentsRan
   -- ---- selection sets by their numbers
 
   abbrev pub steps : ℕ → List StepData
-  steps = steps_at lists
+  steps = steps_unless out (steps_at lists)
 
   -- a selection set that is listed
   list_collected : (bound : ℕ) (enter : ℕ → WalkData → WalkData) (number : ℕ) (l : ListData) (s : Fields) (w : WalkData) → slice_get lists number ≡ Some l → Follows bound enter → AreRanked rank bound (selections_from l.selections) → IsKnown bound s w
-      → Collects s w (fields_written e T whole (written_of l)) (walk_steps e.schema T enter 0 (steps number) w)
+      → Collects s w (fields_written e T whole (written_of l)) (walk_steps e.schema T enter 0 (steps_at lists number) w)
   list_collected bound enter number l s w there follows r known =
       let prepared = prepared_at e lists lists number l sound.prepared there in
       let ranked : StepsRanked e rank bound l.steps = prepared.0.ranks rank bound r in
-      let v : WalkData = walk_steps e.schema T enter 0 (steps number) w in
+      let v : WalkData = walk_steps e.schema T enter 0 (steps_at lists number) w in
       let c : Collects s w (fields_of_steps e.schema T whole_at 0 l.steps) v = subst (λ (o : Option ListData). Collects s w (fields_of_steps e.schema T whole_at 0 l.steps) (walk_steps e.schema T enter 0 (steps_in o) w)) (sym there)
       (steps_collected bound enter 0 l.steps s w follows ranked prepared.1 known) in
       record {
@@ -208,24 +211,32 @@ module _ (rank : List ℕ → ℕ) (e : Setting) (T : ℕ) (ranks : FragmentsRan
   unlisted (x ∷ all) zero h = absurd (none-some x (sym h))
   unlisted (x ∷ all) (suc n) h = unlisted all n h
 
-  set_collected : (bound : ℕ) (enter : ℕ → WalkData → WalkData) (number : ℕ) (o : Option ListData) (s : Fields) (w : WalkData) → slice_get lists number ≡ o → Follows bound enter → AreRanked rank bound (written_under number).1 → IsKnown bound s w
+  set_collected : (bound : ℕ) → bound ≤ depth → (enter : ℕ → WalkData → WalkData) (number : ℕ) (o : Option ListData) (s : Fields) (w : WalkData) → slice_get lists number ≡ o → Follows bound enter → AreRanked rank bound (written_under number).1 → IsKnown bound s w
       → Collects s w (fields_written e T whole (written_under number)) (walk_steps e.schema T enter 0 (steps number) w)
-  set_collected bound enter number None s w is follows r known =
-      subst (λ (o : Option ListData). Collects s w (fields_written e T whole (written_under number)) (walk_steps e.schema T enter 0 (steps_in o) w)) (sym is)
+  set_collected bound le enter number None s w is follows r known =
+      subst (λ (v : WalkData). Collects s w (fields_written e T whole (written_under number)) v) (sym (none_walked (out number)))
       (subst (λ (x : WrittenSelections). Collects s w (fields_written e T whole x) w) (sym (unlisted lists number is)) (nothing_added s w))
-  set_collected bound enter number (Some l) s w is follows r known =
+    where
+      none_walked : (b : Bool) → walk_steps e.schema T enter 0 (if b then [] else steps_at lists number) w ≡ w
+      none_walked true = refl
+      none_walked false = ap (λ (o : Option ListData). walk_steps e.schema T enter 0 (steps_in o) w) is
+  set_collected bound le enter number (Some l) s w is follows r known =
       let same : written_under number ≡ written_of l = get_or_from_slice_get (map written_of lists) number (written_of l) (None, no_selection) (slice_get-map written_of lists number ∙ ap (seen_as written_of) is) in
       subst (λ (x : WrittenSelections). Collects s w (fields_written e T whole x) (walk_steps e.schema T enter 0 (steps number) w)) (sym same)
-      (list_collected bound enter number l s w is follows (subst (λ (x : WrittenSelections). AreRanked rank bound x.1) same r) known)
+      (out_or_walked (out number) refl (subst (λ (x : WrittenSelections). AreRanked rank bound x.1) same r))
+    where
+      out_or_walked : (b : Bool) → out number ≡ b → AreRanked rank bound (selections_from l.selections) → Collects s w (fields_written e T whole (written_of l)) (walk_steps e.schema T enter 0 (if b then [] else steps_at lists number) w)
+      out_or_walked true is_out ranked = subst (λ (fs : Fields). Collects s w fs w) (sym (fieldless number l is is_out (all_higher rank e T ranks bound depth (selections_from l.selections) le ranked))) (nothing_added s w)
+      out_or_walked false is_out ranked = list_collected bound enter number l s w is follows ranked known
 
-  sets_collected : (bound : ℕ) (enter : ℕ → WalkData → WalkData) (sets : List ℕ) (s : Fields) (w : WalkData) → Follows bound enter → AllRanked rank bound (map written_under sets) → IsKnown bound s w
+  sets_collected : (bound : ℕ) → bound ≤ depth → (enter : ℕ → WalkData → WalkData) (sets : List ℕ) (s : Fields) (w : WalkData) → Follows bound enter → AllRanked rank bound (map written_under sets) → IsKnown bound s w
       → Collects s w (fields_of_sets sets) (walk_sets e.schema T steps enter sets w)
-  sets_collected bound enter [] s w follows r known = nothing_added s w
-  sets_collected bound enter (number ∷ sets) s w follows r known =
+  sets_collected bound le enter [] s w follows r known = nothing_added s w
+  sets_collected bound le enter (number ∷ sets) s w follows r known =
       let v : WalkData = walk_steps e.schema T enter 0 (steps number) w in
-      let c : Collects s w (fields_written e T whole (written_under number)) v = set_collected bound enter number (slice_get lists number) s w refl follows r.0 known in
+      let c : Collects s w (fields_written e T whole (written_under number)) v = set_collected bound le enter number (slice_get lists number) s w refl follows r.0 known in
       one_after s w (fields_written e T whole (written_under number)) v (fields_of_sets sets) (walk_sets e.schema T steps enter sets v) c
-      (sets_collected bound enter sets (s ++ c.added) v follows r.1 (known_after bound s w (fields_written e T whole (written_under number)) v known c))
+      (sets_collected bound le enter sets (s ++ c.added) v follows r.1 (known_after bound s w (fields_written e T whole (written_under number)) v known c))
 
   ranks_higher : (bound : ℕ) → bound ≤ depth → (selections : List WrittenSelections) → AllRanked rank bound selections → AllRanked rank depth selections
   ranks_higher bound le [] r = tt
@@ -234,7 +245,7 @@ module _ (rank : List ℕ → ℕ) (e : Setting) (T : ℕ) (ranks : FragmentsRan
   -- what is kept of them, or these themselves
   known_collected : (bound : ℕ) → bound ≤ depth → (enter : ℕ → WalkData → WalkData) (number : ℕ) (o : Option (List NumberedField)) (sets : List ℕ) (s : Fields) (w : WalkData) → kept_for number ≡ o → IsKnownFor number sets → Follows bound enter
       → AllRanked rank bound (map written_under sets) → IsKnown bound s w → Collects s w (fields_of_sets sets) (walk_known e.schema T steps enter o sets w)
-  known_collected bound le enter number None sets s w is rightly follows r known = sets_collected bound enter sets s w follows r known
+  known_collected bound le enter number None sets s w is rightly follows r known = sets_collected bound le enter sets s w follows r known
   known_collected bound le enter number (Some fields) sets s w is rightly follows r known =
       let found = rightly fields is (ranks_higher bound le (map written_under sets) r) in
       record { added = found.0; more = fields; grown = refl; serves = found.1.1; thin = seen_more [] s (fields_of_sets sets) found.0 (λ x h. absurd h) found.1.0; entered = λ k f there h. inl h }

@@ -110,11 +110,15 @@ pub record IsGroupAt (c : Collector) (g : Group) : Type 0 where
 abbrev pub AreGroupsAt : Collector → List Group → Type 0
 AreGroupsAt c groups = All (IsGroupAt c) groups
 
+-- So it is of a collector that is ready.
+abbrev pub AreComeTo : Collector → ℕ → List ℕ → List NumberedField → Type 0
+AreComeTo c T numbers fields = IsReady c → ComesToAt c T numbers fields
+
 -- The fields of each key are those to which the selections of these numbers come.
 pub record AreFoundAt (c : Collector) (T : ℕ) (numbers : List ℕ) (of_keys : List (List NumberedField)) : Type 0 where
   pub fields : List NumberedField
   pub grouped : of_keys ≡ numbered_by_key fields
-  pub found : IsReady c → ComesToAt c T numbers fields
+  pub found : AreComeTo c T numbers fields
 
 -- What is given for objects of the type T: the groups of these numbers, each with a field and with numbers of the collector.
 pub record GivesGroups (old new : Collector) (T : ℕ) (numbers : List ℕ) (groups : List Group) : Type 0 where

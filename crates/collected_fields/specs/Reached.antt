@@ -1,11 +1,12 @@
 -- The types of objects for which selections may have fields.
-use Rattle.std.specs.Prelude.{◌≡◌, ◌<◌, ℕ, Bool, true, false, ◌||◌, nat_eq, List, map, length, get_or}
+use Rattle.std.specs.Prelude.{◌≡◌, ◌<◌, ℕ, Bool, true, false, ◌||◌, not, nat_eq, List, map, length, get_or, Option, None, Some}
 use Rattle.std.specs.List.{list_any}
 use Rattle.schema_rules.specs.Kinds.{is_object}
 use Rattle.schema_model.specs.Numbers.{type_number}
 use Rattle.schema_model.specs.SchemaData.{SchemaData, type_at, applies}
 use Rattle.collected_fields.specs.declared.reach.Reach.{Reach}
 use Rattle.collected_fields.specs.declared.reach.Reach.TheVariants.{Every, These}
+use Rattle.collected_fields.specs.declared.reaching.Reaches.{Reaches}
 
 -- whether a type is marked
 abbrev pub is_marked_in : List Bool → ℕ → Bool
@@ -35,3 +36,13 @@ MissesPossible s on old new test = (T : ℕ) → IsObjectType s T → Misses new
 -- What the new one misses of types of objects, the old one missed, and so did the other where the condition applies to it.
 abbrev pub MissesWhere : SchemaData → ℕ → Reach → Reach → Reach → Type 0
 MissesWhere s on old new other = (T : ℕ) → IsObjectType s T → Misses new T → Misses old T × (applies s on T ≡ true → Misses other T)
+
+-- ---- what was found of selection sets
+
+abbrev pub found_of : Reaches → ℕ → Option Reach
+found_of found set = get_or found.sets.items set None
+
+-- whether something was found that misses a type
+abbrev pub is_missed : Option Reach → ℕ → Bool
+is_missed None T = false
+is_missed (Some reach) T = not (reaches reach T)

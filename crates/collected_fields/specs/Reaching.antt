@@ -1,5 +1,5 @@
 -- Types of objects for which walks over steps collect nothing.
-use Rattle.std.specs.Prelude.{◌≡◌, ◌⊎◌, ℕ, true, List, [], ◌∷◌, ◌++◌, map, flat_map, drop, get_or, Option, None, Some}
+use Rattle.std.specs.Prelude.{◌≡◌, ◌⊎◌, ℕ, true, List, [], ◌∷◌, ◌++◌, map, flat_map, drop, None, Some}
 use Rattle.schema_model.specs.SchemaData.{applies}
 use Rattle.schema_model.specs.SchemaViews.{schema_data}
 use Rattle.collected_fields.specs.declared.joins.Joins.{Joins}
@@ -10,7 +10,7 @@ use Rattle.collected_fields.specs.declared.tables.Tables.{Tables}
 use Rattle.collected_fields.specs.Lists.{sets_in_joins, IsNumberIn}
 use Rattle.collected_fields.specs.Kinds.{KnowsKinds}
 use Rattle.collected_fields.specs.Prepared.{list_data, entry_data}
-use Rattle.collected_fields.specs.Reached.{Misses, IsObjectType}
+use Rattle.collected_fields.specs.Reached.{Misses, IsObjectType, found_of}
 use Rattle.collected_fields.specs.Steps.{StepData}
 use Rattle.collected_fields.specs.Walks.{WalkData, steps_at, walk_steps, walk_fragment}
 
@@ -64,11 +64,12 @@ module _ (t : Tables) (old new : Reach) where
 
 -- ---- what was found of selection sets
 
-abbrev pub found_of : Reaches → ℕ → Option Reach
-found_of found set = get_or found.sets.items set None
-
 abbrev pub AreReached : Tables → Reaches → Type 0
 AreReached t found = (set : ℕ) (reach : Reach) → found_of found set ≡ Some reach → (T : ℕ) → IsObjectType (schema_data t.planning.schema.now) T → Misses reach T → CollectNothing t T (steps_listed t T set)
+
+-- the same for objects of the type T alone
+abbrev pub AreReachedFor : Tables → ℕ → Reaches → Type 0
+AreReachedFor t T found = (set : ℕ) (reach : Reach) → found_of found set ≡ Some reach → Misses reach T → CollectNothing t T (steps_listed t T set)
 
 -- the same of lists of selection sets, by their numbers
 abbrev pub AreListsReached : Tables → Joins → Reaches → Type 0

@@ -13,6 +13,8 @@ use Rattle.collected_fields.specs.Views.{collected_field}
 use Rattle.collected_fields.specs.Steps.{StepData, field_step, spread_step, inline_step}
 use Rattle.collected_fields.specs.declared.tables.Tables.{Tables}
 use Rattle.collected_fields.specs.declared.findings.Findings.{Findings}
+use Rattle.collected_fields.specs.declared.reaching.Reaches.{Reaches}
+use Rattle.collected_fields.specs.Reached.{found_of, is_missed}
 use Rattle.collected_fields.specs.Prepared.{ListData, EntryData, list_data, entry_data, steps_in}
 
 -- a field, and the number of its selections
@@ -120,9 +122,14 @@ KeepsOne old new T number fields = (U place : ℕ) (found : List NumberedField) 
 abbrev pub known_for : Findings → ℕ → ℕ → Option (List NumberedField)
 known_for k T number = if get_or k.known.items number false then found_in k T number else None
 
-module _ (t : Tables) (k : Findings) (T : ℕ) (depth : ℕ) where
+-- the steps of selection sets, and none where a test holds of their numbers
+abbrev pub steps_unless : (ℕ → Bool) → (ℕ → List StepData) → ℕ → List StepData
+steps_unless out steps number = if out number then [] else steps number
+
+module _ (t : Tables) (k : Findings) (r : Reaches) (T : ℕ) (depth : ℕ) where
+  -- A selection set has none where it was found that it has no fields for objects of the type.
   abbrev pub list_steps : ℕ → List StepData
-  list_steps = steps_at (map list_data t.lists.items)
+  list_steps = steps_unless (λ number. is_missed (found_of r number) T) (steps_at (map list_data t.lists.items))
 
   abbrev pub enter_in : ℕ → WalkData → WalkData
   enter_in = walk_fragment (schema_data t.planning.schema.now) T list_steps (known_for k T) (map entry_data t.entries.items) depth

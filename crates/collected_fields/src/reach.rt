@@ -79,7 +79,7 @@ impl Reach {
     }
 
     /// Whether a type is among them.
-    fn has(&self, of: TypeId) -> bool
+    pub fn has(&self, of: TypeId) -> bool
         ensures { result ≡ reaches self.now of.number }
     {
         match self {

@@ -5,7 +5,8 @@ ghost use Rattle.collected_fields.specs.declared.joins.Joins.{Joins as JoinsData
 ghost use Rattle.collected_fields.specs.declared.tables.Tables.{Tables as TablesData};
 ghost use Rattle.collected_fields.specs.Steps.{step_data, inline_step};
 ghost use Rattle.collected_fields.specs.Lists.{sets_in_joins};
-ghost use Rattle.collected_fields.specs.Reaching.{ReachesSteps, ReachesStep, ReachesFragment, ReachesWhere, ReachesSets, found_of, AreReached, AreAllReached, FindsOne, ReachesNumbers};
+ghost use Rattle.collected_fields.specs.Reached.{found_of, is_missed};
+ghost use Rattle.collected_fields.specs.Reaching.{ReachesSteps, ReachesStep, ReachesFragment, ReachesWhere, ReachesSets, AreReached, AreAllReached, FindsOne, ReachesNumbers};
 
 use crate::joins::Joins;
 use crate::kinds::Kinds;
@@ -45,6 +46,16 @@ impl Reaches {
         match self.sets.get(set) {
             Some(found) => found.as_ref(),
             None => None,
+        }
+    }
+
+    /// Whether it was found of a set that it has no fields for objects of a type.
+    pub fn misses(&self, set: usize, of: TypeId) -> bool
+        ensures { result ≡ is_missed (found_of self.now set) of.number }
+    {
+        match self.of(set) {
+            Some(reach) => !reach.has(of),
+            None => false,
         }
     }
 

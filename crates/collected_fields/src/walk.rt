@@ -14,6 +14,7 @@ use crate::collected::Collected;
 use crate::findings::Findings;
 use crate::joins::Joins;
 use crate::met::SHORT;
+use crate::reaching::Reaches;
 use crate::state::Walk;
 use crate::steps::Step;
 use crate::tables::{Entry, Tables};
@@ -165,12 +166,13 @@ pub fn place_behind(at: usize, skip: usize, end: usize) -> usize
 fn walk_step<'a>(
     tables: &Tables<'a>,
     known: &Findings<'a>,
+    reaches: &Reaches,
     of: TypeId,
     depth: usize,
     step: &Step<'a>,
     walk: &mut Walk<'a>,
 ) -> Result<usize, AllocError>
-    ensures { IfOk result (TakesStep tables.now known.now of.number depth (step_data step.now) (walk_data walk.old) (walk_data walk.new)) }
+    ensures { IfOk result (TakesStep tables.now known.now reaches.now of.number depth (step_data step.now) (walk_data walk.old) (walk_data walk.new)) }
 {
     match step {
         Step::Field(field) => {
@@ -178,7 +180,7 @@ fn walk_step<'a>(
             Ok(0)
         }
         Step::Spread(number) => {
-            walk_fragment(tables, known, of, depth, *number, walk)?;
+            walk_fragment(tables, known, reaches, of, depth, *number, walk)?;
             Ok(0)
         }
         Step::Inline { on, count } => {
@@ -195,37 +197,51 @@ fn walk_step<'a>(
 fn walk_steps<'a>(
     tables: &Tables<'a>,
     known: &Findings<'a>,
+    reaches: &Reaches,
     of: TypeId,
     depth: usize,
     steps: &[Step<'a>],
     walk: &mut Walk<'a>,
 ) -> Result<(), AllocError>
-    ensures { OnOk result (walk_data walk.new ≡ steps_from tables.now known.now of.number depth 0 (map step_data steps.now) (walk_data walk.old)) }
+    ensures { OnOk result (walk_data walk.new ≡ steps_from tables.now known.now reaches.now of.number depth 0 (map step_data steps.now) (walk_data walk.old)) }
 {
     let mut at = 0;
     while at < steps.len() {
-        let skip = walk_step(tables, known, of, depth, &steps[at], walk)?;
+        let skip = walk_step(tables, known, reaches, of, depth, &steps[at], walk)?;
         at = place_behind(at, skip, steps.len());
     }
     Ok(())
 }
 
-/// The selection set of a number.
+/// The selection set of a number, unless it was found that it has no fields for the type.
 #[cycle(walk)]
 fn walk_set<'a>(
     tables: &Tables<'a>,
     known: &Findings<'a>,
+    reaches: &Reaches,
     of: TypeId,
     depth: usize,
     set: usize,
     walk: &mut Walk<'a>,
 ) -> Result<(), AllocError>
-    ensures { OnOk result (walk_data walk.new ≡ steps_from tables.now known.now of.number depth 0 (list_steps tables.now known.now of.number depth set) (walk_data walk.old)) }
+    ensures { OnOk result (walk_data walk.new ≡ steps_from tables.now known.now reaches.now of.number depth 0 (list_steps tables.now known.now reaches.now of.number depth set) (walk_data walk.old)) }
 {
+    if reaches.misses(set, of) {
+        walk.count(1);
+        return Ok(());
+    }
     match tables.lists.get(set) {
         Some(list) => {
             walk.count(list.steps.len());
-            walk_steps(tables, known, of, depth, list.steps.as_slice(), walk)
+            walk_steps(
+                tables,
+                known,
+                reaches,
+                of,
+                depth,
+                list.steps.as_slice(),
+                walk,
+            )
         }
         None => Ok(()),
     }
@@ -236,16 +252,17 @@ fn walk_set<'a>(
 fn walk_list<'a>(
     tables: &Tables<'a>,
     known: &Findings<'a>,
+    reaches: &Reaches,
     of: TypeId,
     depth: usize,
     list: usize,
     walk: &mut Walk<'a>,
 ) -> Result<(), AllocError>
-    ensures { OnOk result (walk_data walk.new ≡ known_in tables.now known.now of.number depth list (list ∷ []) (walk_data walk.old)) }
+    ensures { OnOk result (walk_data walk.new ≡ known_in tables.now known.now reaches.now of.number depth list (list ∷ []) (walk_data walk.old)) }
 {
     match known.of(list, of) {
         Some(fields) => walk.take(fields),
-        None => walk_set(tables, known, of, depth, list, walk),
+        None => walk_set(tables, known, reaches, of, depth, list, walk),
     }
 }
 
@@ -254,12 +271,13 @@ fn walk_list<'a>(
 fn walk_fragment<'a>(
     tables: &Tables<'a>,
     known: &Findings<'a>,
+    reaches: &Reaches,
     of: TypeId,
     depth: usize,
     number: usize,
     walk: &mut Walk<'a>,
 ) -> Result<(), AllocError>
-    ensures { OnOk result (walk_data walk.new ≡ enter_in tables.now known.now of.number depth number (walk_data walk.old)) }
+    ensures { OnOk result (walk_data walk.new ≡ enter_in tables.now known.now reaches.now of.number depth number (walk_data walk.old)) }
 {
     if depth == 0 {
         return Ok(());
@@ -269,7 +287,7 @@ fn walk_fragment<'a>(
     }
     walk.mark(number)?;
     let before = walk.left;
-    walk_entry(tables, known, of, depth - 1, number, walk)?;
+    walk_entry(tables, known, reaches, of, depth - 1, number, walk)?;
     walk.note(number, before)
 }
 
@@ -278,17 +296,18 @@ fn walk_fragment<'a>(
 fn walk_entry<'a>(
     tables: &Tables<'a>,
     known: &Findings<'a>,
+    reaches: &Reaches,
     of: TypeId,
     depth: usize,
     number: usize,
     walk: &mut Walk<'a>,
 ) -> Result<(), AllocError>
-    ensures { OnOk result (walk_data walk.new ≡ entry_in tables.now known.now of.number depth number (walk_data walk.old)) }
+    ensures { OnOk result (walk_data walk.new ≡ entry_in tables.now known.now reaches.now of.number depth number (walk_data walk.old)) }
 {
     match entry_at(tables, number) {
         Some(entry) => {
             if applies_where(tables.planning.schema, entry.on, of) {
-                walk_list(tables, known, of, depth, entry.list, walk)
+                walk_list(tables, known, reaches, of, depth, entry.list, walk)
             } else {
                 Ok(())
             }
@@ -301,15 +320,16 @@ fn walk_entry<'a>(
 fn walk_sets<'a>(
     tables: &Tables<'a>,
     known: &Findings<'a>,
+    reaches: &Reaches,
     of: TypeId,
     depth: usize,
     sets: &[usize],
     walk: &mut Walk<'a>,
 ) -> Result<(), AllocError>
-    ensures { OnOk result (walk_data walk.new ≡ sets_in tables.now known.now of.number depth sets.now (walk_data walk.old)) }
+    ensures { OnOk result (walk_data walk.new ≡ sets_in tables.now known.now reaches.now of.number depth sets.now (walk_data walk.old)) }
 {
     for set in sets {
-        walk_set(tables, known, of, depth, *set, walk)?;
+        walk_set(tables, known, reaches, of, depth, *set, walk)?;
     }
     Ok(())
 }
@@ -319,18 +339,19 @@ fn walk_unknown<'a>(
     tables: &Tables<'a>,
     joins: &Joins,
     known: &Findings<'a>,
+    reaches: &Reaches,
     of: TypeId,
     depth: usize,
     number: usize,
     walk: &mut Walk<'a>,
 ) -> Result<(), AllocError>
-    ensures { OnOk result (walk_data walk.new ≡ sets_in tables.now known.now of.number depth (sets_in_joins joins.now number) (walk_data walk.old)) }
+    ensures { OnOk result (walk_data walk.new ≡ sets_in tables.now known.now reaches.now of.number depth (sets_in_joins joins.now number) (walk_data walk.old)) }
 {
     if number < joins.count {
-        return walk_set(tables, known, of, depth, number, walk);
+        return walk_set(tables, known, reaches, of, depth, number, walk);
     }
     match joins.lists.get(number - joins.count) {
-        Some(sets) => walk_sets(tables, known, of, depth, sets.as_slice(), walk),
+        Some(sets) => walk_sets(tables, known, reaches, of, depth, sets.as_slice(), walk),
         None => Ok(()),
     }
 }
@@ -340,16 +361,17 @@ fn walk_number<'a>(
     tables: &Tables<'a>,
     joins: &Joins,
     known: &Findings<'a>,
+    reaches: &Reaches,
     of: TypeId,
     depth: usize,
     number: usize,
     walk: &mut Walk<'a>,
 ) -> Result<(), AllocError>
-    ensures { OnOk result (walk_data walk.new ≡ known_in tables.now known.now of.number depth number (sets_in_joins joins.now number) (walk_data walk.old)) }
+    ensures { OnOk result (walk_data walk.new ≡ known_in tables.now known.now reaches.now of.number depth number (sets_in_joins joins.now number) (walk_data walk.old)) }
 {
     match known.of(number, of) {
         Some(fields) => walk.take(fields),
-        None => walk_unknown(tables, joins, known, of, depth, number, walk),
+        None => walk_unknown(tables, joins, known, reaches, of, depth, number, walk),
     }
 }
 
@@ -358,15 +380,16 @@ pub fn walk_numbers<'a>(
     tables: &Tables<'a>,
     joins: &Joins,
     known: &Findings<'a>,
+    reaches: &Reaches,
     of: TypeId,
     depth: usize,
     numbers: &[usize],
     walk: &mut Walk<'a>,
 ) -> Result<(), AllocError>
-    ensures { OnOk result (walk_data walk.new ≡ numbers_in tables.now known.now of.number depth (sets_in_joins joins.now) numbers.now (walk_data walk.old)) }
+    ensures { OnOk result (walk_data walk.new ≡ numbers_in tables.now known.now reaches.now of.number depth (sets_in_joins joins.now) numbers.now (walk_data walk.old)) }
 {
     for number in numbers {
-        walk_number(tables, joins, known, of, depth, *number, walk)?;
+        walk_number(tables, joins, known, reaches, of, depth, *number, walk)?;
     }
     Ok(())
 }

@@ -25,8 +25,8 @@ decreases-walk_entry l = 6 * l.depth + 5
 
 abbrev pub invariant-walk_steps-loop-at : goal.invariant-walk_steps-loop-at
 invariant-walk_steps-loop-at l =
-    walk_steps (schema_data l.tables.planning.schema.now) l.of.number (walk_fragment (schema_data l.tables.planning.schema.now) l.of.number (list_steps l.tables l.known l.of.number l.depth) (known_for l.known l.of.number) (map entry_data l.tables.entries.items) l.depth) 0 (map step_data (drop l.at l.steps)) (walk_data l.walk)
-    ≡ walk_steps (schema_data l.tables.planning.schema.now) l.of.number (walk_fragment (schema_data l.tables.planning.schema.now) l.of.number (list_steps l.tables l.known l.of.number l.depth) (known_for l.known l.of.number) (map entry_data l.tables.entries.items) l.depth) 0 (map step_data l.steps) (walk_data l.fn.walk)
+    walk_steps (schema_data l.tables.planning.schema.now) l.of.number (walk_fragment (schema_data l.tables.planning.schema.now) l.of.number (list_steps l.tables l.known l.reaches l.of.number l.depth) (known_for l.known l.of.number) (map entry_data l.tables.entries.items) l.depth) 0 (map step_data (drop l.at l.steps)) (walk_data l.walk)
+    ≡ walk_steps (schema_data l.tables.planning.schema.now) l.of.number (walk_fragment (schema_data l.tables.planning.schema.now) l.of.number (list_steps l.tables l.known l.reaches l.of.number l.depth) (known_for l.known l.of.number) (map entry_data l.tables.entries.items) l.depth) 0 (map step_data l.steps) (walk_data l.fn.walk)
 
 abbrev pub decreases-walk_steps-loop-at : goal.decreases-walk_steps-loop-at
 decreases-walk_steps-loop-at l = length l.steps - l.at

@@ -1,5 +1,5 @@
 use Rattle.std.proofs.Common.{◌≡◌, ℕ, ◌+◌, ◌-◌, length}
-use Rattle.collected_fields.specs.Reaching.{found_of}
+use Rattle.collected_fields.specs.Reached.{found_of}
 use Rattle.collected_fields.proofs.reaching.Reaches.keep.Given as goal
 
 abbrev pub invariant-loop-self : goal.invariant-loop-self
