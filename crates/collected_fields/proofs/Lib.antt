@@ -1,6 +1,7 @@
 pub mod Fields
 pub mod EachLaws
 pub mod StepLaws
+pub mod PieceLaws
 pub mod PrepareLaws
 pub mod WalkLaws
 pub mod GroupLaws

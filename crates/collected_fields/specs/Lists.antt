@@ -39,6 +39,18 @@ abbrev pub MayStandForAll : Joins → Joins → List ℕ → Option ℕ → Type
 MayStandForAll old new numbers None = Unit {0}
 MayStandForAll old new numbers (Some number) = StandsForAll old new numbers number
 
+-- These numbers together stand for a list.
+abbrev pub AreFor : Joins → List ℕ → List ℕ → Type 0
+AreFor j list numbers = AreNumbersIn j numbers × (flat_map (sets_in_joins j) numbers ≡ list)
+
+-- They stand for what stands before this piece of a list.
+abbrev pub AreForBefore : Joins → List ℕ → List ℕ → List ℕ → Type 0
+AreForBefore j list numbers piece = (done : List ℕ) × (AreFor j done numbers × (done ++ piece ≡ list))
+
+-- One number is put behind others: they stand for a piece of a list more.
+abbrev pub PutsPiece : Joins → Joins → List ℕ → List ℕ → List ℕ → Type 0
+PutsPiece old new piece numbers others = (list : List ℕ) → AreFor old list numbers → AreFor new (list ++ piece) others
+
 -- some numbers in place of others
 abbrev pub StandFor : Joins → Joins → List ℕ → List ℕ → Type 0
 StandFor old new numbers others = AreNumbersIn old numbers → AreNumbersIn new others × LeavesOutRepeats (flat_map (sets_in_joins old) numbers) (flat_map (sets_in_joins new) others)

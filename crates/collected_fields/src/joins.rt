@@ -2,12 +2,12 @@
 
 ghost use Rattle.std.specs.Prelude.{◌≡◌, ℕ, [], ◌∷◌, ◌++◌, IsTrue, IfOk, OnOk, IfSome, Some, slice_get, flat_map};
 ghost use Rattle.plan_model.specs.Repeats.{Holds, LeavesOutRepeats};
-ghost use Rattle.collected_fields.specs.Lists.{lists_of_joins, sets_in_joins, IsNumberIn, HasMore, MayStandForList, MayStandForAll, StandFor};
+ghost use Rattle.collected_fields.specs.Lists.{lists_of_joins, sets_in_joins, IsNumberIn, HasMore, MayStandForList, MayStandForAll, StandFor, AreFor, PutsPiece};
 ghost use Rattle.collected_fields.specs.Joining.{AddsEach};
 
 use std::alloc::{AllocError, Global};
 use std::collections::BTreeMap;
-use std::hash::{DefaultHasher, Hasher};
+use std::hash::{DefaultHasher, FoldHasher, Hasher};
 use std::mem;
 
 /// Of fewer numbers no list is made.
@@ -15,6 +15,15 @@ pub const FEW: usize = 16;
 
 /// All lists together hold no more numbers than this.
 const ROOM: usize = 6000000;
+
+/// A list of so many selection sets is long.
+const LONG: usize = 128;
+
+/// A piece of a list has no more selection sets than this.
+const PIECE: usize = 512;
+
+/// A piece ends behind one of so many selection sets.
+const ONE_OF: u64 = 64;
 
 /// Lists of selection sets. The first is empty.
 #[derive(Drop)]
@@ -38,6 +47,14 @@ fn hash_of(begun: DefaultHasher, list: &[usize]) -> u64 {
         hasher.write_usize(*number);
     }
     hasher.finish()
+}
+
+/// Whether a piece of a list ends behind a selection set. That goes by the set and not by its place: what lists have in common is cut
+/// alike. Nothing rests on it.
+fn ends_piece(set: usize, length: usize) -> bool {
+    let mut hasher = FoldHasher::default();
+    hasher.write_usize(set);
+    length >= PIECE || hasher.finish() % ONE_OF == 0
 }
 
 /// A list to which selection sets are added once.
@@ -238,21 +255,97 @@ impl Joins {
         self.number_of(list)
     }
 
+    /// The number of a piece of a list, behind others; not where none is left.
+    fn put_piece(&mut self, piece: Vec<usize>, numbers: &mut Vec<usize>) -> Result<bool, AllocError>
+        ensures count { self.new.count ≡ self.old.count }
+        ensures more { HasMore self.old self.new }
+        ensures put { IfOk result (λ put. IsTrue put → PutsPiece self.old self.new piece.items numbers.old.items numbers.new.items) }
+    {
+        match self.number_of(piece)? {
+            Some(number) => {
+                numbers.push(number)?;
+                Ok(true)
+            }
+            None => Ok(false),
+        }
+    }
+
+    /// The numbers of the pieces of a list.
+    fn pieces(&mut self, alloc: Global, list: &[usize]) -> Result<Option<Vec<usize>>, AllocError>
+        ensures count { self.new.count ≡ self.old.count }
+        ensures more { HasMore self.old self.new }
+        ensures pieces { IfOk result (λ numbers. IfSome numbers (λ some. AreFor self.new list.now some.items)) }
+    {
+        let mut numbers = Vec::new(alloc);
+        let mut piece = Vec::new(alloc);
+        for set in list {
+            piece.push(*set)?;
+            if ends_piece(*set, piece.len()) {
+                let whole = mem::replace(&mut piece, Vec::new(alloc));
+                if !self.put_piece(whole, &mut numbers)? {
+                    return Ok(None);
+                }
+            }
+        }
+        if self.put_piece(piece, &mut numbers)? {
+            Ok(Some(numbers))
+        } else {
+            Ok(None)
+        }
+    }
+
+    /// Whether a list has a number.
+    fn has_number(&self, list: &[usize]) -> bool {
+        self.place_of(hash_of(self.begun, list), list).is_some()
+    }
+
+    /// The number of a list alone.
+    fn whole(&mut self, alloc: Global, list: Vec<usize>) -> Result<Option<Vec<usize>>, AllocError>
+        ensures count { self.new.count ≡ self.old.count }
+        ensures more { HasMore self.old self.new }
+        ensures whole { IfOk result (λ numbers. IfSome numbers (λ some. AreFor self.new list.items some.items)) }
+    {
+        match self.number_of(list)? {
+            Some(number) => {
+                let mut one = Vec::new(alloc);
+                one.push(number)?;
+                Ok(Some(one))
+            }
+            None => Ok(None),
+        }
+    }
+
+    /// The number of a list, or those of its pieces where it is long and wasn't met before. Lists that differ in a few selection
+    /// sets have most of their pieces in common.
+    fn numbers_for(
+        &mut self,
+        alloc: Global,
+        list: Vec<usize>,
+    ) -> Result<Option<Vec<usize>>, AllocError>
+        ensures count { self.new.count ≡ self.old.count }
+        ensures more { HasMore self.old self.new }
+        ensures numbers { IfOk result (λ numbers. IfSome numbers (λ some. AreFor self.new list.items some.items)) }
+    {
+        if list.len() < LONG || self.has_number(list.as_slice()) {
+            return self.whole(alloc, list);
+        }
+        let pieces = self.pieces(alloc, list.as_slice())?;
+        self.number_of(list)?;
+        Ok(pieces)
+    }
+
     /// The selection sets of these numbers by few numbers, where there is room.
     pub fn few(&mut self, alloc: Global, numbers: Vec<usize>) -> Result<Vec<usize>, AllocError>
         ensures count { self.new.count ≡ self.old.count }
         ensures more { HasMore self.old self.new }
         ensures few { IfOk result (λ few. StandFor self.old self.new numbers.items few.items) }
     {
-        if numbers.len() < FEW {
+        if numbers.len() < FEW || self.room == 0 {
             return Ok(numbers);
         }
-        match self.one(alloc, numbers.as_slice())? {
-            Some(number) => {
-                let mut one = Vec::new(alloc);
-                one.push(number)?;
-                Ok(one)
-            }
+        let list = self.flat(alloc, numbers.as_slice())?;
+        match self.numbers_for(alloc, list)? {
+            Some(few) => Ok(few),
             None => Ok(numbers),
         }
     }
