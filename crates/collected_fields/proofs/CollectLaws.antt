@@ -22,7 +22,7 @@ use Rattle.collected_fields.specs.Lists.{lists_of_joins}
 use Rattle.collected_fields.specs.declared.reach.Reach.{Reach}
 use Rattle.collected_fields.specs.declared.reaching.Reaches.{Reaches}
 use Rattle.collected_fields.specs.Reached.{IsObjectType, reaches, found_of, is_missed}
-use Rattle.collected_fields.specs.Reaching.{steps_listed, CollectNothing, SetsCollectNothing, AreReachedFor, AreAllReached, ReachesNumbers}
+use Rattle.collected_fields.specs.Reaching.{steps_listed, CollectNothing, SetsCollectNothing, AreReachedFor, AreListsReachedFor, AreAllReached, ReachesNumbers}
 use Rattle.collected_fields.specs.Serving.{sets_of, Serve}
 use Rattle.collected_fields.specs.Walks.{NumberedField, WalkData, IsBlank, numbered_by_key, found_in, known_for, steps_at, steps_unless, walk_numbers, numbers_in}
 use Rattle.collected_fields.proofs.WalkLaws.{seen_as, walked_numbers}
@@ -137,14 +137,14 @@ module _ (c : Collector) (T : ℕ) (ready : IsReadyCollector c) where
 
   -- where nothing that is kept is taken
   plain_walk : List ℕ → WalkData → WalkData
-  plain_walk numbers w = walk_numbers e.schema T (steps_at (lists_of c)) (λ number. None) (entries_of c) (sets_at c) (nesting e) numbers w
+  plain_walk numbers w = walk_numbers e.schema T (steps_at (lists_of c)) (λ number. None) (entries_of c) (λ number. false) (sets_at c) (nesting e) numbers w
 
   plain_comes : (numbers : List ℕ) (w : WalkData) → IsBlank w → ComesToAt c T numbers (plain_walk numbers w).fields
   unfolding collected plain_walk
   plain_comes numbers w blank acyclic =
       let same = written_numbers c numbers in
       let found = walked_numbers acyclic.rank e T acyclic.fragments (lists_of c) (entries_of c) ready.sound (nesting e) Serves none_served both_served one_served (λ number. None) (λ number. false) (λ number l there h. absurd (true≢false (sym h)))
-      (λ number l there fields h r. absurd (none-some fields h)) (sets_at c) (λ number fields h r. absurd (none-some fields h)) numbers w blank (subst (λ ws. AllRanked acyclic.rank (nesting e) ws) same acyclic.spreads) in
+      (λ number l there fields h r. absurd (none-some fields h)) (sets_at c) (λ number fields h r. absurd (none-some fields h)) (λ number. false) (λ number h. absurd (true≢false (sym h))) numbers w blank (subst (λ ws. AllRanked acyclic.rank (nesting e) ws) same acyclic.spreads) in
       record {
         come = record { left = found.0; repeats = subst (λ ws. LeavesOutRepeats (collected_to e T (nesting e) ws) found.0) (sym same) found.1.0; served = found.1.1.served };
         known = found.1.1.known;
@@ -167,17 +167,17 @@ module _ (c : Collector) (T : ℕ) (ready : IsReadyCollector c) where
       left_none (fields_at e T (position_at c numbers)) comes.come.left comes.come.repeats comes.come.served.keys
 
   -- where sets are passed over of which it was found that they have no fields
-  module _ (found : Reaches) (right : AreReachedFor c.tables T found) where
+  module _ (found lists : Reaches) (right : AreReachedFor c.tables T found) (lists_right : AreListsReachedFor c.tables c.joins T lists) where
     abbrev out : ℕ → Bool
     out = λ number. is_missed (found_of found number) T
+
+    missing : (b : Bool) → not b ≡ true → b ≡ false
+    missing true h = sym h
+    missing false h = refl
 
     misses_right : (number : ℕ) (o : Option Reach) → found_of found number ≡ o → is_missed o T ≡ true → CollectNothing c.tables T (steps_listed c.tables T number)
     misses_right number None is h = absurd (true≢false (sym h))
     misses_right number (Some reach) is h = right number reach is (missing (reaches reach T) h)
-      where
-        missing : (b : Bool) → not b ≡ true → b ≡ false
-        missing true h = sym h
-        missing false h = refl
 
     out_fieldless : (rank : List ℕ → ℕ) → FragmentsRanked rank e → (number : ℕ) (l : ListData) → slice_get (lists_of c) number ≡ Some l → out number ≡ true → AreRanked rank (nesting e) (selections_from l.selections)
         → fields_written e T (fields_spread e T (nesting e)) (written_of l) ≡ []
@@ -190,8 +190,24 @@ module _ (c : Collector) (T : ℕ) (ready : IsReadyCollector c) where
         let none : fields_at e T (position_at c (number ∷ [])) ≡ [] = no_fields (number ∷ []) nothing (record { rank = rank; fragments = ranks; spreads = subst (λ ws. AllRanked rank (nesting e) ws) (sym same) (ranked, tt) }) in
         sym (append-nil (fields_written e T (fields_spread e T (nesting e)) (written_of l))) ∙ subst (λ ws. collected_to e T (nesting e) ws ≡ []) same none
 
+    -- the same of numbers of lists
+    abbrev passed : ℕ → Bool
+    passed = λ number. is_missed (found_of lists number) T
+
+    passed_right : (number : ℕ) (o : Option Reach) → found_of lists number ≡ o → is_missed o T ≡ true → SetsCollectNothing c.tables T (sets_at c number)
+    passed_right number None is h = absurd (true≢false (sym h))
+    passed_right number (Some reach) is h = lists_right number reach is (missing (reaches reach T) h)
+
+    passed_fieldless : (rank : List ℕ → ℕ) → FragmentsRanked rank e → (number : ℕ) → passed number ≡ true → AllRanked rank (nesting e) (map (under c) (sets_at c number)) → collected_to e T (nesting e) (map (under c) (sets_at c number)) ≡ []
+    unfolding collected
+    passed_fieldless rank ranks number is_passed ranked =
+        let same : (position_at c (number ∷ [])).selections ≡ map (under c) (sets_at c number) = append-nil (meaning_at c number) ∙ written_sets c (sets_at c number) in
+        let nothing : SetsCollectNothing c.tables T (flat_map (sets_at c) (number ∷ [])) = subst (λ (xs : List ℕ). SetsCollectNothing c.tables T xs) (sym (append-nil (sets_at c number))) (passed_right number (found_of lists number) refl is_passed) in
+        let none : fields_at e T (position_at c (number ∷ [])) ≡ [] = no_fields (number ∷ []) nothing (record { rank = rank; fragments = ranks; spreads = subst (λ ws. AllRanked rank (nesting e) ws) (sym same) ranked }) in
+        subst (λ ws. collected_to e T (nesting e) ws ≡ []) same none
+
     pub walk_of : List ℕ → WalkData → WalkData
-    walk_of numbers w = walk_numbers e.schema T (steps_unless out (steps_at (lists_of c))) (known_for c.kept T) (entries_of c) (sets_at c) (nesting e) numbers w
+    walk_of numbers w = walk_numbers e.schema T (steps_unless out (steps_at (lists_of c))) (known_for c.kept T) (entries_of c) passed (sets_at c) (nesting e) numbers w
 
     pub walk_comes : (numbers : List ℕ) (w : WalkData) → IsBlank w → ComesToAt c T numbers (walk_of numbers w).fields
     unfolding collected walk_of
@@ -199,19 +215,19 @@ module _ (c : Collector) (T : ℕ) (ready : IsReadyCollector c) where
         let same = written_numbers c numbers in
         let found = walked_numbers acyclic.rank e T acyclic.fragments (lists_of c) (entries_of c) ready.sound (nesting e) Serves none_served both_served one_served (known_for c.kept T) out (out_fieldless acyclic.rank acyclic.fragments)
         (λ number l there. known_rightly acyclic.rank acyclic.fragments number (number ∷ []) (sets_of_listed c ready number (subst (λ n. number < n) (length-map c.tables.lists.items list_data) (within (lists_of c) number l there))))
-        (sets_at c) (λ number. known_rightly acyclic.rank acyclic.fragments number (sets_at c number) refl) numbers w blank (subst (λ ws. AllRanked acyclic.rank (nesting e) ws) same acyclic.spreads) in
+        (sets_at c) (λ number. known_rightly acyclic.rank acyclic.fragments number (sets_at c number) refl) passed (passed_fieldless acyclic.rank acyclic.fragments) numbers w blank (subst (λ ws. AllRanked acyclic.rank (nesting e) ws) same acyclic.spreads) in
         record {
           come = record { left = found.0; repeats = subst (λ ws. LeavesOutRepeats (collected_to e T (nesting e) ws) found.0) (sym same) found.1.0; served = found.1.1.served };
           known = found.1.1.known;
         }
 
 -- what a walk comes to
-pub walked_to : (c : Collector) (T : ℕ) (numbers : List ℕ) (found : Reaches) (w v : WalkData) (fields : List NumberedField) → (IsReady c → AreReachedFor c.tables T found) → IsBlank w
-    → v ≡ numbers_in c.tables c.kept found T (length c.tables.planning.fragments.now + 2) (sets_at c) numbers w → fields ≡ v.fields → AreComeTo c T numbers fields
+pub walked_to : (c : Collector) (T : ℕ) (numbers : List ℕ) (found lists : Reaches) (w v : WalkData) (fields : List NumberedField) → (IsReady c → AreReachedFor c.tables T found) → (IsReady c → AreListsReachedFor c.tables c.joins T lists) → IsBlank w
+    → v ≡ numbers_in c.tables c.kept found T (length c.tables.planning.fragments.now + 2) lists (sets_at c) numbers w → fields ≡ v.fields → AreComeTo c T numbers fields
 unfolding walk_of
-walked_to c T numbers found w v fields right blank walks is ready =
-    subst (λ (fs : List NumberedField). ComesToAt c T numbers fs) (sym (is ∙ ap (λ (x : WalkData). x.fields) (walks ∙ ap (λ n. numbers_in c.tables c.kept found T n (sets_at c) numbers w) deep)))
-    (walk_comes c T (of_ready c ready) found (right ready) numbers w blank)
+walked_to c T numbers found lists w v fields right lists_right blank walks is ready =
+    subst (λ (fs : List NumberedField). ComesToAt c T numbers fs) (sym (is ∙ ap (λ (x : WalkData). x.fields) (walks ∙ ap (λ n. numbers_in c.tables c.kept found T n lists (sets_at c) numbers w) deep)))
+    (walk_comes c T (of_ready c ready) found lists (right ready) (lists_right ready) numbers w blank)
   where
     deep : length c.tables.planning.fragments.now + 2 ≡ nesting (setting_at c)
     deep = ap (λ n. n + 2) (sym (length-map c.tables.planning.fragments.now fragment_seen))
@@ -224,9 +240,15 @@ grouped_from c T numbers fields of_keys come grouped = record { fields = fields;
 pub reached_for : (c : Collector) (T : ℕ) → IsObjectType (schema_data c.tables.planning.schema.now) T → IsReady c → AreReachedFor c.tables T c.reaches.sets
 reached_for c T object ready set reach h misses = (of_ready c ready).reached.sets set reach h T object misses
 
+pub lists_reached_for : (c : Collector) (T : ℕ) → IsObjectType (schema_data c.tables.planning.schema.now) T → IsReady c → AreListsReachedFor c.tables c.joins T c.reaches.lists
+lists_reached_for c T object ready number reach h misses = ((of_ready c ready).reached.lists number reach h).1 T object misses
+
 -- where nothing was found
 pub none_reached_for : (c : Collector) (T : ℕ) (found : Reaches) → ((set : ℕ) → found_of found set ≡ None) → IsReady c → AreReachedFor c.tables T found
 none_reached_for c T found none ready set reach h misses = absurd (none-some reach (sym (none set) ∙ h))
+
+pub no_list_reached_for : (c : Collector) (T : ℕ) (found : Reaches) → ((number : ℕ) → found_of found number ≡ None) → IsReady c → AreListsReachedFor c.tables c.joins T found
+no_list_reached_for c T found none ready number reach h misses = absurd (none-some reach (sym (none number) ∙ h))
 
 pub ready_made : (c : Collector) → AreSound (setting_at c) (lists_of c) (entries_of c) → c.joins.count ≡ length c.tables.lists.items → lists_of_joins c.joins ≡ [] ∷ [] → ((T number : ℕ) → found_in c.kept T number ≡ None) → AreAllReached c.tables c.joins c.reaches → IsReady c
 ready_made c sound counted one unkept found = is_ready c (record {

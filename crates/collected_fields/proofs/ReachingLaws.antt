@@ -101,7 +101,7 @@ module _ (t : Tables) (T : ℕ) where
   sets_walked depth [] w h = refl
   sets_walked depth (set ∷ sets) w h = sets_walked depth sets (walk_steps s T (enter_plain t T depth) 0 (steps_listed t T set) w) h.1 ∙ h.0 depth w
 
-  pub numbers_walked : (sets : ℕ → List ℕ) (depth : ℕ) (numbers : List ℕ) (w : WalkData) → SetsCollectNothing t T (flat_map sets numbers) → (walk_numbers s T (steps_listed t T) (λ n. None) (map entry_data t.entries.items) sets depth numbers w).fields ≡ w.fields
+  pub numbers_walked : (sets : ℕ → List ℕ) (depth : ℕ) (numbers : List ℕ) (w : WalkData) → SetsCollectNothing t T (flat_map sets numbers) → (walk_numbers s T (steps_listed t T) (λ n. None) (map entry_data t.entries.items) (λ n. false) sets depth numbers w).fields ≡ w.fields
   numbers_walked sets depth [] w h = refl
   numbers_walked sets depth (number ∷ numbers) w h =
       let both = front_nothing (sets number) (flat_map sets numbers) h in

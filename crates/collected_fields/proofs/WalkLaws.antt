@@ -329,7 +329,9 @@ module _ (rank : List ℕ → ℕ) (e : Setting) (T : ℕ) (ranks : FragmentsRan
 
     -- ---- the selection sets of some numbers
 
-    module _ (sets : ℕ → List ℕ) (of_number : (number : ℕ) → IsKnownFor number (sets number)) where
+    module _ (sets : ℕ → List ℕ) (of_number : (number : ℕ) → IsKnownFor number (sets number))
+        -- which numbers are passed over, and that their selection sets have no fields
+        (passed : ℕ → Bool) (none_of : (number : ℕ) → passed number ≡ true → AllRanked rank depth (map written_under (sets number)) → fields_of_sets (sets number) ≡ []) where
       abbrev pub selections_of : List ℕ → List WrittenSelections
       selections_of numbers = flat_map (λ number. map written_under (sets number)) numbers
 
@@ -337,23 +339,28 @@ module _ (rank : List ℕ → ℕ) (e : Setting) (T : ℕ) (ranks : FragmentsRan
       ranked_front [] ys r = (tt, r)
       ranked_front (x ∷ xs) ys r = let rest = ranked_front xs ys r.1 in ((r.0, rest.0), rest.1)
 
+      passed_or_known : (number : ℕ) (s : Fields) (w v : WalkData) (b : Bool) → passed number ≡ b → AllRanked rank depth (map written_under (sets number)) → Collects s w (fields_of_sets (sets number)) v → Collects s w (fields_of_sets (sets number)) (if b then w else v)
+      passed_or_known number s w v true is ranked c = subst (λ (fs : Fields). Collects s w fs w) (sym (none_of number is ranked)) (nothing_added s w)
+      passed_or_known number s w v false is ranked c = c
+
       numbers_collected : (numbers : List ℕ) (s : Fields) (w : WalkData) → AllRanked rank depth (selections_of numbers) → IsKnown depth s w
-          → Collects s w (collected_to e T depth (selections_of numbers)) (walk_numbers e.schema T steps kept_for entries sets depth numbers w)
+          → Collects s w (collected_to e T depth (selections_of numbers)) (walk_numbers e.schema T steps kept_for entries passed sets depth numbers w)
       numbers_collected [] s w r known_so = nothing_added s w
       numbers_collected (number ∷ numbers) s w r known_so =
           let here : List WrittenSelections = map written_under (sets number) in
           let both = ranked_front here (selections_of numbers) r in
-          let v : WalkData = walk_known e.schema T steps (walk_of depth) (kept_for number) (sets number) w in
-          let c : Collects s w (fields_of_sets (sets number)) v = known_collected depth (omega arith) (walk_of depth) number (kept_for number) (sets number) s w refl (of_number number) (spread_collected depth depth (omega arith) (omega arith)) both.0 known_so in
-          subst (λ (fs : Fields). Collects s w fs (walk_numbers e.schema T steps kept_for entries sets depth (number ∷ numbers) w))
+          let known_walk : WalkData = walk_known e.schema T steps (walk_of depth) (kept_for number) (sets number) w in
+          let v : WalkData = if passed number then w else known_walk in
+          let c : Collects s w (fields_of_sets (sets number)) v = passed_or_known number s w known_walk (passed number) refl both.0 (known_collected depth (omega arith) (walk_of depth) number (kept_for number) (sets number) s w refl (of_number number) (spread_collected depth depth (omega arith) (omega arith)) both.0 known_so) in
+          subst (λ (fs : Fields). Collects s w fs (walk_numbers e.schema T steps kept_for entries passed sets depth (number ∷ numbers) w))
           (sym (flat_map-append (fields_written e T whole) here (selections_of numbers)))
-          (one_after s w (fields_of_sets (sets number)) v (collected_to e T depth (selections_of numbers)) (walk_numbers e.schema T steps kept_for entries sets depth numbers v) c
+          (one_after s w (fields_of_sets (sets number)) v (collected_to e T depth (selections_of numbers)) (walk_numbers e.schema T steps kept_for entries passed sets depth numbers v) c
           (numbers_collected numbers (s ++ c.added) v both.1 (known_after depth s w (fields_of_sets (sets number)) v known_so c)))
 
       -- a walk that begins with nothing
       pub walked_numbers : (numbers : List ℕ) (w : WalkData) → IsBlank w → AllRanked rank depth (selections_of numbers)
-          → (left : Fields) × (LeavesOutRepeats (collected_to e T depth (selections_of numbers)) left × Serves left (walk_numbers e.schema T steps kept_for entries sets depth numbers w).fields)
+          → (left : Fields) × (LeavesOutRepeats (collected_to e T depth (selections_of numbers)) left × Serves left (walk_numbers e.schema T steps kept_for entries passed sets depth numbers w).fields)
       walked_numbers numbers w blank r =
-          let v : WalkData = walk_numbers e.schema T steps kept_for entries sets depth numbers w in
+          let v : WalkData = walk_numbers e.schema T steps kept_for entries passed sets depth numbers w in
           let c : Collects [] w (collected_to e T depth (selections_of numbers)) v = numbers_collected numbers [] w r (λ k f there h less. absurd (true≢false (sym h ∙ blank.0 k))) in
           (c.added, (c.thin, subst (λ (fs : List NumberedField). Serves c.added fs) (sym (c.grown ∙ ap (λ (fs : List NumberedField). fs ++ c.more) blank.1)) c.serves))

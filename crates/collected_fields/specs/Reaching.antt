@@ -75,6 +75,10 @@ AreReachedFor t T found = (set : ℕ) (reach : Reach) → found_of found set ≡
 abbrev pub AreListsReached : Tables → Joins → Reaches → Type 0
 AreListsReached t j found = (number : ℕ) (reach : Reach) → found_of found number ≡ Some reach → IsNumberIn j number × ((T : ℕ) → IsObjectType (schema_data t.planning.schema.now) T → Misses reach T → SetsCollectNothing t T (sets_in_joins j number))
 
+-- the same for objects of the type T alone
+abbrev pub AreListsReachedFor : Tables → Joins → ℕ → Reaches → Type 0
+AreListsReachedFor t j T found = (number : ℕ) (reach : Reach) → found_of found number ≡ Some reach → Misses reach T → SetsCollectNothing t T (sets_in_joins j number)
+
 pub record AreAllReached (t : Tables) (j : Joins) (all : AllReaches) : Type 0 where
   pub sets : AreReached t all.sets
   pub lists : AreListsReached t j all.lists

@@ -83,10 +83,10 @@ module _ (s : SchemaData) (T : ℕ) where
       walk_fragment zero number w = w
       walk_fragment (suc depth) number w = if is_marked number w then w else walk_entry (walk_fragment depth) (slice_get entries number) (marked number w)
 
-      -- `sets` are the selection sets of a number
-      abbrev pub walk_numbers : (ℕ → List ℕ) → ℕ → List ℕ → WalkData → WalkData
-      walk_numbers sets depth [] w = w
-      walk_numbers sets depth (number ∷ numbers) w = walk_numbers sets depth numbers (walk_known (walk_fragment depth) (known number) (sets number) w)
+      -- `sets` are the selection sets of a number; a number is passed over where the test holds of it
+      abbrev pub walk_numbers : (ℕ → Bool) → (ℕ → List ℕ) → ℕ → List ℕ → WalkData → WalkData
+      walk_numbers passed sets depth [] w = w
+      walk_numbers passed sets depth (number ∷ numbers) w = walk_numbers passed sets depth numbers (if passed number then w else walk_known (walk_fragment depth) (known number) (sets number) w)
 
 -- ---- groups
 
@@ -150,5 +150,6 @@ module _ (t : Tables) (k : Findings) (r : Reaches) (T : ℕ) (depth : ℕ) where
   abbrev pub entry_in : ℕ → WalkData → WalkData
   entry_in number = walk_entry (schema_data t.planning.schema.now) T list_steps (known_for k T) (map entry_data t.entries.items) enter_in (slice_get (map entry_data t.entries.items) number)
 
-  abbrev pub numbers_in : (ℕ → List ℕ) → List ℕ → WalkData → WalkData
-  numbers_in sets = walk_numbers (schema_data t.planning.schema.now) T list_steps (known_for k T) (map entry_data t.entries.items) sets depth
+  -- where it was found of lists too for which types they have no fields
+  abbrev pub numbers_in : Reaches → (ℕ → List ℕ) → List ℕ → WalkData → WalkData
+  numbers_in lists sets = walk_numbers (schema_data t.planning.schema.now) T list_steps (known_for k T) (map entry_data t.entries.items) (λ number. is_missed (found_of lists number) T) sets depth

@@ -1,6 +1,6 @@
 //! The walk over selection sets, where each fragment is entered once.
 
-ghost use Rattle.std.specs.Prelude.{◌≡◌, ◌∷◌, [], ◌<◌, ◌≤◌, ◌+◌, ◌-◌, ℕ, false, true, map, length, replicate, slice_get, slice_set, nat_eq, IfOk, OnOk, get_or, option_map};
+ghost use Rattle.std.specs.Prelude.{◌≡◌, ◌∷◌, [], ◌<◌, ◌≤◌, ◌+◌, ◌-◌, ℕ, false, true, map, length, replicate, slice_get, slice_set, nat_eq, IfOk, OnOk, get_or, option_map, if◌then◌else◌};
 ghost use Rattle.std.specs.List.{list_any};
 ghost use Rattle.schema_model.specs.Numbers.{type_number};
 ghost use Rattle.schema_model.specs.SchemaViews.{schema_data};
@@ -8,6 +8,7 @@ ghost use Rattle.plan_model.specs.Collecting.{applies_where};
 ghost use Rattle.collected_fields.specs.Steps.{step_data};
 ghost use Rattle.collected_fields.specs.Prepared.{list_data, entry_data};
 ghost use Rattle.collected_fields.specs.Lists.{sets_in_joins};
+ghost use Rattle.collected_fields.specs.Reached.{found_of, is_missed};
 ghost use Rattle.collected_fields.specs.Walks.{walk_data, numbered, is_marked, marked, kept, taken, IsBlank, TakesStep, steps_from, list_steps, enter_in, entry_in, sets_in, known_in, numbers_in};
 
 use crate::collected::Collected;
@@ -356,19 +357,24 @@ fn walk_unknown<'a>(
     }
 }
 
-/// What is kept of a number, or its selection sets.
+/// What is kept of a number, or its selection sets, unless it was found that these have no fields for the type.
 fn walk_number<'a>(
     tables: &Tables<'a>,
     joins: &Joins,
     known: &Findings<'a>,
     reaches: &Reaches,
+    lists: &Reaches,
     of: TypeId,
     depth: usize,
     number: usize,
     walk: &mut Walk<'a>,
 ) -> Result<(), AllocError>
-    ensures { OnOk result (walk_data walk.new ≡ known_in tables.now known.now reaches.now of.number depth number (sets_in_joins joins.now number) (walk_data walk.old)) }
+    ensures { OnOk result (walk_data walk.new ≡ (if is_missed (found_of lists.now number) of.number then walk_data walk.old else known_in tables.now known.now reaches.now of.number depth number (sets_in_joins joins.now number) (walk_data walk.old))) }
 {
+    if lists.misses(number, of) {
+        walk.count(1);
+        return Ok(());
+    }
     match known.of(number, of) {
         Some(fields) => walk.take(fields),
         None => walk_unknown(tables, joins, known, reaches, of, depth, number, walk),
@@ -381,15 +387,18 @@ pub fn walk_numbers<'a>(
     joins: &Joins,
     known: &Findings<'a>,
     reaches: &Reaches,
+    lists: &Reaches,
     of: TypeId,
     depth: usize,
     numbers: &[usize],
     walk: &mut Walk<'a>,
 ) -> Result<(), AllocError>
-    ensures { OnOk result (walk_data walk.new ≡ numbers_in tables.now known.now reaches.now of.number depth (sets_in_joins joins.now) numbers.now (walk_data walk.old)) }
+    ensures { OnOk result (walk_data walk.new ≡ numbers_in tables.now known.now reaches.now of.number depth lists.now (sets_in_joins joins.now) numbers.now (walk_data walk.old)) }
 {
     for number in numbers {
-        walk_number(tables, joins, known, reaches, of, depth, *number, walk)?;
+        walk_number(
+            tables, joins, known, reaches, lists, of, depth, *number, walk,
+        )?;
     }
     Ok(())
 }
