@@ -17,13 +17,16 @@ pub const FEW: usize = 16;
 const ROOM: usize = 6000000;
 
 /// A list of so many selection sets is long.
-const LONG: usize = 128;
+const LONG: usize = 64;
 
 /// A piece of a list has no more selection sets than this.
-const PIECE: usize = 512;
+const PIECE: usize = 128;
 
 /// A piece ends behind one of so many selection sets.
-const ONE_OF: u64 = 64;
+const ONE_OF: u64 = 16;
+
+/// Numbers are few for so many times as many selection sets.
+const TIMES: usize = 8;
 
 /// Lists of selection sets. The first is empty.
 #[derive(Drop)]
@@ -51,10 +54,16 @@ fn hash_of(begun: DefaultHasher, list: &[usize]) -> u64 {
 
 /// Whether a piece of a list ends behind a selection set. That goes by the set and not by its place: what lists have in common is cut
 /// alike. Nothing rests on it.
-fn ends_piece(set: usize, length: usize) -> bool {
+fn ends_piece(seed: u64, set: usize, length: usize) -> bool {
     let mut hasher = FoldHasher::default();
+    hasher.write_u64(seed);
     hasher.write_usize(set);
     length >= PIECE || hasher.finish() % ONE_OF == 0
+}
+
+/// Whether some numbers are few for the selection sets that they stand for, of which most stand in one of them alone.
+fn are_few(numbers: usize, all: usize, sets: usize) -> bool {
+    numbers <= sets / TIMES && all <= sets.saturating_add(sets / TIMES)
 }
 
 /// A list to which selection sets are added once.
@@ -276,11 +285,12 @@ impl Joins {
         ensures more { HasMore self.old self.new }
         ensures pieces { IfOk result (λ numbers. IfSome numbers (λ some. AreFor self.new list.now some.items)) }
     {
+        let seed = self.begun.finish();
         let mut numbers = Vec::new(alloc);
         let mut piece = Vec::new(alloc);
         for set in list {
             piece.push(*set)?;
-            if ends_piece(*set, piece.len()) {
+            if ends_piece(seed, *set, piece.len()) {
                 let whole = mem::replace(&mut piece, Vec::new(alloc));
                 if !self.put_piece(whole, &mut numbers)? {
                     return Ok(None);
@@ -334,6 +344,19 @@ impl Joins {
         Ok(pieces)
     }
 
+    /// How many selection sets these numbers stand for, each counted wherever it stands.
+    fn count_all(&self, numbers: &[usize]) -> usize {
+        let mut all: usize = 0;
+        for number in numbers {
+            let sets = match self.list_at(*number) {
+                Some(list) => list.len(),
+                None => 1,
+            };
+            all = all.saturating_add(sets);
+        }
+        all
+    }
+
     /// The selection sets of these numbers by few numbers, where there is room.
     pub fn few(&mut self, alloc: Global, numbers: Vec<usize>) -> Result<Vec<usize>, AllocError>
         ensures count { self.new.count ≡ self.old.count }
@@ -343,7 +366,11 @@ impl Joins {
         if numbers.len() < FEW || self.room == 0 {
             return Ok(numbers);
         }
+        let all = self.count_all(numbers.as_slice());
         let list = self.flat(alloc, numbers.as_slice())?;
+        if are_few(numbers.len(), all, list.len()) {
+            return Ok(numbers);
+        }
         match self.numbers_for(alloc, list)? {
             Some(few) => Ok(few),
             None => Ok(numbers),
