@@ -2,7 +2,7 @@ use Rattle.std.proofs.Common.{◌≡◌, List, [], ℕ, ◌+◌, Vec, take, refl
 use Rattle.std.specs.declared.alloc.Global.{Global}
 use Rattle.collected_fields.specs.Lists.{AreForBefore, PutsPiece}
 use Rattle.collected_fields.proofs.ListLaws.{more_itself, more_again}
-use Rattle.collected_fields.proofs.PieceLaws.{none_before, one_before, cut_before, all_for, stands_as}
+use Rattle.collected_fields.proofs.PieceLaws.{none_before, one_before, cut_before, stands_as}
 use Rattle.collected_fields.proofs.joins.Joins.pieces.Goals as goal
 use Rattle.collected_fields.proofs.joins.Joins.pieces.Goals.{then-ends_piece+in_ok-put_piece+else-not-branch, else-ends_piece}
 
