@@ -1,7 +1,7 @@
 //! Whether what is written in two places comes to the same. Where two literals are written in one form it is seen by their parts; else
 //! these two are built.
 
-ghost use Rattle.std.specs.Prelude.{◌≡◌, All, IsTrue, IfOk};
+ghost use Rattle.std.specs.Prelude.{◌≡◌, All, IsTrue, IfOk, IfSome};
 ghost use Rattle.gql_base.specs.parts.Trees.{value_tree};
 ghost use Rattle.input_values.specs.values.Coerced.{coerced_tree};
 ghost use Rattle.input_values.specs.inputs.Shapes.{shape_tree};
@@ -16,11 +16,15 @@ use crate::inputs::{KnownInputs, Owner};
 use crate::loads::Loads;
 use crate::same_values::same_value;
 use crate::weighing::Weighing;
+use crate::written::writes_more;
 use gql_base::{Argument, NameIndex, Value, index_of};
 use input_values::places::innermost;
 use input_values::{Coerced, InputDef, Shape, TypeId};
 use schema_model::{FieldId, Kind};
 use std::alloc::{AllocError, Global};
+
+/// A literal that writes more values is great.
+const SHORT: usize = 64;
 
 /// Whether two literals are the same variable.
 #[tactic(auto, using(crate::proofs::OpenedTrees::opened_literals))]
@@ -44,11 +48,21 @@ impl<'p> Weighing<'p> {
         self.is_absent(literal) == self.is_absent(other)
     }
 
-    /// Whether a literal comes to this value.
+    /// What a short literal comes to, as it is built. A great one isn't built at each place where it is compared.
+    fn built_short(&self, alloc: Global, shape: &Shape, literal: &Value) -> Option<Coerced>
+        ensures { IfSome result (λ built. ComesTo (scale_of self.now) (shape_tree shape.now) literal.now (coerced_tree built)) }
+    {
+        if writes_more(literal, SHORT) {
+            return None;
+        }
+        self.built(alloc, shape, literal)
+    }
+
+    /// Whether a literal comes to this value. Where that isn't seen it says no.
     fn comes_to(&self, alloc: Global, shape: &Shape, literal: &Value, value: &Coerced) -> bool
         ensures { IsTrue result → ComesTo (scale_of self.now) (shape_tree shape.now) literal.now (coerced_tree value.now) }
     {
-        match self.built(alloc, shape, literal) {
+        match self.built_short(alloc, shape, literal) {
             Some(built) => same_value(&built, value),
             None => false,
         }
@@ -61,7 +75,7 @@ impl<'p> Weighing<'p> {
         if same_variable(literal, other) {
             return true;
         }
-        match self.built(alloc, shape, literal) {
+        match self.built_short(alloc, shape, literal) {
             Some(built) => self.comes_to(alloc, shape, other, &built),
             None => false,
         }

@@ -12,6 +12,7 @@ mod placed;
 mod same_values;
 mod values;
 mod weighing;
+mod written;
 
 pub use loads::{Loads, no_loads};
 pub use weighing::{Weighing, weighing_of};

@@ -1,0 +1,37 @@
+//! How much a literal writes. No promise rests on it.
+
+use gql_base::{Argument, Value};
+
+/// Whether a literal writes more values than so many.
+pub(crate) fn writes_more(literal: &Value, most: usize) -> bool {
+    literal_left(literal, most).is_none()
+}
+
+/// How many of so many values are left behind a literal; none where it writes more. It ends there.
+#[cycle(words)]
+fn literal_left(literal: &Value, most: usize) -> Option<usize> {
+    let left = most.checked_sub(1)?;
+    match literal {
+        Value::List(items) => items_left(items.as_slice(), left),
+        Value::Object(fields) => fields_left(fields.as_slice(), left),
+        _ => Some(left),
+    }
+}
+
+#[cycle(words)]
+fn items_left(items: &[Value], most: usize) -> Option<usize> {
+    let mut left = most;
+    'items: for item in items {
+        left = literal_left(item, left)?;
+    }
+    Some(left)
+}
+
+#[cycle(words)]
+fn fields_left(fields: &[Argument], most: usize) -> Option<usize> {
+    let mut left = most;
+    'fields: for field in fields {
+        left = literal_left(&field.value, left)?;
+    }
+    Some(left)
+}
