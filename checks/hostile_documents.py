@@ -828,6 +828,69 @@ def sets_of_two_types(count):
     return build
 
 
+def sets_of_fragments(count, each):
+    """Three keys that spread a fragment of sets at one key, each of which spreads two fragments with conditions on so many types; two of them add a set."""
+    def build(length):
+        many = max(2, min(count // each, length // 2 // (16 * each + 30)))
+        fragments = "".join("fragment G%d on I{%s}" % (i, "".join("...on T%d{a}" % at for at in range(i * each, i * each + each))) for i in range(many))
+        head = "{x:n{...F}y:n{...F i{...on T0{b:a}}}z:n{...F i{...on T%d{b:a}}}}" % (count - 1)
+        return head + "fragment F on N{%s}" % filled(length - len(head) - len(fragments) - 17, lambda i: "i{...G%d...G%d}" % (i % many, (i + 1 + i // many * 7) % many)) + fragments
+    return build
+
+
+def subsets_of_unions(count):
+    """Types of all subsets of so many unions, and as many unions of the types that are in none of them."""
+    numbers = range(1 << count)
+    members = lambda name, at, bit: "union %s%d = %s" % (name, at, " | ".join("T%d" % i for i in numbers if i >> at & 1 == bit))
+    unions = " ".join(members("U", at, 1) + " " + members("V", at, 0) for at in range(count))
+    return "type Query { n: I } interface I { a: Int } %s %s" % (" ".join("type T%d implements I { a: Int }" % i for i in numbers), unions)
+
+
+def ways_of_their_own(length):
+    """Four keys that spread a chain of fragments, each of which spreads the next one under two conditions, one of which applies to each type."""
+    keys = "{k0:n{a ...F0}k1:n{...on T1{y:a}...F0}k2:n{...on T2{z:a}...F0}k3:n{x:a ...F0}}"
+    chain = filled(length - len(keys) - 40, lambda i: "fragment F%d on I{...on U%d{...F%d}...on V%d{...F%d}}" % (i, i % 12, i + 1, i % 12, i + 1))
+    return keys + chain + "fragment F%d on I{a}" % chain.count("fragment")
+
+
+def without_types(kinds, types):
+    """An interface of no type, beside so many types of as many interfaces."""
+    names = ["I%d" % i for i in range(kinds)]
+    interfaces = " ".join("interface %s { a: Int }" % it for it in names)
+    return "type Query { a: Int } interface E { a: Int } %s %s" % (interfaces, " ".join("type T%d implements %s { a: Int }" % (i, " & ".join(names)) for i in range(types)))
+
+
+def optional_arguments(count):
+    return "type Query { o(%s): Int }" % " ".join("a%d: Int" % i for i in range(count))
+
+
+def written_twice(length):
+    """Two calls of one key that write thousands of arguments, in opposite orders."""
+    names = ["a%d:1" % (29999 - i) for i in range(max(1, (length - 20) // 18))]
+    return "{o(%s)o(%s)}" % (" ".join(names), " ".join(reversed(names)))
+
+
+def at_every_level(length):
+    """A fragment of thousands of sets in orders, which keys spread at each of forty-four levels above a key of their own."""
+    sets = itertools.chain.from_iterable(itertools.permutations("abcdefg", size) for size in range(7, 0, -1))
+    keys = "".join("k%d:%sx%d:a%s" % (i, "n{...F " * 44, i, "}" * 44) for i in range(50 if length > 60000 else 1))
+    return "{%s}fragment F on N{%s}" % (keys, filled(length - len(keys) - 20, lambda i: "n{%s}" % " ".join(next(sets, "a"))))
+
+
+def below_long_keys(length):
+    """Keys of thousands of bytes in one another, above thousands of short ones."""
+    keys = "".join("%s%d:n{" % ("p" * max(1, length // 88 - 8), i) for i in range(44))
+    return "{%s%s%s}" % (keys, filled(length - len(keys) - 50, lambda i: "k%d:a " % i), "}" * 44)
+
+
+def filters(length):
+    """Keys that each have a key of their own beside a fragment of a call with a filter that is a variable, and one with that filter as a literal."""
+    ids = " ".join("%d" % (100 + i % 900) for i in range(length // 16))
+    fragment = "fragment F on N{p(f:$f)p(f:{and:[{text:\"x\"}]ids:[%s]})}" % ids
+    head = "query($f:F={ids:[%s]and:[{text:\"x\"}]}){" % ids
+    return head + filled(length - len(head) - len(fragment) - 2, lambda i: "k%d:n{...F x%d:a}" % (i, i)) + "}" + fragment
+
+
 def directives_again(count):
     """A type whose definition has so many directives, and says behind them that its field is deprecated."""
     return 'directive @x repeatable on FIELD_DEFINITION type Query { b: Int a: Int %s @deprecated(reason: "r") }' % ("@x" * count)
@@ -845,6 +908,113 @@ def longer_keys(most, text):
     return lambda n: "{%s}" % filled(n - 2, lambda i: "k%0*d:" % (max(1, n // most - 14), i) + text % i)
 
 
+def lists_of_objects(length):
+    """Variables whose defaults are lists of empty objects, as many as fit."""
+    head = "query(%s){o(i:$v0)}"
+    each = min(9900, length // 4)
+    return head % filled(length - 20, lambda i: "$v%d:[I]=[%s]" % (i, "{}" * each))
+
+
+def long_fields():
+    """A type with fields whose names are of a thousand bytes, and of twice as many up to 64,000."""
+    return "type Query { n: N } type N { %s }" % " ".join("x" * (1000 << i) + ": Int" for i in range(7))
+
+
+def longest_field(length):
+    """Keys that spread a fragment with the field that has the longest name that fits."""
+    name = "x" * max(1000 << i for i in range(7) if 1000 << i <= max(1000, length // 2))
+    return "{%s}fragment F on N{%s}" % (filled(length - len(name) - 20, key("...F")), name)
+
+
+def among_many(count):
+    """A list of so many arguments, of which one slices."""
+    return 'type Query { o(%s): [N] @listSize(slicingArguments: ["a0"], requireOneSlicingArgument: false) } type N { a: Int }' % " ".join("a%d: Int" % i for i in range(count))
+
+
+def unknown_locations(count):
+    """A directive whose locations are none that there are."""
+    return "directive @d on %s type Query { a: Int }" % "|".join("X" * count)
+
+
+def specified_behind(count):
+    """A scalar whose definition has so many directives, and says behind them by what it is specified."""
+    return 'directive @x repeatable on SCALAR scalar S %s @specifiedBy(url: "u") type Query { a: S }' % ("@x" * count)
+
+
+def below_types(count):
+    """An interface of so many types, with a field of an object type."""
+    return "type Query { n: I } interface I { m: N } type N { n: N a: Int }" + "".join(" type T%d implements I { m: N }" % i for i in range(count))
+
+
+def beside_own_sets(count):
+    """A fragment of sets in orders at an interface, where each of so many types has a set of its own beside it."""
+    def build(length):
+        own = "".join("...on T%d{m{x%d:a}}" % (i, i) for i in range(min(count, length // 56)))
+        return "{n{...F %s}}fragment F on I{%s}" % (own, filled(length - len(own) - 30, lambda i: "m" + orders(i)[1:]))
+    return build
+
+
+def below_own_conditions(count):
+    """A fragment of sets in orders at an interface, where each of so many types has a set beside it that has a field for one of them alone."""
+    def build(length):
+        own = "".join("...on T%d{n{...on T0{x%d:a}}}" % (i, i) for i in range(min(count, length // 90)))
+        return "{n{n{...F} %s}}fragment F on I{%s}" % (own, filled(length - len(own) - 40, orders))
+    return build
+
+
+def chosen_fragments(length):
+    """Thirty fragments of sets in orders, and keys that each spread another seventeen of them."""
+    each = length // 2 // 30 - 22
+    fragments = "".join("fragment F%d on N{%s}" % (j, filled(each, lambda i: orders(i + j * 266)) or "a") for j in range(30))
+    some = lambda i: "".join("...F%d" % j for j in sorted(range(30), key=lambda j: (i + 1) * (j + 7) * 2654435761 % 4294967291)[:17])
+    return "{%s}%s" % (filled(length - len(fragments) - 2, lambda i: "k%d:n{%s}" % (i, some(i))), fragments)
+
+
+def left_out(i):
+    """Arguments without a value, those of a number's digits."""
+    return ",".join("%s:$v" % it for at, it in enumerate("abcdefghijklm") if i % 8190 + 1 >> at & 1)
+
+
+def left_out_in_a_chain(length):
+    """A chain of fragments, each with a call that is equal to the others and written otherwise, which keys enter at all places."""
+    chain = filled(length * 3 // 4, lambda i: "fragment F%d on N{b(%s)...F%d}" % (i, left_out(i), i + 1))
+    count = chain.count("fragment")
+    return "query($v:Int){%s}%sfragment F%d on N{a}" % (filled(length - len(chain) - 60, lambda i: "k%d:n{...F%d}" % (i, i * 7 % count)), chain, count)
+
+
+def left_out_at_places(length):
+    """Keys that each have a key of their own below, beside a fragment of such calls."""
+    fragment = "fragment F on N{%s}" % filled(length // 2, lambda i: "b(%s)" % left_out(i))
+    return "query($v:Int){%s}%s" % (filled(length - len(fragment) - 16, lambda i: "k%d:n{x%d:a ...F}" % (i, i)), fragment)
+
+
+def orders_at_types(length):
+    """A fragment of equal calls, written in orders of their own, at an interface."""
+    return "{n{...F}}fragment F on I{%s}" % filled(length - 40, lambda i: "o(i:{%s})" % ",".join("%s:1" % it for it in permutation(i, "abcdefg")))
+
+
+def ids_at_types(length):
+    """The same of calls with lists of identifiers."""
+    return "{n{...F}}fragment F on I{%s}" % filled(length - 40, lambda i: "b(ids:[%s])" % ids(i))
+
+
+def beside_great_defaults(length):
+    """Pairs of calls that are equal, of which one writes what the other leaves to a default."""
+    head = "query($a:[Int]=[%s])" % ("1 " * 998)
+    return head + "{%s}" % filled(length - len(head) - 2, lambda i: "k%d:o(a0:$a x:%d)k%d:o(x:%d)" % (i, i, i, i))
+
+
+def written_defaults(length):
+    """The same where the default is written as a literal."""
+    return "{%s}" % filled(length - 2, lambda i: "k%d:o(z:[%s]x:%d)k%d:o(x:%d)" % (i, "1 " * 70, i, i, i))
+
+
+def ids_below_sizes(length):
+    """Keys that spread a fragment of calls whose lists of identifiers are equal, below a field that hands down a size."""
+    fragment = "fragment F on C{%s}" % "".join("b(ids:[%s])" % ids(i) for i in range(60))
+    return "{%s}%s" % (filled(length - len(fragment) - 2, lambda i: "k%d:o{...F}" % i), fragment)
+
+
 INPUTS = "type Query { o(i: I): Int } input I { z: Int i: I l: [I] d: Int = 1 }"
 SCALARS = "type Query { o(x: [S]): Int } scalar S"
 THIRTY = "type Query { n: N o(i: [I]): Int } type N { n: N o(i: [I]): Int } input I { z: Int %s }" % " ".join("f%d: Int = 1" % i for i in range(30))
@@ -852,6 +1022,7 @@ SEVEN = "type Query { n: N } type N { n: N o(i: I): Int } input I { %s }" % " ".
 LITERALS = "type Query { n: N } type N { b(x: [Int]): Int }"
 LIST_AND_OBJECT = "type Query { n: N } type N { a: Int b(x: [Int]): Int o(i: I): Int } input I { %s %s } input J { a: Int = 1 b: Int = 1 c: Int = 1 d: Int = 1 e: Int = 1 }" % (
     " ".join("%s: Int" % it for it in "abcdefg"), " ".join("j%d: J = {}" % i for i in range(25)))
+THIRTEEN = "type Query { n: N } type N { a: Int n: N b(%s): Int }" % " ".join("%s: Int" % it for it in "abcdefghijklm")
 ONE_LIST = "type Query { o(i: [Int]): Int }"
 TWO_LISTS = "type Query { o(i: [Int], j: [Int]): Int }"
 FAMILIES = {
@@ -995,6 +1166,31 @@ FAMILIES = {
     "lists of one beside a great variable": ("type Query { o(f: F): Int } input F { i: [Int] s: [String] }", lambda n: "query($a:[Int]){%s}" % filled(n - 30, lambda i: 'k%d:o(f:{i:$a s:"%d"})k%d:o(f:{i:$a s:["%d"]})' % (i, i, i, i)), great(1)),
     "small lists of variables at fifty types": (lambda: types_of(50, lambda i: "o(i: [[Int]]): Int"), small_variables("$v:[Int]=[%s]" % " ".join("1" * 60), "[%d]", 320)),
     "small objects of variables at fifty types": (lambda: types_of(50, lambda i: "o(i: [J]): Int", input_of(58)), small_variables("$v:J={}", "{p0:%d}", 330)),
+    "lists of objects of a great input type": (lambda: optional_fields(5000), lists_of_objects),
+    "a long name of a field": (long_fields, longest_field),
+    "a long name of an input field": (lambda: "type Query { o(i: [I]): Int } input I { %s: Int = 1 }" % ("x" * 20000), lists_of_objects),
+    "many arguments beside one that slices": (lambda: among_many(50000), lambda n: "{%s}" % filled(n - 2, lambda i: "k%d:o(a1:%d){a}" % (i, i))),
+    "unknown locations of a directive": (lambda: unknown_locations(1000000), lambda n: "{__schema{directives{%s}}}" % filled(n - 30, lambda i: "k%d:locations " % i)),
+    "specified behind a million directives": (lambda: specified_behind(1000000), lambda n: '{__type(name:"S"){%s}}' % filled(n - 30, lambda i: "k%d:specifiedByURL " % i)),
+    "sets in orders beside a set of each type": (below_types(400), beside_own_sets(400)),
+    "sets in orders beside a condition of each type": (doubled_types(400), below_own_conditions(400)),
+    "fragments of sets, chosen by each key": (ONE, chosen_fragments),
+    "arguments left out in a chain": (THIRTEEN, left_out_in_a_chain),
+    "arguments left out at places of their own": (THIRTEEN, left_out_at_places),
+    "calls in orders at four hundred types": (types_of(400, lambda i: "o(i: J): Int", "input J { %s }" % " ".join("%s: Int" % it for it in "abcdefg")), orders_at_types),
+    "calls with ids at thousands of types": (lambda: types_of(4900, lambda i: "b(ids: [ID!]): Int"), ids_at_types),
+    "lists of lists at four hundred types": (types_of(400, lambda i: "o(i: [[Int]]): Int"), lists_of_own_lengths(40, "[1]")),
+    "pairs beside great defaults": (lambda: great_defaults(400), beside_great_defaults),
+    "sets of eighteen types": (lambda: many_types_below(4900), sets_of_fragments(4900, 9)),
+    "pairs that write a great default": (lambda: great_defaults(400).replace("x: Int", "x: Int z: [Int] = [%s]" % ("1 " * 70)), written_defaults),
+    "calls with ids below sized fields": (lambda: 'type Query { o: C @listSize(assumedSize: 2, sizedFields: [%s]) } type C { b(ids: [ID!]): Int l: [N] } type N { a: Int }' % ('"l"' * 200000), ids_below_sizes),
+    "ways of their own through a chain": (lambda: subsets_of_unions(12), ways_of_their_own),
+    "possible types asked from the schema": (lambda: without_types(250, 2400), lambda n: '{__type(name:"E"){%s}}' % filled(n - 30, lambda i: "k%d:possibleTypes{name}" % i)),
+    "thousands of arguments written": (lambda: optional_arguments(30000), written_twice),
+    "a fragment of sets at every level": (EIGHT, at_every_level),
+    "defaults of fields with long names": (lambda: "type Query { o(i: [I]): Int } input I { z: Int %s }" % " ".join("%s%d: Int = 1" % ("f" * 100000, i) for i in range(19)), lambda n: "{%s}" % filled(n - 2, lambda i: "k%d:o(i:[%s])" % (i, "{}" * max(1, 940 - i)))),
+    "keys below long keys": (ONE, below_long_keys),
+    "a filter as a variable and as a literal": ("type Query { n: N } type N { n: N a: Int p(f: F): Int } input F { ids: [ID!] text: String inStock: Boolean = true and: [F!] }", filters),
 }
 
 
