@@ -13,10 +13,11 @@ pub struct Advice {
     pub helps: &'static str,
 }
 
-/// What refusals begin with, and the stage whose sentences are said of them.
+/// What refusals begin with, and the stages whose sentences are said of them, the first that has some.
 pub const STAGES: &[(&str, &str)] = &[
     ("document 1 Lex", "tokens"),
     ("text 1 Lex", "tokens"),
+    ("local 2 Rule", "schema of schemas"),
     ("local 2 Rule", "rule"),
     ("local 3 Variable", "variable"),
     ("local 4 Plan", "plan"),
@@ -50,6 +51,7 @@ pub(crate) fn advice_of(stage: &str) -> &'static [Advice] {
         "directive" => DIRECTIVE,
         "document" => DOCUMENT,
         "pick" => PICK,
+        "schema of schemas" => OVER_SCHEMAS,
         "rule" => RULE,
         "variable" => VARIABLE,
         "plan" => PLAN,
@@ -194,7 +196,7 @@ const SCHEMA: &[Advice] = &[
         fault: "7 FloatScalar",
         inner: "",
         wrong: "{*} is of the type Float, which isn't supported.",
-        helps: "Use Int, String, or a scalar of your own.",
+        helps: "Let the server send a whole number or a string there, and write Int, String, or a scalar of your own: a reply with a fraction is refused, and charged in full.",
     },
     Advice {
         fault: "8 NestedList",
@@ -378,7 +380,7 @@ const RULE: &[Advice] = &[
         fault: "4 NoRoot",
         inner: "",
         wrong: "The operation is a mutation, and the schema has none.",
-        helps: "Define `type Mutation` in the schema, or send a query.",
+        helps: "Send a query; or define `type Mutation` in the schema, and where it has a `schema {(} .. {)}`, write `mutation: Mutation` into that.",
     },
     Advice {
         fault: "5 UnknownFragment",
@@ -419,8 +421,8 @@ const RULE: &[Advice] = &[
     Advice {
         fault: "11 Introspection",
         inner: "",
-        wrong: "{@} asks for the schema, which is answered only where the operation asks for nothing else at its root.",
-        helps: "Send such fields in an operation of their own; `__typename` is taken everywhere.",
+        wrong: "Of the names that begin with two underscores, `__typename` is taken everywhere, and `__schema` and `__type` only at the root of a query that asks for nothing else; {@} is none of these here.",
+        helps: "Ask for a field that the type has, or for the schema in a query of its own.",
     },
     Advice {
         fault: "12 UnknownField",
@@ -475,6 +477,28 @@ const RULE: &[Advice] = &[
         inner: "",
         wrong: "The type of the variable {@} doesn't fit this place.",
         helps: "Declare it with the type that is taken here, or give it a default where only null is in the way.",
+    },
+];
+
+/// Rules of documents that ask for the schema, whose operations are checked over the schema of schemas.
+const OVER_SCHEMAS: &[Advice] = &[
+    Advice {
+        fault: "7 FragmentOn",
+        inner: "",
+        wrong: "An operation that asks for the schema has conditions on its root type and on the types of introspection alone, and {@} is none of these.",
+        helps: "Put the condition on the root type, or select the fields without one.",
+    },
+    Advice {
+        fault: "8 UnknownDirective",
+        inner: "",
+        wrong: "An operation that asks for the schema has the directives `@skip` and `@include` alone, and {@} is none of these.",
+        helps: "Remove it.",
+    },
+    Advice {
+        fault: "16 VariableType",
+        inner: "",
+        wrong: "The variables of an operation that asks for the schema are of built-in scalars or enums of introspection, and {@} is none of these.",
+        helps: "Declare only the variables that its own arguments take, as String or Boolean.",
     },
 ];
 
@@ -760,7 +784,7 @@ const METER: &[Advice] = &[
         fault: "1 NotResponse",
         inner: "BadLeaf",
         wrong: "The value at {1} is none of its type.",
-        helps: "Mend the server or the schema, whichever is wrong.",
+        helps: "Mend the server or the schema, whichever is wrong; a number with a fraction is taken nowhere, so let the server send a whole number or a string.",
     },
     Advice {
         fault: "1 NotResponse",

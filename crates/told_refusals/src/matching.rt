@@ -23,16 +23,6 @@ fn behind<'a>(text: &'a str, front: &str) -> Option<&'a str> {
     }
 }
 
-/// The stage of a refusal, and what stands behind it.
-fn stage_of(refusal: &str) -> Option<(&'static str, &str)> {
-    for (front, stage) in STAGES {
-        if let Some(rest) = behind(refusal, front) {
-            return Some((*stage, rest));
-        }
-    }
-    None
-}
-
 /// The fields of what stands behind a stage, where its fault is this one.
 fn fields_of<'a>(advice: &Advice, rest: &'a str) -> Option<Fields<'a>> {
     let all = behind(rest, advice.fault)?;
@@ -45,12 +35,23 @@ fn fields_of<'a>(advice: &Advice, rest: &'a str) -> Option<Fields<'a>> {
     Some(Fields { first, others, all })
 }
 
-/// What is said of a refusal, with what is put in.
-pub(crate) fn advice_on(refusal: &str) -> Option<(&'static Advice, Fields<'_>)> {
-    let (stage, rest) = stage_of(refusal)?;
+/// What a stage says of what stands behind it in a refusal, with what is put in.
+fn advice_in<'a>(stage: &str, rest: &'a str) -> Option<(&'static Advice, Fields<'a>)> {
     for advice in advice_of(stage) {
         if let Some(fields) = fields_of(advice, rest) {
             return Some((advice, fields));
+        }
+    }
+    None
+}
+
+/// What is said of a refusal, with what is put in.
+pub(crate) fn advice_on(refusal: &str) -> Option<(&'static Advice, Fields<'_>)> {
+    for (front, stage) in STAGES {
+        if let Some(rest) = behind(refusal, front) {
+            if let Some(said) = advice_in(stage, rest) {
+                return Some(said);
+            }
         }
     }
     None

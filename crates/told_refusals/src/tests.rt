@@ -36,6 +36,22 @@ const ROWS: &[(&str, Option<Place<'_>>, &str)] = &[
         None,
         "trusted 4 BadHash a b\nThe key a b is no hash.\nWrite the SHA-256 of the document as 64 digits from 0 to 9 and a to f.",
     ),
+    (
+        "local 2 Rule 7 FragmentOn 9",
+        Some(Place {
+            text: "{ ... on Node { __schema { description } } }",
+            offset: 9,
+        }),
+        "local 2 Rule 7 FragmentOn 9\nline 1, column 10:\n{ ... on Node { __schema { description } } }\n         ^\nAn operation that asks for the schema has conditions on its root type and on the types of introspection alone, and Node is none of these.\nPut the condition on the root type, or select the fields without one.",
+    ),
+    (
+        "local 2 Rule 12 UnknownField 13",
+        Some(Place {
+            text: "{ __schema { kinds } }",
+            offset: 13,
+        }),
+        "local 2 Rule 12 UnknownField 13\nline 1, column 14:\n{ __schema { kinds } }\n             ^\nThe type at this place has no field kinds.\nAsk for a field that it has, or put this one into a fragment on the type that has it.",
+    ),
     ("no refusal", None, "no refusal"),
 ];
 
