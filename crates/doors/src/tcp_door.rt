@@ -1,6 +1,6 @@
 //! Doors over TCP.
 
-ghost use Rattle.std.specs.Prelude.{◌≡◌, None, true, false, is_some};
+ghost use Rattle.std.specs.Prelude.{◌≡◌, None, true, false, is_some, IfSome, string_bytes};
 
 use crate::client::{ClientReader, ClientWriter};
 use crate::conn::Conn;
@@ -53,6 +53,8 @@ impl<
         ensures client { result.client ≡ None }
         ensures to_come { result.to_come ≡ connections }
         ensures faults { result.faults ≡ 0 }
+        ensures upstream { result.upstream ≡ upstream }
+        ensures patience { result.patience ≡ patience }
     {
         TcpDoor {
             rt,
@@ -67,7 +69,9 @@ impl<
     }
 
     // A connection of this client.
-    fn connect(&self, called: &Called) -> Option<TcpConn<R>> {
+    fn connect(&self, called: &Called) -> Option<TcpConn<R>>
+        ensures { IfSome result (λ conn. string_bytes conn.wire.address ≡ string_bytes self.now.upstream) }
+    {
         let reader = ClientReader::new(Arc::try_clone(&called.client).ok()?, called.left);
         let writer = ClientWriter::new(Arc::try_clone(&called.client).ok()?);
         Some(Conn {
@@ -83,6 +87,8 @@ impl<
         ensures client { self.new.client ≡ self.old.client }
         ensures to_come { self.new.to_come ≡ self.old.to_come }
         ensures faults { self.new.faults ≡ self.old.faults }
+        ensures upstream { self.new.upstream ≡ self.old.upstream }
+        ensures led { IfSome result (λ next. string_bytes next.1.wire.address ≡ string_bytes self.old.upstream) }
     {
         let called = self.entrance.next(&self.rt, self.alloc, self.patience)?;
         let conn = self.connect(&called)?;

@@ -1,8 +1,9 @@
 //! Doors over TCP, started and stopped together.
 
-ghost use Rattle.std.specs.Prelude.{◌≡◌, ◌+◌, ◌≤◌, ◌++◌, [], All, IfOk, None, Some, false, is_some, length, map, option_map, vec_len, vec_capacity};
+ghost use Rattle.std.specs.Prelude.{◌≡◌, ◌+◌, ◌*◌, ◌<◌, ◌≤◌, ◌++◌, [], All, IfOk, None, Some, length, map, option_map, vec_len, vec_capacity};
 ghost use Rattle.doors.specs.Starts.{members, connections_of, stopped_by};
-ghost use Rattle.doors.specs.Kept.{asked_by, told_stopped};
+ghost use Rattle.doors.specs.Kept.{asked_by, told_stopped, IsMadeBy};
+ghost use Rattle.std.specs.Duration.{as_nanos};
 
 use crate::client::CLIENT_SECONDS;
 use crate::door::Door;
@@ -50,6 +51,7 @@ impl<
         ensures stopped { result.stopped.items ≡ [] }
         ensures faults { result.faults ≡ 0 }
         ensures plain { (result.waiting ≡ None) × (result.stop_file ≡ None) }
+        ensures patience { as_nanos result.patience ≡ CLIENT_SECONDS * 1_000_000_000 }
     {
         TcpDoors {
             rt,
@@ -67,8 +69,8 @@ impl<
     /// turn: it ends where a reply was written and no further request has come.
     pub fn let_wait(&mut self, clients: u32)
         ensures waiting { self.new.waiting ≡ Some clients }
-        ensures stop_file { self.new.stop_file ≡ self.old.stop_file }
-        ensures rest { (self.new.asked ≡ self.old.asked) × (self.new.running ≡ self.old.running)
+        ensures others { (self.new.stop_file ≡ self.old.stop_file) × (self.new.patience ≡ self.old.patience) }
+        ensures rest { (self.new.rt ≡ self.old.rt) × (self.new.asked ≡ self.old.asked) × (self.new.running ≡ self.old.running)
             × (self.new.stopped ≡ self.old.stopped) × (self.new.faults ≡ self.old.faults) }
     {
         self.waiting = Some(clients);
@@ -78,8 +80,8 @@ impl<
     /// further connection.
     pub fn stop_at(&mut self, file: String)
         ensures stop_file { self.new.stop_file ≡ Some file }
-        ensures waiting { self.new.waiting ≡ self.old.waiting }
-        ensures rest { (self.new.asked ≡ self.old.asked) × (self.new.running ≡ self.old.running)
+        ensures others { (self.new.waiting ≡ self.old.waiting) × (self.new.patience ≡ self.old.patience) }
+        ensures rest { (self.new.rt ≡ self.old.rt) × (self.new.asked ≡ self.old.asked) × (self.new.running ≡ self.old.running)
             × (self.new.stopped ≡ self.old.stopped) × (self.new.faults ≡ self.old.faults) }
     {
         self.stop_file = Some(file);
@@ -88,7 +90,10 @@ impl<
     /// From the next start on one read of what a client sends, or one write to it, waits no longer than that, in place of
     /// `CLIENT_SECONDS`. A time of no length changes nothing.
     pub fn wait_at_most(&mut self, patience: Duration)
-        ensures rest { (self.new.asked ≡ self.old.asked) × (self.new.running ≡ self.old.running)
+        ensures given { 0 < as_nanos patience → self.new.patience ≡ patience }
+        ensures none { as_nanos patience ≡ 0 → self.new.patience ≡ self.old.patience }
+        ensures others { (self.new.waiting ≡ self.old.waiting) × (self.new.stop_file ≡ self.old.stop_file) }
+        ensures rest { (self.new.rt ≡ self.old.rt) × (self.new.asked ≡ self.old.asked) × (self.new.running ≡ self.old.running)
             × (self.new.stopped ≡ self.old.stopped) × (self.new.faults ≡ self.old.faults) }
     {
         if !patience.is_zero() {
@@ -106,8 +111,7 @@ impl<
     // As many doors as workers, which share a listener.
     fn open(&self, alloc: Global, words: &StartWords) -> Result<Vec<TcpDoor<R>>, StartFault>
         ensures count { IfOk result (λ doors. length doors.items ≡ words.now.workers) }
-        ensures new { IfOk result (λ doors. All (λ door. (is_some door.client ≡ false)
-            × (door.to_come ≡ words.now.connections) × (door.faults ≡ 0)) doors.items) }
+        ensures new { IfOk result (λ doors. All (IsMadeBy words.now) doors.items) }
     {
         let file = self.stop_file.as_ref().map(|file| file.as_str());
         let Ok(ending) = Ending::new(alloc, file) else {
@@ -184,8 +188,7 @@ fn door_at<
     patience: Duration,
     words: &StartWords,
 ) -> Result<TcpDoor<R>, StartFault>
-    ensures { IfOk result (λ door. (is_some door.client ≡ false) × (door.to_come ≡ words.now.connections)
-        × (door.faults ≡ 0)) }
+    ensures { IfOk result (IsMadeBy words.now) }
 {
     let Ok(rt) = rt.clone() else {
         return Err(StartFault::Memory);
@@ -214,8 +217,7 @@ fn doors_at<
     words: &StartWords,
 ) -> Result<Vec<TcpDoor<R>>, StartFault>
     ensures count { IfOk result (λ doors. length doors.items ≡ words.now.workers) }
-    ensures new { IfOk result (λ doors. All (λ door. (is_some door.client ≡ false)
-        × (door.to_come ≡ words.now.connections) × (door.faults ≡ 0)) doors.items) }
+    ensures new { IfOk result (λ doors. All (IsMadeBy words.now) doors.items) }
 {
     let Ok(mut doors) = Vec::with_capacity(alloc, words.workers as usize) else {
         return Err(StartFault::Memory);
