@@ -1,8 +1,9 @@
-"""A GraphQL server to try the gateway with: POST /graphql on 127.0.0.1:4000, with fixed data for books.graphql and catalog.graphql.
+"""A GraphQL server to try the gateway with: POST /graphql on port 4000 of 127.0.0.1, or the one that is given, with fixed data for books.graphql and catalog.graphql.
 It takes documents as the gateway prints them, with fields, aliases, `first` and inline fragments on object types, and checks nothing."""
 
 import json
 import re
+import sys
 from http.server import BaseHTTPRequestHandler, ThreadingHTTPServer
 
 ANN, BO = {"__typename": "Author", "name": "Ann"}, {"__typename": "Author", "name": "Bo"}
@@ -56,4 +57,4 @@ class Server(BaseHTTPRequestHandler):
     def log_message(self, *words):
         """Says nothing of a request."""
 
-ThreadingHTTPServer(("127.0.0.1", 4000), Server).serve_forever()
+ThreadingHTTPServer(("127.0.0.1", int(sys.argv[1]) if len(sys.argv) > 1 else 4000), Server).serve_forever()
