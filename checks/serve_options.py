@@ -3,8 +3,8 @@
     python3 checks/serve_options.py [PROGRAM]
 
 Proofs say what a gateway does that is served so and so; that `main` hands each option to it is seen here, where a client or the upstream notices it: with
-the option and without. Of `--endless` only that such a gateway serves, with a journal too. It notices, tried: a `main` whose doors are the plain ones, so that `--idle` and
-`--stop` aren't heard. The status is 1 where an option isn't heard."""
+the option and without. Of `--endless` only that such a gateway serves, with a journal too. It notices, each tried: a `main` whose doors are the plain ones, so that `--idle` and
+`--stop` aren't heard, and a waiting room that lets the wrong clients go where it is full. The status is 1 where an option isn't heard."""
 
 import concurrent.futures
 import contextlib
@@ -224,6 +224,22 @@ def idle_number(runs):
         expect(found == [200] * most, f"--idle {most}: {found}")
 
 
+def idle_order(runs):
+    """Where three may wait and a fourth comes, the one that is idle longest is let go, and not the one that has sent a part of its request before."""
+    gateway = runs.start("--workers", "1", "--idle", "3")
+    part, text = Kept(gateway), request("reader", PLAIN, last=False)
+    part.stream.sendall(text[:-9])
+    clients = []
+    for _ in range(3):
+        time.sleep(SHORT)
+        clients.append(Kept(gateway))
+        expect(clients[-1].ask() == 200, "a client gets no reply")
+    expect(clients[0].reads() == "the end", "the client that was idle longest is kept")
+    part.stream.sendall(text[-9:])
+    expect(part.reads() == 200, "the client that has sent a part of its request is let go")
+    expect([it.ask() for it in clients[1:]] == [200, 200], "the clients that were idle for less are let go")
+
+
 def stop(runs):
     """The file ends it with its closing lines and status 8, whether clients take turns or not; one of that name that isn't named doesn't."""
     for number, words in enumerate(((), ("--idle", "8"), ("--journal", "ending"))):
@@ -244,7 +260,7 @@ def stop(runs):
 
 OPTIONS = {
     "--listen": listen, "--upstream": upstream, "--target": target, "--unsized": unsized, "--pass": passed, "--hints": hints, "--trusted and --trusted-only": trusted,
-    "--journal": journal, "--workers": workers, "--connections": connections, "--endless": endless, "--idle": idle, "the number of --idle": idle_number, "--stop": stop,
+    "--journal": journal, "--workers": workers, "--connections": connections, "--endless": endless, "--idle": idle, "the number of --idle": idle_number, "its order": idle_order, "--stop": stop,
 }
 
 
