@@ -497,7 +497,7 @@ const OVER_SCHEMAS: &[Advice] = &[
     Advice {
         fault: "16 VariableType",
         inner: "",
-        wrong: "The variables of an operation that asks for the schema are of built-in scalars or enums of introspection, and {@} is none of these.",
+        wrong: "The variables of an operation that asks for the schema are of String, Boolean, Int, ID or the enums of introspection, and {@} is none of these.",
         helps: "Declare only the variables that its own arguments take, as String or Boolean.",
     },
 ];
