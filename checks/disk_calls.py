@@ -9,7 +9,8 @@ The built program serves some requests over loopback, under a preload that recor
   made: any part of what wasn't synced, and any bytes in its place. The program opens each, and has to have the accounts after some of the steps that were taken by then, and
   after all that anybody was told of;
 - each call to the disk fails in turn, with EIO, ENOSPC or EINTR, or does a part of what it was asked for: the program has to end with status 9, and its file has all that it
-  told, or to serve as if nothing had been; where it was interrupted, or a part was done, it has to serve.
+  told, or to serve as if nothing had been; where it was interrupted, or a part was done, it has to serve. Behind a sync that failed a crash may leave what it likes of all that wasn't
+  synced until then, and these images are opened too.
 
 The record of the same run without its syncs has to give images with wrong accounts: so it is seen that these images tell. It notices, each tried: a `sync` that does
 nothing, a folder that isn't synced, a read that fails and counts as the end of the file, one that gives less than was asked for and no reason, a read or a write that
@@ -137,19 +138,18 @@ def steps_in(text):
     return max(0, len(bodies(text)) - 1)
 
 
-def moments(calls, disk, cuts):
-    """At each moment of a run its images, each with how many steps somebody was told of before the next call to the disk, and how many were taken."""
+def moments(calls, disk, cuts, is_at_end=False):
+    """At each moment of a run, or at its end, its images, each with how many steps somebody was told of before the next call to the disk, and how many were taken."""
     told, before = steps_in(disk.safe), None
     for call in calls:
         if call.name == "send":
             told = steps_in(disk.content())
-        if before is None or call.name in ("open", "pwrite", "fsync", "fdatasync"):
-            if before:
-                yield from ((image, told, before[1]) for image in before[0])
-            disk.take(call)
+        is_step = before is None or call.name in ("open", "pwrite", "fsync", "fdatasync")
+        if is_step and before and not is_at_end:
+            yield from ((image, told, before[1]) for image in before[0])
+        disk.take(call)
+        if is_step:
             before = (list(images(disk, cuts)), steps_in(disk.content()))
-        else:
-            disk.take(call)
     yield from ((image, told, before[1]) for image in before[0])
 
 
@@ -301,8 +301,12 @@ class Checked:
             history.recover()
             if (again, err) != (8, "door\n") or accounts != lines_of(history.accounts) or not self.is_at_rest(after, accounts):
                 wrong = f"it is opened again with status {again}, {err!r} and {accounts}"
+        kind = f"{fault} on {'a journal' if before else 'a new journal'}"
         if wrong:
-            self.note(f"{fault} on {'a journal' if before else 'a new journal'}: {wrong}")
+            self.note(f"{kind}: {wrong}")
+        elif "sync" in name:
+            last = list(moments(calls, Disk(before or b"", is_there=before is not None), some_cuts, is_at_end=True))
+            self.look_at_images(kind, last, left)
         return status
 
 
