@@ -1,2 +1,4 @@
 mod Found
 mod Reports
+mod Left
+mod Shapes

@@ -1,20 +1,23 @@
 //! Which fields surprise.
 
-ghost use Rattle.std.specs.Prelude.{◌≡◌, IfOk, [], map};
+ghost use Rattle.std.specs.Prelude.{◌≡◌, IfOk, [], map, option_map};
 ghost use Rattle.schema_model.specs.SchemaData.{field_at};
 ghost use Rattle.schema_model.specs.SchemaViews.{schema_data};
 ghost use Rattle.schema_model.specs.Entries.{maybe_size};
+ghost use Rattle.schema_model.specs.Numbers.{type_number};
 ghost use Rattle.input_values.specs.inputs.Definitions.{input_data};
+ghost use Rattle.input_values.specs.inputs.Shapes.{shape_tree};
+ghost use Rattle.cost_directives.specs.Weighing.{type_inside};
 ghost use Rattle.cost_directives.specs.DeclaredSizes.{is_value};
 ghost use Rattle.cost_directives.specs.WeightViews.{weights_data};
-ghost use Rattle.schema_surprises.specs.Surprises.{requires_one, is_sliced, is_named, slices_by_default, defaults_among, defaults_of, is_undeclared, has_usual_size, is_unsized, is_unsliced, must_be_sliced, has_inherited_weight, surprises_at, is_told, places_of};
+ghost use Rattle.schema_surprises.specs.Surprises.{requires_one, is_sliced, is_named, slices_by_default, defaults_among, defaults_of, is_undeclared, has_usual_size, declares_none, declares_none_unsliced, is_unsized, is_unsliced, must_be_sliced, has_inherited_weight, hands_size, is_of_object, leads_to, hands_as, some_way, is_number, is_root, is_handed_in, is_handed, surprises_at, is_told, places_of};
 
 use crate::surprise::Surprise;
 use cost_directives::{
     SizeSource, Weights, field_place, has_own_weight, inherited_size, inherited_weight, is_list,
 };
 use gql_base::Text;
-use input_values::{InputDef, is_null};
+use input_values::{InputDef, Shape, TypeId, is_null};
 use schema_model::{Args, FieldId, ListSize, Schema};
 use std::alloc::{AllocError, Global};
 
@@ -97,25 +100,36 @@ fn has_usual_size(weights: &Weights, none: &Args, field: FieldId) -> bool
     is_undeclared(weights.size_source(field, none, None))
 }
 
+fn declares_none(schema: &Schema, weights: &Weights, none: &Args, field: FieldId) -> bool
+    requires empty { none.now.list.items ≡ [] }
+    ensures { result ≡ declares_none (schema_data schema.now) (weights_data weights.now) field.number }
+{
+    !is_sliced(inherited_size(schema, field)) && has_usual_size(weights, none, field)
+}
+
+fn declares_none_unsliced(schema: &Schema, weights: &Weights, none: &Args, field: FieldId) -> bool
+    requires empty { none.now.list.items ≡ [] }
+    ensures { result ≡ declares_none_unsliced (schema_data schema.now) (weights_data weights.now) field.number }
+{
+    let size = inherited_size(schema, field);
+    is_sliced(size)
+        && !requires_one(size)
+        && defaults_of(schema, field) == 0
+        && has_usual_size(weights, none, field)
+}
+
 fn is_unsized(schema: &Schema, weights: &Weights, none: &Args, field: FieldId) -> bool
     requires empty { none.now.list.items ≡ [] }
     ensures { result ≡ is_unsized (schema_data schema.now) (weights_data weights.now) field.number }
 {
-    is_list(schema.field_shape(field))
-        && !is_sliced(inherited_size(schema, field))
-        && has_usual_size(weights, none, field)
+    is_list(schema.field_shape(field)) && declares_none(schema, weights, none, field)
 }
 
 fn is_unsliced(schema: &Schema, weights: &Weights, none: &Args, field: FieldId) -> bool
     requires empty { none.now.list.items ≡ [] }
     ensures { result ≡ is_unsliced (schema_data schema.now) (weights_data weights.now) field.number }
 {
-    let size = inherited_size(schema, field);
-    is_list(schema.field_shape(field))
-        && is_sliced(size)
-        && !requires_one(size)
-        && defaults_of(schema, field) == 0
-        && has_usual_size(weights, none, field)
+    is_list(schema.field_shape(field)) && declares_none_unsliced(schema, weights, none, field)
 }
 
 fn must_be_sliced(schema: &Schema, field: FieldId) -> bool
@@ -131,6 +145,111 @@ fn has_inherited_weight(schema: &Schema, field: FieldId) -> bool
     !has_own_weight(schema, field) && inherited_weight(schema, field).is_some()
 }
 
+// By its `sizedFields` a field hands a size that it declares down to lists of this name.
+fn hands_size(schema: &Schema, weights: &Weights, none: &Args, name: &str, field: FieldId) -> bool
+    requires empty { none.now.list.items ≡ [] }
+    ensures { result ≡ hands_size (schema_data schema.now) (weights_data weights.now) name.now field.number }
+{
+    is_named(weights.sized_fields(field), name)
+        && !declares_none(schema, weights, none, field)
+        && !declares_none_unsliced(schema, weights, none, field)
+}
+
+#[tactic(auto, using(crate::proofs::Shapes::opened_shapes))]
+fn type_inside(shape: &Shape) -> TypeId
+    ensures { result.number ≡ type_inside (shape_tree shape.now) }
+{
+    match shape {
+        Shape::Named { of, nullable: _ } => *of,
+        Shape::ListOf { item, nullable: _ } => type_inside(&**item),
+    }
+}
+
+fn is_of_object(schema: &Schema, field: FieldId) -> bool
+    ensures { result ≡ is_of_object (schema_data schema.now) field.number }
+{
+    schema.kind(schema.owner(field)).is_object()
+}
+
+fn leads_to(schema: &Schema, of: TypeId, field: FieldId) -> bool
+    ensures { result ≡ leads_to (schema_data schema.now) of.number field.number }
+{
+    is_of_object(schema, field) && schema.applies(type_inside(schema.field_shape(field)), of)
+}
+
+fn hands_as(
+    hands: bool,
+    schema: &Schema,
+    weights: &Weights,
+    none: &Args,
+    name: &str,
+    field: FieldId,
+) -> bool
+    requires empty { none.now.list.items ≡ [] }
+    ensures { result ≡ hands_as hands (schema_data schema.now) (weights_data weights.now) name.now field.number }
+{
+    if hands {
+        hands_size(schema, weights, none, name, field)
+    } else {
+        !hands_size(schema, weights, none, name, field)
+    }
+}
+
+// Whether some field leads to objects of a type, and hands a size down to lists of this name, or doesn't. That is asked first: few fields hand one down.
+fn some_way(
+    hands: bool,
+    schema: &Schema,
+    weights: &Weights,
+    none: &Args,
+    of: TypeId,
+    name: &str,
+) -> bool
+    requires empty { none.now.list.items ≡ [] }
+    ensures { result ≡ some_way hands (schema_data schema.now) (weights_data weights.now) of.number name.now }
+{
+    let (_, fields) = schema.counts();
+    for number in 0..fields {
+        let field = FieldId { number };
+        if hands_as(hands, schema, weights, none, name, field) && leads_to(schema, of, field) {
+            return true;
+        }
+    }
+    false
+}
+
+fn is_number(root: Option<TypeId>, of: TypeId) -> bool
+    ensures { result ≡ is_number (option_map type_number root) of.number }
+{
+    match root {
+        Some(root) => root.number == of.number,
+        None => false,
+    }
+}
+
+fn is_root(schema: &Schema, of: TypeId) -> bool
+    ensures { result ≡ is_root (schema_data schema.now) of.number }
+{
+    is_number(schema.root(false), of) || is_number(schema.root(true), of)
+}
+
+// On each way to it a list of this name in this type is handed a size.
+fn is_handed_in(schema: &Schema, weights: &Weights, none: &Args, of: TypeId, name: &str) -> bool
+    requires empty { none.now.list.items ≡ [] }
+    ensures { result ≡ is_handed_in (schema_data schema.now) (weights_data weights.now) of.number name.now }
+{
+    some_way(true, schema, weights, none, of, name)
+        && !is_root(schema, of)
+        && !some_way(false, schema, weights, none, of, name)
+}
+
+fn is_handed(schema: &Schema, weights: &Weights, none: &Args, field: FieldId) -> bool
+    requires empty { none.now.list.items ≡ [] }
+    ensures { result ≡ is_handed (schema_data schema.now) (weights_data weights.now) field.number }
+{
+    let (of, name) = (schema.owner(field), schema.field_name(field));
+    is_handed_in(schema, weights, none, of, name.as_str())
+}
+
 fn surprises_at(
     surprise: Surprise,
     schema: &Schema,
@@ -142,9 +261,15 @@ fn surprises_at(
     ensures { result ≡ surprises_at surprise (schema_data schema.now) (weights_data weights.now) field.number }
 {
     match surprise {
-        Surprise::Unsized => is_unsized(schema, weights, none, field),
-        Surprise::Unsliced => is_unsliced(schema, weights, none, field),
-        Surprise::MustSlice => must_be_sliced(schema, field),
+        Surprise::Unsized => {
+            is_unsized(schema, weights, none, field) && !is_handed(schema, weights, none, field)
+        }
+        Surprise::Unsliced => {
+            is_unsliced(schema, weights, none, field) && !is_handed(schema, weights, none, field)
+        }
+        Surprise::MustSlice => {
+            must_be_sliced(schema, field) && !is_handed(schema, weights, none, field)
+        }
         Surprise::Inherited => has_inherited_weight(schema, field),
     }
 }
@@ -159,8 +284,7 @@ fn is_told(
     requires empty { none.now.list.items ≡ [] }
     ensures { result ≡ is_told surprise (schema_data schema.now) (weights_data weights.now) field.number }
 {
-    schema.kind(schema.owner(field)).is_object()
-        && surprises_at(surprise, schema, weights, none, field)
+    is_of_object(schema, field) && surprises_at(surprise, schema, weights, none, field)
 }
 
 /// The places of the fields of object types that have a surprise, in the order of the text.

@@ -125,10 +125,10 @@ pub fn report(alloc: Global, schema: &Schema, weights: &Weights) -> Result<Vec<u
         "These lists declare no size. Where no field above hands one down, they are taken to have ";
     push_sized(alloc, unsized_lists, usual, &found.unsized_lists, &mut text)?;
     let unsliced =
-        "No argument that slices these lists has a default. Where none is given, they are taken to have ";
+        "No argument that slices these lists has a default. Where none is given, and no field above hands a size down, they are taken to have ";
     push_sized(alloc, unsliced, usual, &found.unsliced, &mut text)?;
     let must_slice =
-        b"An operation has to give one of the arguments that slice these fields, since not just one of them has a default:";
+        b"Where no field above hands a size down, an operation has to give one of the arguments that slice these fields, since not just one of them has a default:";
     push_group(must_slice, &found.must_slice, &mut text)?;
     let inherited = b"The weight of these fields stands in an interface:";
     push_group(inherited, &found.inherited, &mut text)?;
