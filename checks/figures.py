@@ -1,20 +1,22 @@
 """Measures Tellcrock beside others on this machine, and draws the figures of docs/performance.md.
 
-    python3 checks/figures.py [--program FILE] [--quick] [--parts pricing,serving,hostile,memory] [--together N]
+    python3 checks/figures.py [--program FILE] [--quick] [--parts pricing,serving,waiting,hostile,memory] [--together N]
     python3 checks/figures.py --plot-only FILE.json
 
 - pricing: five operations of growing size over a schema of 500 types, from the bytes of the body to the reservation, beside graphql-js and
   gqlparser, which parse and validate the same (Debian's node-graphql, golang-go and golang-github-vektah-gqlparser-dev);
 - serving: requests a second and how long they wait, by `wrk` on 1, 16 and 256 connections with 1, 4 and 16 workers, beside nginx as a proxy
   before the same upstream (Debian's wrk and nginx-light);
+- waiting: the same before an upstream that answers 50 milliseconds after a request;
 - hostile: processor seconds for documents that are made to be slow, by their length; N of them at a time (one without it);
 - memory: what the gateway holds while 1,000,000 requests are served.
 
-What was measured goes into docs/figures/measures.json, every run of it; the page and the four plots are written from that file, and with --plot-only
+What was measured goes into docs/figures/measures.json, every run of it; the page and the plots are written from that file, and with --plot-only
 from another such file. With --quick each measure is short, to try the script, and goes to a folder `figures` of the system's temporary files: its
 figures say little. Only processes that were started here are ended. On a machine that does nothing else it takes a quarter of an hour."""
 
 import argparse
+import asyncio
 import functools
 import json
 import multiprocessing
@@ -248,12 +250,8 @@ def by_wrk(folder, port, connections, seconds):
             "count": int(re.search(r"(\d+) requests in", text)[1]), "faults": re.findall(r"(Socket errors.*|Non-2xx.*)", text)}
 
 
-def serving(program, folder, quick):
+def rounds(folder, ports, quick):
     """By who serves and by connections: all runs of wrk, made by turns."""
-    _, up = upstream(folder)
-    ports = {f"Tellcrock {n}": gateway(program, folder, n, up)[1] for n in (1, 4, 16)}
-    ports.update({f"nginx {n}": proxy(folder, n, up)[1] for n in (1, 4, 16)})
-    ports.update({"nginx 4, connections kept": proxy(folder, 4, up, keeps=True)[1], "the upstream alone": up})
     found = {name: {} for name in ports}
     for connections in (1, 16, 256):
         for _ in range(1 if quick else 5):
@@ -262,8 +260,67 @@ def serving(program, folder, quick):
                 found[name].setdefault(str(connections), []).append(run)
                 if run["faults"]:
                     say(f"  {name} at {connections} connections: " + "; ".join(run["faults"]))
-        say(f"serving {connections} connections: " + ", ".join(f"{name} {max(it['rate'] for it in runs[str(connections)]):.0f}" for name, runs in found.items()))
+        say(f"{connections} connections: " + ", ".join(f"{name} {max(it['rate'] for it in runs[str(connections)]):.0f}" for name, runs in found.items()))
+    return found
+
+
+def served_by(program, folder, up, processes):
+    """Where those listen who serve before one upstream: gateways of 1, 4 and 16 workers, and nginx of so many processes, once with connections that it keeps."""
+    ports = {f"Tellcrock {n}": gateway(program, folder, n, up)[1] for n in (1, 4, 16)}
+    ports.update({f"nginx {n}": proxy(folder, n, up)[1] for n in processes})
+    return {**ports, "nginx 4, connections kept": proxy(folder, 4, up, keeps=True)[1], "the upstream alone": up}
+
+
+def serving(program, folder, quick):
+    """Before an upstream that answers at once."""
+    _, up = upstream(folder)
+    found = rounds(folder, served_by(program, folder, up, (1, 4, 16)), quick)
     end_all()
+    return found
+
+
+# ---- serving before an upstream that takes its time
+
+DELAY = 0.05
+DATA = b'{"data":{"user":{"id":"1"}}}'
+
+
+class Slow(asyncio.Protocol):
+    """A connection whose requests are each answered so many seconds after their last byte."""
+
+    def connection_made(self, transport):
+        self.transport, self.kept = transport, b""
+
+    def data_received(self, piece):
+        self.kept += piece
+        head, end, body = self.kept.partition(b"\r\n\r\n")
+        length = re.search(rb"(?i)content-length: *(\d+)", head)
+        if end and length and len(body) >= int(length[1]):
+            self.kept = body[int(length[1]):]
+            asyncio.get_running_loop().call_later(DELAY, self.answer)
+
+    def answer(self):
+        if not self.transport.is_closing():
+            self.transport.write(b"HTTP/1.1 200 OK\r\ncontent-type: application/json\r\ncontent-length: %d\r\n\r\n%s" % (len(DATA), DATA))
+
+
+def answer_slowly(listener):
+    async def run():
+        server = await asyncio.get_running_loop().create_server(Slow, sock=listener, backlog=1024)
+        await server.serve_forever()
+    asyncio.run(run())
+
+
+def waiting(program, folder, quick):
+    """Before an upstream of two processes that answers each request DELAY seconds after it."""
+    listener = socket.create_server(("127.0.0.1", 0), backlog=1024)
+    running = [multiprocessing.Process(target=answer_slowly, args=(listener,), daemon=True) for _ in range(2)]
+    for it in running:
+        it.start()
+    found = rounds(folder, served_by(program, folder, listener.getsockname()[1], (4,)), quick)
+    end_all()
+    for it in running:
+        it.terminate()
     return found
 
 
@@ -383,7 +440,7 @@ def measure(given, kept):
             end_all()
 
 
-PARTS = {"pricing": pricing, "serving": serving, "hostile": hostile, "memory": memory}
+PARTS = {"pricing": pricing, "serving": serving, "waiting": waiting, "hostile": hostile, "memory": memory}
 
 
 def main():
@@ -398,9 +455,9 @@ def main():
     TOGETHER = given.together
     if not set(given.parts) <= set(PARTS):
         words.error("the parts are " + ", ".join(PARTS))
-    lacking = [name for name in ("wrk", "nginx") if {"serving", "memory"} & set(given.parts) and not shutil.which(name)]
+    lacking = [name for name in ("wrk", "nginx") if {"serving", "waiting", "memory"} & set(given.parts) and not shutil.which(name)]
     if lacking and not given.plot_only:
-        sys.exit("needed for serving and memory, and not here: " + ", ".join(lacking))
+        sys.exit("needed for serving, waiting and memory, and not here: " + ", ".join(lacking))
     docs = os.path.join(tempfile.gettempdir(), "figures") if given.quick else os.path.join(ROOT, "docs")
     os.makedirs(os.path.join(docs, "figures"), exist_ok=True)
     kept = given.plot_only or os.path.join(docs, "figures", "measures.json")

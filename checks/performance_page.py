@@ -1,4 +1,4 @@
-"""Writes docs/performance.md and its four plots from what `figures.py` has measured."""
+"""Writes docs/performance.md and its plots from what `figures.py` has measured."""
 import os
 import statistics
 
@@ -47,24 +47,46 @@ def pricing_page(found):
 
 SERVERS = {"Tellcrock 1": "Tellcrock, 1 worker", "Tellcrock 4": "Tellcrock, 4 workers", "Tellcrock 16": "Tellcrock, 16 workers", "nginx 1": "nginx, 1 process", "nginx 4": "nginx, 4 processes",
            "nginx 16": "nginx, 16 processes", "nginx 4, connections kept": "nginx, 4 processes, kept", "the upstream alone": "no proxy"}
+# The colours of those that are plotted.
+PLOTTED = {"Tellcrock 1": 0, "Tellcrock 4": 1, "Tellcrock 16": 2, "nginx 1": 0, "nginx 4": 1, "nginx 16": 2, "nginx 4, connections kept": 3}
+
+
+def served_lines(found):
+    """A line for each that was measured: nginx's are dashed."""
+    return [Line(SERVERS[name], [(int(at), middle([run["rate"] for run in runs])) for at, runs in found[name].items()], colour, name.startswith("nginx")) for name, colour in PLOTTED.items() if name in found]
 
 
 def serving_plot(found):
-    lines = [Line(SERVERS[name], [(int(at), middle([run["rate"] for run in runs])) for at, runs in found[name].items()], n % 3, name.startswith("nginx"))
-             for n, name in enumerate(it for it in SERVERS if it.split(" ")[0] in ("Tellcrock", "nginx") and "kept" not in it)]
+    lines = served_lines(found)
     return plot("Requests served before one upstream", Scale("connections of the load", [1, 16, 256], True), Scale("requests a second", evenly([y for line in lines for _, y in line.points])), lines)
 
 
-def serving_page(found):
+def waiting_plot(found):
+    lines = served_lines(found)
+    return plot("Requests served before an upstream that takes 50 ms", Scale("connections of the load", [1, 16, 256], True), Scale("requests a second", powers([y for line in lines for _, y in line.points]), True), lines)
+
+
+def served_table(found):
     rows = []
     for at in next(iter(found.values())):
-        for name, call in SERVERS.items():
+        for name in (it for it in SERVERS if it in found):
             runs = found[name][at]
             rates = [it["rate"] for it in runs]
-            rows.append([at, call, f"{middle(rates):,.0f}", f"{min(rates):,.0f} to {max(rates):,.0f}", *(f"{middle([it[own] for it in runs]):.2f}" for own in ("half", "most"))])
+            rows.append([at, SERVERS[name], f"{middle(rates):,.0f}", f"{min(rates):,.0f} to {max(rates):,.0f}", *(f"{middle([it[own] for it in runs]):.2f}" for own in ("half", "most"))])
+    return table(["connections", "served by", "requests a second", "in single runs", "half within, ms", "99 of 100 within, ms"], rows)
+
+
+def told_faults(found):
     faults = sum(len(it["faults"]) for by in found.values() for runs in by.values() for it in runs)
-    return {"serving": table(["connections", "served by", "requests a second", "in single runs", "half within, ms", "99 of 100 within, ms"], rows),
-            "faults": "In all runs `wrk` told of no reply but 200 and of no connection that failed." if not faults else f"In {faults} runs `wrk` told of replies other than 200 or of connections that failed."}
+    return "In all runs `wrk` told of no reply but 200 and of no connection that failed." if not faults else f"In {faults} runs `wrk` told of replies other than 200 or of connections that failed."
+
+
+def serving_page(found):
+    return {"serving": served_table(found), "faults": told_faults(found)}
+
+
+def waiting_page(found):
+    return {"waiting": served_table(found), "waiting_faults": told_faults(found)}
 
 
 # ---- documents made to be slow
@@ -168,13 +190,13 @@ Measured {about_serving}.
   processes that answers each request with the same 30 bytes. The load, the upstream and who serves share the processors.
 - **Tellcrock**, with `--idle 1000`, reads the request, prices the operation, reserves the price, opens a connection to the upstream, measures its reply value by value, settles, and answers.
 - **nginx** as a proxy reads the request, opens a connection to the upstream likewise, and hands the reply on; it prices and measures nothing. `kept` is an nginx that keeps its connections to the
-  upstream, which Tellcrock doesn't. `no proxy` is the upstream itself.
+  upstream, which Tellcrock doesn't: it is the strongest of those that are compared. `no proxy` is the upstream itself.
 - Tellcrock has one thread a worker, nginx one thread a process; both leave it to the system which of them takes a connection.
 
 {serving}
 
 {faults}
-
+{section_waiting}
 ## Documents that are made to be slow
 
 ![Processor seconds by length, of the slowest families](figures/hostile.svg)
@@ -197,7 +219,21 @@ Measured {about_memory}. The load and the upstream are those of the serving abov
 {memory}
 """
 
-PARTS = {"pricing": (pricing_plot, pricing_page), "serving": (serving_plot, serving_page), "hostile": (hostile_plot, hostile_page), "memory": (memory_plot, memory_page)}
+# The section of a part that may not have been measured.
+WAITING = """
+### Before an upstream that takes its time
+
+![Requests a second by connections, before an upstream of 50 ms](figures/waiting.svg)
+
+Measured {about_waiting}. The upstream is two processes in Python that answer each request 50 milliseconds after it. A worker of Tellcrock waits for the reply, so a worker has at most 20 requests a
+second, whatever waits; nginx has as many requests under way as there are connections.
+
+{waiting}
+
+{waiting_faults}
+"""
+
+PARTS = {"pricing": (pricing_plot, pricing_page), "serving": (serving_plot, serving_page), "waiting": (waiting_plot, waiting_page), "hostile": (hostile_plot, hostile_page), "memory": (memory_plot, memory_page)}
 
 
 def write(measures, docs):
@@ -210,7 +246,8 @@ def write(measures, docs):
         words.update(tell(part["found"]), **{"about_" + name: about(part)})
         if name == "hostile":
             words["together"] = together(part)
-    if set(PARTS) <= set(measures):
+    if set(PARTS) - {"waiting"} <= set(measures):
+        words["section_waiting"] = WAITING.format(**words) if "waiting" in measures else ""
         with open(os.path.join(docs, "performance.md"), "w") as file:
             file.write(PAGE.format(compared=compared(measures["serving"]), **words))
         print(f"{docs}/performance.md is written")
