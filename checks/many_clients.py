@@ -4,10 +4,12 @@
 
 IDLE clients (10,000 without it) make one request each and keep their connections. Then it has to take no longer than 5 ms more, at the median, to
 answer a request of a further one, and the gateway has to hold less than 100 MB. Then 1,000 clients send a byte each second, and hold nobody up.
-Some of the idle ones make a further request on their connections. At the end the gateway is asked to stop, and has to write its closing lines. Where
-wrk is installed, it makes requests on 4 and on 1,000 connections by turns; where nginx is, that is the upstream then, and wrk does so through an nginx too.
+Some of the idle ones make a further request on their connections. At the end the gateway is asked to stop, and has to write its closing lines. Beside 4
+and 16 workers 64 clients a second get their last reply and keep their connections, and hold nobody up for more than 5 ms; one of them can send for two
+seconds. Who is refused by its head alone is answered at once, though it announces a body. Where wrk is installed, it makes requests on 4 and on 1,000
+connections by turns; where nginx is, that is the upstream then, and wrk does so through an nginx too.
 
-All ends within some two minutes. Only processes that were started here are ended."""
+All ends within some three minutes. Only processes that were started here are ended."""
 
 import multiprocessing
 import os
@@ -33,6 +35,8 @@ BODY = b'{"query":"{ user { id } }"}'
 HEAD = b"POST /graphql HTTP/1.1\r\nhost: g\r\nx-client-key: alpha\r\ncontent-type: application/json\r\ncontent-length: %d\r\n\r\n" % len(BODY)
 DATA = b'{"data":{"user":{"id":"1"}}}'
 SLOW = 1_000
+LEAVING = 64
+LAST = [b"\x00\x00\x00\x00\n", HEAD.replace(b"host: g", b"connection: close") + BODY, HEAD.replace(b"alpha", b"!"), HEAD.replace(b"/graphql", b"/other") + BODY]
 PAIRS = 9
 FAULTS = []
 STARTED = []
@@ -202,6 +206,79 @@ def many_idle(folder, up):
         client.close()
 
 
+def keep_last(port, end, kept):
+    """Clients that get their last reply, so many a second, and keep their connections until the end."""
+    while not end.is_set():
+        begun = time.time()
+        for at in range(LEAVING):
+            client = connect(port)
+            client.sendall(LAST[at % len(LAST)])
+            kept.append(client)
+            end.wait(max(0, begun + at / LEAVING - time.time()))
+
+
+def many_leaving(folder, up):
+    """Beside clients that don't close after their last reply, a good one; and for how long one of them can send."""
+    for workers in (4, 16):
+        port, end, kept = free_port(), threading.Event(), []
+        gateway = start(folder, port, up, workers, "--idle", "1000", "--endless")
+        before = times(port, 400)
+        leaving = threading.Thread(target=keep_last, args=(port, end, kept))
+        leaving.start()
+        time.sleep(4)
+        beside, until = [], time.time() + 6
+        while time.time() < until:
+            beside += times(port, 20)
+        more = 1000 * (statistics.median(beside) - statistics.median(before))
+        say(f"{workers} workers, beside {LEAVING} more a second that don't close after their last reply, {len(beside)} requests: {told(beside)}; {more:+.2f} ms at the median", more <= 5)
+        with connect(port) as client:
+            client.sendall(LAST[0])
+            begun = time.time()
+            try:
+                while time.time() < begun + 10:
+                    client.sendall(b" ")
+                    time.sleep(0.05)
+            except OSError:
+                pass
+            passed = time.time() - begun
+            say(f"one of them could send for {passed:.1f} s", 1.9 < passed < 2.9)
+        end.set()
+        leaving.join()
+        held = len(os.listdir(f"/proc/{gateway.pid}/fd"))
+        seconds, out, err, status = stopped(folder, gateway)
+        say(f"with {held} descriptors and {len(kept)} such clients it ended after {seconds:.1f} s with status {status}", status == 8 and seconds < 5 and held < 4 * LEAVING + 100)
+        for client in kept:
+            client.close()
+
+
+def reply(client):
+    """All that comes before the end, and how long that took."""
+    begun, kept = time.time(), b""
+    try:
+        while piece := client.recv(65536):
+            kept += piece
+    except OSError:
+        pass
+    return time.time() - begun, kept
+
+
+def told_in_time(folder, up):
+    """Clients that announce a body and don't send it: what they are told, and when."""
+    port = free_port()
+    gateway = start(folder, port, up, 4, "--idle", "1000", "--endless")
+    for text, status, message, least, most in (
+            (HEAD.replace(b"POST", b"GET"), 405, b"BAD_METHOD", 0, 1), (HEAD.replace(b"/graphql", b"/other"), 404, b"NOT_FOUND", 0, 1),
+            (HEAD.replace(b"x-client-key: alpha\r\n", b""), 401, b"NO_KEY", 0, 1), (HEAD.replace(b"host: g", b"transfer-encoding: chunked"), 501, b"CHUNKED", 0, 1),
+            (HEAD.replace(b"host: g", b"content-encoding: gzip"), 415, b"CODED", 0, 1), (HEAD.replace(b"content-type: application/json\r\n", b""), 415, b"BAD_MEDIA", 0, 1),
+            (HEAD.replace(b"host: g", b"expect: 100-continue").replace(b"alpha", b"a b"), 401, b"NO_KEY", 9.5, 13)):
+        with connect(port) as client:
+            client.sendall(text)
+            seconds, came = reply(client)
+            first = came.split(b"\r\n")[0].decode()
+            say(f"{message.decode()}: {first!r} after {seconds:.1f} s", first.startswith(f"HTTP/1.1 {status} ") and message in came and least <= seconds <= most)
+    stopped(folder, gateway)
+
+
 def few_descriptors(folder, up):
     """Calls by more clients than the gateway has descriptors for, and then by one more."""
     for words, wanted in ((["--idle", "1000"], 400), ([], 4)):
@@ -281,6 +358,8 @@ def main():
         ready.acquire()
         try:
             few_descriptors(folder, up)
+            many_leaving(folder, up)
+            told_in_time(folder, up)
             many_idle(folder, up)
             if shutil.which("wrk"):
                 load(folder, up)

@@ -4,8 +4,9 @@
 
 They all wait side by side, on real clocks, so that it takes 85 seconds. In the waiting room 75 seconds without a byte and 10 from the first byte of a
 request; 30 for one read of a worker, from a client or from the upstream; 2 for a client that doesn't close its side behind the last reply. Who comes just before a limit has to be
-served, and who comes behind it has to meet the end of the connection at its limit, without a byte, or from the upstream's side 502 at the bound. It notices, each tried: other limits in
-the room, and a connection to the upstream without limits. The status is 1 where something differs."""
+served, and who comes behind it has to meet the end of the connection at its limit, without a byte; where the room waits for the rest of a request, it is told
+that this is bad, and where the upstream is waited for 502 at the bound. It notices, each tried: other limits in the room, and a connection to the upstream
+without limits. The status is 1 where something differs."""
 
 import concurrent.futures
 import contextlib
@@ -65,6 +66,19 @@ def sends(*pieces, ends=None):
         client = Client(port)
         threading.Thread(target=lambda: [client.send_at(*it) for it in pieces], daemon=True).start()
         return is_served(client.reply()) if ends is None else client.ends_at(ends)
+
+    return look
+
+
+def told(*pieces, message, at):
+    """A client that sends these pieces, each so long after it called, and is told then, and not before, that its request is bad."""
+
+    def look(port):
+        client = Client(port)
+        threading.Thread(target=lambda: [client.send_at(*it) for it in pieces], daemon=True).start()
+        reply, passed = client.reply(), client.passed()
+        holds = reply and reply.status == 400 and message in reply.body and at - EARLY <= passed <= at + LATE
+        return "" if holds else f"{reply and (reply.status, reply.body)} after {passed:.1f} s, and not {message} after {at} s"
 
     return look
 
@@ -132,9 +146,11 @@ BY_TURNS = {
     "70 s behind a reply, then a request": again(70),
     "nothing behind a reply": again(0, ends=75),
     "a request whose rest comes 8 s later": sends(*halves(SHORT, 0, 8)),
-    "a request whose rest comes 14 s later": sends(*halves(SHORT, 0, 14), ends=10),
-    "the same, 20 s after the call": sends(*halves(SHORT, 20, 34), ends=30),
-    "a byte each second": sends(*((at, SHORT[at : at + 1]) for at in range(20)), ends=10),
+    "a request whose rest comes 14 s later": told(*halves(SHORT, 0, 14), message=b"BAD_HEAD", at=10),
+    "the same, 20 s after the call": told(*halves(SHORT, 20, 34), message=b"BAD_HEAD", at=30),
+    "a byte each second": told(*((at, SHORT[at : at + 1]) for at in range(20)), message=b"BAD_HEAD", at=10),
+    "a body whose last byte doesn't come": told((0, SHORT[:-1]), message=b"TRUNCATED 1", at=10),
+    "the same of a client that isn't known": told((0, SHORT[:-2].replace(b"reader", b"nobody")), message=b"TRUNCATED 2", at=10),
     "a long body whose rest comes 26 s later": sends(*halves(LONG, 0, 26)),
     "a long body whose rest comes 36 s later": sends(*halves(LONG, 0, 36), ends=30),
     "a client that stays behind its last reply": stays,

@@ -9,7 +9,7 @@ use std::io::{ErrorKind, Read, Write};
 use std::net::{Shutdown, TcpStream};
 use std::os::fd::{AsRawFd, RawFd};
 use std::sync::Arc;
-use std::sync::atomic::{AtomicBool, Ordering};
+use std::sync::atomic::{AtomicBool, AtomicUsize, Ordering};
 use std::time::Duration;
 use std::{io, rt};
 
@@ -33,6 +33,8 @@ pub struct Client {
     waits: AtomicBool,
     // Whether the client may go on with a further request, and none of it was read.
     rests: AtomicBool,
+    // How many bytes are still dropped of what it sends after its last reply, while others are served.
+    lingers: AtomicUsize,
 }
 
 impl Client {
@@ -42,6 +44,7 @@ impl Client {
             stream,
             waits: AtomicBool::new(true),
             rests: AtomicBool::new(false),
+            lingers: AtomicUsize::new(LINGER_BYTES),
         }
     }
 
@@ -54,6 +57,7 @@ impl Client {
             stream,
             waits: AtomicBool::new(false),
             rests: AtomicBool::new(false),
+            lingers: AtomicUsize::new(LINGER_BYTES),
         })
     }
 
@@ -169,6 +173,38 @@ impl Client {
             Err(error) if error.kind() == ErrorKind::Interrupted => Some(0),
             Err(_) => None,
         }
+    }
+
+    /// Begins to take leave without waiting: says that no reply follows, and drops what the client sent so far. Whether it may send more.
+    pub(crate) fn begin_leave(&self) -> bool {
+        self.stream.shutdown(Shutdown::Write).is_ok() && self.drain()
+    }
+
+    /// Drops what the client sent so far. Whether it may send more: not where it ended, nor where more came than is dropped of one client.
+    pub(crate) fn drain(&self) -> bool {
+        if self.set_waits(false).is_err() {
+            return false;
+        }
+        let mut piece = [0u8; PIECE_BYTES];
+        for _ in 0..LINGER_BYTES {
+            match self.drop_piece(&mut piece) {
+                Ok(0) => return false,
+                Ok(_) => {}
+                Err(error) if error.kind() == ErrorKind::Interrupted => {}
+                Err(error) => return error.kind() == ErrorKind::WouldBlock,
+            }
+        }
+        false
+    }
+
+    // Drops a piece of what the client sent. It gives how many bytes that were: none at the end, and where no more are dropped.
+    fn drop_piece(&self, piece: &mut [u8]) -> io::Result<usize> {
+        let left = self.lingers.load(Ordering::SeqCst);
+        let most = left.min(piece.len());
+        let count = (&self.stream).read(&mut piece[..most])?;
+        self.lingers
+            .store(left.saturating_sub(count), Ordering::SeqCst);
+        Ok(count)
     }
 }
 

@@ -98,6 +98,7 @@ fn for_all(alloc: Global, stream: TcpStream, patience: Duration) -> Option<Calle
         left: None,
         number: 0,
         is_closed: false,
+        is_cut: false,
     })
 }
 
@@ -120,19 +121,27 @@ impl Entrance {
         }
     }
 
-    /// Takes back a client that was given. One that may go on goes back into the waiting room; else its connection is
-    /// closed.
+    /// Takes back a client that was given. One that may go on goes back into the waiting room; else leave is taken of it, which is waited for where
+    /// there is no such room.
     pub(crate) fn take_back<R: rt::Clock + rt::Files>(&self, rt: &R, called: Called) {
         match self {
             Entrance::Room(place) => {
-                if called.client.rests() && !place.room.is_ending(rt) {
+                let may_go_on = called.client.rests() && !called.is_cut;
+                if may_go_on && !place.room.is_ending(rt) {
                     place.room.take_back(rt, called);
-                    return;
+                } else {
+                    place.room.see_off(rt, called);
                 }
-                place.room.forget(called.number);
-                called.client.take_leave(rt);
             }
             _ => called.client.take_leave(rt),
+        }
+    }
+
+    /// Takes leave of those in the waiting room who have sent something or had their last reply.
+    pub(crate) fn close<R: rt::Clock>(&self, rt: &R) {
+        match self {
+            Entrance::Room(place) => place.room.dismiss(rt),
+            _ => {}
         }
     }
 }

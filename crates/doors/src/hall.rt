@@ -1,6 +1,6 @@
 //! Those who wait in a waiting room.
 
-use crate::client::Client;
+use crate::client::{Client, LINGER_SECONDS};
 use crate::looking::Look;
 use lru::LruCache;
 use std::alloc::{AllocError, Global};
@@ -11,7 +11,7 @@ use std::time::Duration;
 /// How long a client may stay in the waiting room without a request, in seconds.
 pub const IDLE_SECONDS: u64 = 75;
 
-/// How long the beginning of a request may stay there, from its first byte, in seconds.
+/// How long the rest of a request is waited for there, from its first byte, in seconds. Then what was sent so far is answered.
 pub const BEGUN_SECONDS: u64 = 10;
 
 // How many are called before the system is asked again whom to tell of.
@@ -49,12 +49,26 @@ struct Away {
     is_closed: bool,
 }
 
-/// All who wait: those without a request, those with a part of one, and those that are to be looked at, as the system told of them.
+impl Guest {
+    /// Whether it has taken too long with its request.
+    pub(crate) fn is_late(&self, now: Duration) -> bool {
+        self.has_begun && self.waits_for(now, BEGUN_SECONDS)
+    }
+
+    // Whether it has waited for so many seconds.
+    fn waits_for(&self, now: Duration, seconds: u64) -> bool {
+        Duration::from_secs(seconds) <= now.saturating_sub(self.since)
+    }
+}
+
+/// All who wait: those without a request, those with a part of one, and those that are to be looked at, as the system told of them. Beside
+/// them stay those who had their last reply, and may still send something that is dropped.
 #[derive(Drop)]
 pub(crate) struct Hall {
     idle: LruCache<usize, Guest>,
     begun: LruCache<usize, Guest>,
     told: LruCache<usize, Guest>,
+    leaving: LruCache<usize, Guest>,
     // How many are to be looked at.
     count: Arc<AtomicUsize, Global>,
     // How many were called since the system was asked whom to tell of, and when that was.
@@ -76,6 +90,7 @@ impl Hall {
             idle: LruCache::unbounded(alloc)?,
             begun: LruCache::unbounded(alloc)?,
             told: LruCache::unbounded(alloc)?,
+            leaving: LruCache::unbounded(alloc)?,
             count: Arc::new(alloc, AtomicUsize::new(0))?,
             calls: 0,
             asked_at: Duration::ZERO,
@@ -108,6 +123,10 @@ impl Hall {
             }
         } else if let Some(guest) = self.told.peek_mut(&told.number) {
             guest.is_closed = guest.is_closed || told.is_closed;
+        } else if let Some(guest) = self.leaving.peek(&told.number) {
+            if !guest.client.drain() {
+                let _ = self.leaving.pop(&told.number);
+            }
         } else {
             self.note(told);
         }
@@ -152,14 +171,27 @@ impl Hall {
         Some(guest)
     }
 
-    /// One of those that are to be looked at or have sent a part of a request, who leaves; none where nobody has sent anything.
+    /// One of those that are to be looked at, have sent a part of a request or had their last reply, who leaves; none where there is no such one.
     pub(crate) fn dismiss(&mut self) -> Option<Guest> {
         if let Some((_, guest)) = self.told.pop_lru() {
             self.count_anew();
             return Some(guest);
         }
-        let (_, guest) = self.begun.pop_lru()?;
+        if let Some((_, guest)) = self.begun.pop_lru() {
+            return Some(guest);
+        }
+        let (_, guest) = self.leaving.pop_lru()?;
         Some(guest)
+    }
+
+    /// Lets one stay that a door had, whose last reply was written and of whom what came so far was dropped.
+    pub(crate) fn see_off(&mut self, guest: Guest) {
+        let is_told = self.forget(guest.number).is_some();
+        if is_told && !guest.client.drain() {
+            return;
+        }
+        let _ = self.leaving.put(guest.number, guest);
+        self.keep(self.room);
     }
 
     // Notes that the system told of one that a door has.
@@ -204,32 +236,50 @@ impl Hall {
         self.keep(self.room);
     }
 
-    // How many wait for a request or the rest of one.
-    fn waiting(&self) -> usize {
-        self.idle.len().saturating_add(self.begun.len())
+    // How many stay in the room, but for those that are to be looked at.
+    fn staying(&self) -> usize {
+        self.idle
+            .len()
+            .saturating_add(self.begun.len())
+            .saturating_add(self.leaving.len())
     }
 
-    // Lets so many go that no more than this number wait: first those who have waited longest without a request.
+    // Lets so many go that no more than this number stay: first those who had their last reply, then those who have waited longest without a request.
     fn keep(&mut self, most: usize) {
-        for _ in 0..self.waiting().saturating_sub(most) {
-            if self.idle.pop_lru().is_none() {
+        for _ in 0..self.staying().saturating_sub(most) {
+            if self.leaving.pop_lru().is_none() && self.idle.pop_lru().is_none() {
                 let _ = self.begun.pop_lru();
             }
         }
     }
 
-    /// Lets those go that have waited too long, and as many wait again as may, once no shortage came for a while.
+    // Has those looked at who have taken too long with a request, as many at once as are called before the system is asked again.
+    fn call_late(&mut self, now: Duration) {
+        for _ in 0..CALLS {
+            match self.begun.peek_lru() {
+                Some((_, guest)) if guest.is_late(now) => {}
+                _ => return,
+            }
+            if let Some((_, guest)) = self.begun.pop_lru() {
+                self.line_up(guest, false);
+            }
+        }
+    }
+
+    /// Lets those go that have waited too long, has those looked at who have taken too long, and lets as many wait again as may, once no shortage
+    /// came for a while.
     pub(crate) fn sweep(&mut self, now: Duration) {
         if Duration::from_secs(SHORT_SECONDS) <= now.saturating_sub(self.short_at) {
             self.room = self.most;
         }
+        let_go(&mut self.leaving, now, LINGER_SECONDS);
         let_go(&mut self.idle, now, IDLE_SECONDS);
-        let_go(&mut self.begun, now, BEGUN_SECONDS);
+        self.call_late(now);
     }
 
     /// For a while so many fewer may wait that the doors find descriptors for their calls.
     pub(crate) fn make_room(&mut self, now: Duration) {
-        let fewer = self.waiting().saturating_sub(self.spare);
+        let fewer = self.staying().saturating_sub(self.spare);
         self.room = self.room.min(fewer.max(self.spare));
         self.short_at = now;
         self.keep(self.room);
@@ -239,7 +289,7 @@ impl Hall {
 // Whether a client has sent a part of a request.
 fn is_part(client: &Client) -> bool {
     match client.look() {
-        Look::Part => true,
+        Look::Part(_) => true,
         _ => false,
     }
 }
@@ -248,8 +298,7 @@ fn is_part(client: &Client) -> bool {
 fn let_go(guests: &mut LruCache<usize, Guest>, now: Duration, seconds: u64) {
     for _ in 0..guests.len() {
         match guests.peek_lru() {
-            Some((_, guest)) if Duration::from_secs(seconds) <= now.saturating_sub(guest.since) =>
-                {}
+            Some((_, guest)) if guest.waits_for(now, seconds) => {}
             _ => return,
         }
         let _ = guests.pop_lru();

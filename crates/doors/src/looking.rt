@@ -24,11 +24,11 @@ pub(crate) enum Look {
     Nothing,
     /// Nothing, and nothing follows; or the stream failed.
     Over,
-    /// Less than a request.
-    Part,
+    /// Less than a request: so many bytes of it.
+    Part(usize),
     /// A request of so many bytes: all of them, or as many as a look sees.
     Request(usize),
-    /// What is no request, or none that is taken.
+    /// What is no request, or none that is taken: what follows doesn't matter.
     Other,
 }
 
@@ -38,6 +38,23 @@ fn body_length(fields: Fields) -> Option<usize> {
         Ok(Some(length)) if length <= BODY_BYTES => Some(length as usize),
         _ => None,
     }
+}
+
+// Whether a field of this name stands in a head just once.
+fn stands_once(fields: Fields, name: &[u8]) -> bool {
+    let mut values = fields.named(name);
+    values.next().is_some() && values.next().is_none()
+}
+
+// Whether a head is refused whatever its body is: for its target, its method, codings of the body, or since it doesn't have one key and one type of
+// the body. Who reads the request says so again, and in which words; it tests the key and the type too.
+fn is_refused(method: &[u8], target: &[u8], fields: Fields) -> bool {
+    target != b"/graphql".as_slice()
+        || method != b"POST".as_slice()
+        || !stands_once(fields, b"x-client-key")
+        || !stands_once(fields, b"content-type")
+        || fields.is_coded()
+        || fields.has_transfer_coding()
 }
 
 // What these bytes are the front of.
@@ -50,12 +67,17 @@ fn look_at(bytes: &[u8], headers: &mut [HeaderSpan]) -> Look
                 bytes,
                 headers: &headers[..spans.headers],
             };
-            match body_length(fields) {
+            let look = match body_length(fields) {
                 Some(length) => so_far(bytes.len(), spans.len.saturating_add(length)),
                 None => Look::Other,
+            };
+            match look {
+                Look::Part(_) if is_refused(spans.method.of(bytes), spans.path.of(bytes), fields) =>
+                    { Look::Other }
+                look => look,
             }
         }
-        Ok(Status::Partial) if bytes.len() < LOOK_BYTES => Look::Part,
+        Ok(Status::Partial) if bytes.len() < LOOK_BYTES => Look::Part(bytes.len()),
         _ => Look::Other,
     }
 }
@@ -63,7 +85,7 @@ fn look_at(bytes: &[u8], headers: &mut [HeaderSpan]) -> Look
 // Whether a request of that length is there.
 fn so_far(seen: usize, length: usize) -> Look {
     if seen < length.min(LOOK_BYTES) {
-        Look::Part
+        Look::Part(seen)
     } else {
         Look::Request(length)
     }

@@ -92,6 +92,8 @@ pub(crate) struct Called {
     pub(crate) left: Option<usize>,
     /// Whether nothing follows what it sent.
     pub(crate) is_closed: bool,
+    /// Whether its request is answered by what was sent of it, so that no further turn follows.
+    pub(crate) is_cut: bool,
 }
 
 /// The place of a door in a room.
@@ -270,24 +272,51 @@ impl Room {
         self.put_back(guest, true);
     }
 
+    /// Takes leave of a client that a door had, so that no worker waits for it: what it still sends is dropped in the room, for a while.
+    pub(crate) fn see_off<R: rt::Clock>(&self, rt: &R, called: Called) {
+        if !called.client.begin_leave() {
+            self.forget(called.number);
+            return;
+        }
+        let guest = Guest {
+            number: called.number,
+            client: called.client,
+            since: rt.monotonic().unwrap_or(Duration::ZERO),
+            has_begun: false,
+            is_closed: called.is_closed,
+        };
+        if let Some(mut hall) = locked(&self.hall) {
+            hall.see_off(guest);
+        }
+    }
+
+    // Puts one back who has sent a part of a request, or nothing.
+    fn wait_on(&self, now: Duration, mut guest: Guest, has_begun: bool) {
+        if !has_begun || !guest.has_begun {
+            guest.since = now;
+        }
+        guest.has_begun = has_begun;
+        self.put_back(guest, false);
+    }
+
     // Looks at a client that the system told of. One without a whole request goes back, or is let go where it hung up; with a part of one
-    // and no more to come, it is for the doors to say so.
-    fn look_at<R: rt::Clock>(&self, rt: &R, mut guest: Guest) -> Option<Called> {
-        let left = match guest.client.look() {
-            Look::Request(length) => Some(length),
-            Look::Other => None,
-            Look::Part if guest.is_closed => None,
+    // and no more to come, or not in its time, it is for the doors to say so.
+    fn look_at<R: rt::Clock>(&self, rt: &R, guest: Guest) -> Option<Called> {
+        let now = rt.monotonic().unwrap_or(Duration::ZERO);
+        let (left, is_cut) = match guest.client.look() {
+            Look::Request(length) => (Some(length), false),
+            Look::Other => (None, false),
+            Look::Part(length) if guest.is_closed || guest.is_late(now) => (Some(length), true),
             Look::Over => {
                 self.forget(guest.number);
                 return None;
             }
-            look => {
-                let has_begun = look == Look::Part;
-                if !has_begun || !guest.has_begun {
-                    guest.since = rt.monotonic().unwrap_or(Duration::ZERO);
-                }
-                guest.has_begun = has_begun;
-                self.put_back(guest, false);
+            Look::Part(_) => {
+                self.wait_on(now, guest, true);
+                return None;
+            }
+            Look::Nothing => {
+                self.wait_on(now, guest, false);
                 return None;
             }
         };
@@ -296,6 +325,7 @@ impl Room {
             client: guest.client,
             left,
             is_closed: guest.is_closed,
+            is_cut,
         })
     }
 
@@ -310,14 +340,14 @@ impl Room {
         None
     }
 
-    // One that leaves, of those who have sent something.
+    // One that leaves, of those who have sent something or had their last reply.
     fn leaving(&self) -> Option<Guest> {
         locked(&self.hall)?.dismiss()
     }
 
-    // Takes leave of those who have sent something, since a stream that is closed with bytes unread may lose the last reply. It takes no longer
-    // than one leave.
-    fn dismiss<R: rt::Clock>(&self, rt: &R) {
+    /// Takes leave of those who have sent something or had their last reply, since a stream that is closed with bytes unread may lose that. It takes
+    /// no longer than one leave.
+    pub(crate) fn dismiss<R: rt::Clock>(&self, rt: &R) {
         let begun = rt.monotonic().unwrap_or(Duration::ZERO);
         for _ in 0..u64::MAX {
             match self.leaving() {

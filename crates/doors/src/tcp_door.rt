@@ -82,6 +82,11 @@ impl<
         })
     }
 
+    // Takes leave of those who wait and have sent something, or had their last reply.
+    pub(crate) fn close(&self) {
+        self.entrance.close(&self.rt);
+    }
+
     // The next client, and the connection to it.
     fn next(&mut self) -> Option<(Called, TcpConn<R>)>
         ensures client { self.new.client ≡ self.old.client }

@@ -291,6 +291,9 @@ impl<
         ensures asked { self.new.asked ≡ self.old.asked }
         ensures count { self.new.faults ≡ self.old.faults }
     {
+        for door in &doors {
+            door.close();
+        }
         keep_stopped(&mut self.stopped, doors, &self.asked);
         self.running = 0;
     }

@@ -6,7 +6,7 @@ mod visits;
 mod wires;
 
 use std::io;
-use visits::{crowded, short, silent, stopped, turns};
+use visits::{crowded, leave, refused, short, silent, stopped, turns};
 use wires::{reset, stalled, whole};
 
 fn main(rt: HostRuntime) -> io::Result<()> {
@@ -29,6 +29,14 @@ fn main(rt: HostRuntime) -> io::Result<()> {
     let turn = if turn { "a turn" } else { "none" };
     println!(rt;
         "of three where two may wait the first reads {one}, the second {two}, and the last has {turn}"
+    )?;
+    let (turn, sends) = leave(&rt, &rt)?;
+    println!(rt;
+        "beside one of whom leave is taken a client has {turn}, and that one can send for {sends}"
+    )?;
+    println!(rt;
+        "a client that is refused by the head alone has {}",
+        refused(&rt)?
     )?;
     println!(rt;
         "where the end is asked for, a door gives {}",

@@ -10,11 +10,16 @@ use std::alloc::Global;
 use std::io;
 use std::io::{Read, Write};
 use std::net::{Shutdown, TcpListener, TcpStream};
+use std::rt::Clock;
 use std::thread::{Threads, join, sleep};
 use std::time::Duration;
 
 const REQUEST: &[u8] =
-    b"POST /graphql HTTP/1.1\r\ncontent-type: application/json\r\ncontent-length: 2\r\n\r\n{}";
+    b"POST /graphql HTTP/1.1\r\nx-client-key: k\r\ncontent-type: application/json\r\ncontent-length: 2\r\n\r\n{}";
+
+// The head of a request that is refused whatever its body is, since it names no client. The body doesn't come.
+const KEYLESS: &[u8] =
+    b"POST /graphql HTTP/1.1\r\ncontent-type: application/json\r\ncontent-length: 2\r\n\r\n";
 
 const REPLY: &[u8] = b"a reply";
 
@@ -54,7 +59,7 @@ fn ends_with<S: Source>(source: &mut S) -> &'static str {
 fn begin_request(alloc: Global, client: &mut TcpStream) -> io::Result<()> {
     let mut request = Vec::new(alloc);
     request.extend_from_slice(
-        b"POST /graphql HTTP/1.1\r\ncontent-type: application/json\r\ncontent-length: 30000\r\n\r\n",
+        b"POST /graphql HTTP/1.1\r\nx-client-key: k\r\ncontent-type: application/json\r\ncontent-length: 30000\r\n\r\n",
     )?;
     request.resize(20_000, b' ')?;
     client.write_all(&request)
@@ -187,6 +192,103 @@ pub(crate) fn stopped(rt: &HostRuntime, takes_turns: bool) -> io::Result<&'stati
     let found = gives(&mut all[0]);
     doors.stop(all);
     Ok(found)
+}
+
+// How long it is since then.
+fn passed(rt: &HostRuntime, begun: Duration) -> Duration {
+    rt.monotonic()
+        .unwrap_or(Duration::ZERO)
+        .saturating_sub(begun)
+}
+
+// Whether a client that sends this has a turn at the door, after which leave is taken of it.
+fn has_last_turn(
+    door: &mut TcpDoor<HostRuntime>,
+    client: &mut TcpStream,
+    request: &[u8],
+) -> io::Result<bool>
+    requires { ⟦<TcpDoor<HostRuntime> as Door>⟧.out door.old ≡ false }
+    ensures { ⟦<TcpDoor<HostRuntime> as Door>⟧.out door.new ≡ false }
+{
+    let sent = client.write_all(request);
+    let Ok(Some(mut conn)) = door.accept() else {
+        return Ok(false);
+    };
+    let is_written = write_whole(&mut conn.sink, REPLY).is_ok();
+    door.hand_back(conn, 1);
+    sent?;
+    Ok(is_written)
+}
+
+// How long a client can send a byte each tenth of a second; then another makes a request.
+fn sends_for(rt: &HostRuntime, client: TcpStream, mut other: TcpStream) -> &'static str {
+    let mut client = client;
+    let begun = passed(rt, Duration::ZERO);
+    for _ in 0..100u32 {
+        if client.write_all(b" ").is_err() {
+            break;
+        }
+        sleep(rt, Duration::from_millis(100));
+    }
+    let seconds = passed(rt, begun).as_millis();
+    let _ = other.write_all(REQUEST);
+    if seconds < 1500 {
+        "less"
+    } else if seconds < 4000 {
+        "two seconds"
+    } else {
+        "more"
+    }
+}
+
+/// When a client has its turn where leave is taken of another, who still sends something, and for how long that one can.
+pub(crate) fn leave<W: Threads>(
+    rt: &HostRuntime,
+    workers: &W,
+) -> io::Result<(&'static str, &'static str)> {
+    let address = free_address(rt)?;
+    let mut doors = TcpDoors::new(rt.clone()?, rt.alloc());
+    doors.let_wait(4);
+    let Ok(mut all) = doors.start(rt.alloc(), address.as_str(), "127.0.0.1:1", 1, 3) else {
+        return Ok(("no door", "no door"));
+    };
+    let mut one = TcpStream::connect(rt, address.as_str())?;
+    let mut two = TcpStream::connect(rt, address.as_str())?;
+    let three = TcpStream::connect(rt, address.as_str())?;
+    let begun = passed(rt, Duration::ZERO);
+    let is_first = has_last_turn(&mut all[0], &mut one, REQUEST)?;
+    let is_second = has_turn(&mut all[0], &mut two)?;
+    let is_soon = passed(rt, begun) < Duration::from_secs(1);
+    let turn = if is_first && is_second && is_soon {
+        "a turn at once"
+    } else {
+        "none so soon"
+    };
+    let door = &mut all[0];
+    let (_, sends) = join(workers, || gives(door), || sends_for(rt, one, three));
+    doors.stop(all);
+    Ok((turn, sends))
+}
+
+/// When a client has its turn that sends the head alone of a request which is refused by that.
+pub(crate) fn refused(rt: &HostRuntime) -> io::Result<&'static str> {
+    let address = free_address(rt)?;
+    let mut doors = TcpDoors::new(rt.clone()?, rt.alloc());
+    doors.let_wait(2);
+    let Ok(mut all) = doors.start(rt.alloc(), address.as_str(), "127.0.0.1:1", 1, 1) else {
+        return Ok("no door");
+    };
+    let mut client = TcpStream::connect(rt, address.as_str())?;
+    let begun = passed(rt, Duration::ZERO);
+    let is_turn = has_last_turn(&mut all[0], &mut client, KEYLESS)?;
+    let is_soon = passed(rt, begun) < Duration::from_secs(5);
+    drop(client);
+    doors.stop(all);
+    Ok(if is_turn && is_soon {
+        "a turn at once"
+    } else {
+        "none so soon"
+    })
 }
 
 // As many descriptors as the system gives, up to a million.
