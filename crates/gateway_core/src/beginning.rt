@@ -190,7 +190,7 @@ pub fn begin_in<'g, L: Ledger, R: Wait>(
     let Some(client) = gate.client(key) else {
         return Ok(Begun::Denied(Denial::UnknownKey));
     };
-    match examine(gate, alloc, body) {
+    match examine(gate, alloc, key, client, body) {
         Ok(Examined::Upstream(promise)) => Ok(reserve(gate, rt, ledger, client, moment, promise)?),
         Ok(Examined::Local(answer)) => Ok(pay(gate, rt, ledger, client, moment, answer)?),
         Err(denial) => Ok(Begun::Denied(denial)),

@@ -1,12 +1,12 @@
 //! What the body of a request comes to.
 
-ghost use Rattle.std.specs.Prelude.{◌≡◌, IfOk, IfErr};
+ghost use Rattle.std.specs.Prelude.{◌≡◌, Some, IfOk, IfErr};
 ghost use Rattle.serde_json.specs.View.{view};
 ghost use Rattle.request_bodies.specs.Bodies.{request_data as asked_data};
 ghost use Rattle.trusted_documents.specs.Requests.{IsRequestBy};
 ghost use Rattle.document_reader.specs.DocumentAnswers.{IsDocumentOf};
 ghost use Rattle.local_introspection.specs.PassedOn.{request_data, IsUnread, HasEachKeyOnce};
-ghost use Rattle.gateway_core.specs.Rules.{HasWeights};
+ghost use Rattle.gateway_core.specs.Rules.{HasWeights, client_of};
 ghost use Rattle.gateway_core.specs.Gates.{rules_of};
 ghost use Rattle.gateway_core.specs.Requests.{request_of};
 ghost use Rattle.gateway_core.specs.Begins.{IsUnfit, IfRefusal};
@@ -97,11 +97,16 @@ fn found_for<'g>(
 }
 
 /// Examines a body: what is promised for it or answered, or why it is unfit. All memory that a beginning needs is taken here.
+///
+/// It asks that the key is this client's: for whoever has none no body is looked at.
 pub(crate) fn examine<'g>(
     gate: &'g Gate,
     alloc: Global,
+    _key: &str,
+    _client: u32,
     body: &[u8],
 ) -> Result<Examined<'g>, Denial>
+    requires known { client_of (rules_of gate.now) _key.now ≡ Some _client }
     ensures found { IfOk result (IsFound (rules_of gate.now) body.now) }
     ensures payable { IfOk result IsPayable }
     ensures unfit { IfErr result (IsUnfit (rules_of gate.now) body.now) }
