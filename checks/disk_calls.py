@@ -188,7 +188,7 @@ class Checked:
         self.program, self.shim, self.room = program, shim, room
         newest = subprocess.run([program, "migrate", "clients"], cwd=room.folder, capture_output=True, check=True).stdout
         self.mark, self.found, self.number, self.lock = hashlib.sha256(newest).digest(), [], 0, threading.Lock()
-        self.accounts = {}
+        self.accounts, self.is_endless = {}, False
 
     def history(self, text):
         return History(text, CLIENTS, self.mark)
@@ -217,10 +217,13 @@ class Checked:
         return subprocess.Popen(words, cwd=folder, env={**os.environ, **(env or {})}, stdin=subprocess.DEVNULL, stdout=subprocess.PIPE, stderr=subprocess.PIPE, text=True)
 
     def opened(self, content):
-        """How the program ends that opens this file and is asked to stop at once, its accounts, and the file that it leaves."""
+        """How the program ends that opens this file and is asked to stop at once, its accounts, and the file that it leaves. One that doesn't end is waited for once."""
+        if self.is_endless:
+            return "no end", "", {}, b""
         folder = self.folder(content)
-        status, out, err = ended(self.started(folder, "--listen", "127.0.0.1:0", "--upstream", "127.0.0.1:1", "--stop", "stop"))
-        return (status, err, closing(out), read(f"{folder}/{JOURNAL}"))
+        status, out, err = ended(self.started(folder, "--listen", "127.0.0.1:0", "--upstream", "127.0.0.1:1", "--stop", "stop"), 30)
+        self.is_endless = self.is_endless or status == "no end"
+        return status, err, closing(out), read(f"{folder}/{JOURNAL}")
 
     def served(self, content=None, fault=""):
         """A run of all requests on such a file: its calls, its replies, how it ended, how many requests the upstream got, and the file that it leaves."""
