@@ -247,6 +247,9 @@ class Checked:
 
     def look_at_images(self, kind, wanted, final):
         """How many of these images the program opens with accounts that aren't those of a step between the two that stand beside each."""
+        if not self.is_history(final):
+            self.note(f"{kind}: the file that it leaves is no history")
+            return 0, 0
         different = list({image for image, _, _ in wanted})
         with concurrent.futures.ThreadPoolExecutor(AT_ONCE) as workers:
             opened = dict(zip(different, workers.map(self.opened, different)))
@@ -265,13 +268,16 @@ class Checked:
             self.accounts[final, steps] = self.after(final, steps)
         return self.accounts[final, steps]
 
-    def is_at_rest(self, text, accounts):
-        """Whether nothing is open in the file, and it has these accounts."""
+    def is_history(self, text):
         try:
-            history = self.history(text)
+            return bool(self.history(text))
         except ValueError:
             return False
-        return not history.open and lines_of(history.accounts) == accounts
+
+    def is_at_rest(self, text, accounts):
+        """Whether nothing is open in the file, and it has these accounts."""
+        history = self.history(text) if self.is_history(text) else None
+        return history is not None and not history.open and lines_of(history.accounts) == accounts
 
     def kept_word(self, before, replies, requests, left):
         """What the file lacks of what was there before, and of what anybody was told."""
