@@ -171,7 +171,7 @@ def at_once(runs, count, seconds, *words):
 
 
 def workers(runs):
-    for words, count in (("--workers", "1"), 1), (("--workers", "3"), 3), ((), 4), (("--journal", "alone"), 1):
+    for words, count in (("--workers", "1"), 1), (("--workers", "3"), 3), (("--workers", "16"), 16), ((), 4), (("--journal", "alone"), 1):
         expect(at_once(runs, count, LONG, *words), f"{words}: {count} requests don't stand at the upstream at once")
         expect(not at_once(runs, count + 1, SHORT, *words), f"{words}: {count + 1} requests stand at the upstream at once")
 
@@ -183,6 +183,9 @@ def connections(runs):
             expect(ask(gateway, request("reader", PLAIN)), f"{workers} workers of {each} connections each don't serve so many")
         status, out, _ = ended(gateway, LONG)
         expect(status == 0 and f"connections {workers * each} exchanges {workers * each}\n" in out, f"the end is {status}, {out}")
+    for words in ("--workers", "16"), ("--journal", "many"):
+        gateway = runs.start("--connections", "1000000", *words)
+        expect(all(ask(gateway, request("reader", PLAIN)) for _ in range(3)), f"{words}: it doesn't serve where it has a million connections to come")
 
 
 def endless(runs):
