@@ -137,10 +137,10 @@ impl Entrance {
         }
     }
 
-    /// Takes leave of those in the waiting room who have sent something or had their last reply.
+    /// Takes leave of those in the waiting room who had their last reply.
     pub(crate) fn close<R: rt::Clock>(&self, rt: &R) {
         match self {
-            Entrance::Room(place) => place.room.dismiss(rt),
+            Entrance::Room(place) => place.room.dismiss(rt, false),
             _ => {}
         }
     }

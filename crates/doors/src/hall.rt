@@ -180,6 +180,11 @@ impl Hall {
         if let Some((_, guest)) = self.begun.pop_lru() {
             return Some(guest);
         }
+        self.dismiss_last()
+    }
+
+    /// One of those who had their last reply; none where there is no such one.
+    pub(crate) fn dismiss_last(&mut self) -> Option<Guest> {
         let (_, guest) = self.leaving.pop_lru()?;
         Some(guest)
     }

@@ -340,17 +340,22 @@ impl Room {
         None
     }
 
-    // One that leaves, of those who have sent something or had their last reply.
-    fn leaving(&self) -> Option<Guest> {
-        locked(&self.hall)?.dismiss()
+    // One that leaves: of those who had their last reply, or of all who have sent something.
+    fn leaving(&self, of_all: bool) -> Option<Guest> {
+        let mut hall = locked(&self.hall)?;
+        if of_all {
+            hall.dismiss()
+        } else {
+            hall.dismiss_last()
+        }
     }
 
-    /// Takes leave of those who have sent something or had their last reply, since a stream that is closed with bytes unread may lose that. It takes
-    /// no longer than one leave.
-    pub(crate) fn dismiss<R: rt::Clock>(&self, rt: &R) {
+    /// Takes leave of those who had their last reply, or of all who have sent something, since a stream that is closed with bytes unread may lose
+    /// the last reply. It takes no longer than one leave.
+    pub(crate) fn dismiss<R: rt::Clock>(&self, rt: &R, of_all: bool) {
         let begun = rt.monotonic().unwrap_or(Duration::ZERO);
         for _ in 0..u64::MAX {
-            match self.leaving() {
+            match self.leaving(of_all) {
                 Some(guest) => guest.client.take_leave_since(rt, begun),
                 None => return,
             }
@@ -408,7 +413,7 @@ impl Place {
     pub(crate) fn next<R: rt::Clock + rt::Files>(&mut self, rt: &R) -> Option<Called> {
         for _ in 0..u64::MAX {
             if self.room.is_ending(rt) {
-                self.room.dismiss(rt);
+                self.room.dismiss(rt, true);
                 return None;
             }
             if let Some(called) = self.room.call(rt) {

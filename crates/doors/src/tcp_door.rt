@@ -82,7 +82,7 @@ impl<
         })
     }
 
-    // Takes leave of those who wait and have sent something, or had their last reply.
+    /// Takes leave of those who had their last reply and stay where clients take turns.
     pub(crate) fn close(&self) {
         self.entrance.close(&self.rt);
     }
