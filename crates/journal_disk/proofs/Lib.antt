@@ -1,3 +1,4 @@
 pub mod Moments
 pub mod CallLaws
 pub mod RecordLaws
+pub mod ShutLaws

@@ -1,4 +1,5 @@
 pub mod Images
 pub mod Shutting
+pub mod Beginnings
 pub mod Calls
 pub mod Recorded

@@ -5,6 +5,7 @@
 //! so tells all of its images; a file of the system tells nothing.
 #![tactic(auto)]
 
+mod beginning;
 mod disk;
 mod disks;
 mod mem_disk;
@@ -12,9 +13,10 @@ mod mem_disks;
 mod std_disk;
 mod std_disks;
 
+pub use beginning::may_be_journal;
 pub use disk::{Disk, DiskFault, write_through};
 pub use disks::Disks;
 pub use mem_disk::{DiskCall, MemDisk};
-pub use mem_disks::MemDisks;
+pub use mem_disks::{MemDisks, ShutDisk};
 pub use std_disk::StdDisk;
 pub use std_disks::StdDisks;

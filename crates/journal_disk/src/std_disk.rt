@@ -56,6 +56,23 @@ fn given(file: &File, at: u64, into: &mut [u8]) -> Option<usize>
     None
 }
 
+// Reads the bytes of a file from a place on, as many as there are and as fit; nothing where a call failed. The system may give fewer
+// bytes than fit before the end, so it is asked until all are there or it gives none.
+pub(crate) fn filled(file: &File, at: u64, into: &mut [u8]) -> Option<usize>
+    ensures within { IfSome result (λ count. count ≤ length into.new) }
+    ensures length { length into.new ≡ length into.old }
+{
+    let mut done = 0;
+    while done < into.len() {
+        match given(file, at.saturating_add(done as u64), &mut into[done..]) {
+            Some(0) => return Some(done),
+            Some(count) => done += count,
+            None => return None,
+        }
+    }
+    Some(done)
+}
+
 impl Disk for StdDisk {
     ghost reads = { λ _. None };
 
@@ -80,21 +97,11 @@ impl Disk for StdDisk {
         }
     }
 
-    // The system may give fewer bytes than fit before the end, so it is asked until all are there or it gives none.
     fn read(&mut self, at: u64, into: &mut [u8]) -> Result<usize, DiskFault> {
-        let mut done = 0;
-        while done < into.len() {
-            match given(
-                &self.file,
-                at.saturating_add(done as u64),
-                &mut into[done..],
-            ) {
-                Some(0) => return Ok(done),
-                Some(count) => done += count,
-                None => return Err(self.failed()),
-            }
+        match filled(&self.file, at, into) {
+            Some(count) => Ok(count),
+            None => Err(self.failed()),
         }
-        Ok(done)
     }
 
     fn write_at(&mut self, at: u64, piece: &[u8]) -> Result<(), DiskFault> {
