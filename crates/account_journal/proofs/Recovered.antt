@@ -1,9 +1,10 @@
 -- The recovered history of a file, and a run behind its first sync.
-use Rattle.std.proofs.Common.{◌≡◌, ⊎_elim, inl, inr, ℕ, ◌+◌, List, [], ◌∷◌, ◌++◌, length, take, map, Option, refl, sym, ◌∙◌, ap, subst, arith}
+use Rattle.std.proofs.Common.{◌≡◌, ◌⊎◌, ⊎_elim, inl, inr, ℕ, ◌+◌, List, [], ◌∷◌, ◌++◌, length, take, map, Option, Some, refl, sym, ◌∙◌, ap, subst}
 use Rattle.std.proofs.lemmas.List.{append-nil}
 use Rattle.account_core.specs.Machine.{Entry}
 use Rattle.account_core.specs.Sums.{open_grants}
-use Rattle.journal_disk.specs.Images.{TimePasses, CrashesLeave}
+use Rattle.journal_disk.specs.Images.{IsDurable, TimePasses, CrashesLeave}
+use Rattle.journal_disk.proofs.Moments.{started, goes_on}
 use Rattle.account_journal.specs.declared.reading.OpenGrant.{OpenGrant}
 use Rattle.account_core.specs.declared.Limit.{Limit}
 use Rattle.account_journal.specs.declared.journal.Journal.{Journal}
@@ -32,19 +33,23 @@ pub at_first : (b c : List ℕ) → history_in c ≡ history_in b → IsPartlyRe
 at_first b c same = (0, same ∙ sym (append-nil (history_in b)))
 
 -- a sync, and a run behind it
-pub since_sync : {D : Type 0} (moment : D → ℕ) (image_since : D → ℕ → List ℕ → Type 0) (old mid new : D) (first P now : List ℕ → Type 0)
-    → TimePasses (moment old) (moment mid) (image_since old) (image_since mid) now → ((c : List ℕ) → image_since old (moment old) c → first c) → ((c : List ℕ) → now c → first c)
-    → CrashesLeave moment image_since mid new P → CrashesLeaveSince moment image_since old new first P
-since_sync moment image_since old mid new first P now time here there run = record {
-  since = moment mid;
-  from = time.forward;
-  until = run.forward;
-  late = run.each;
-  early = λ c left. ⊎_elim
-      (λ before. inl (⊎_elim (here c) (there c) (time.known (moment old) c (omega arith) before)))
-      (λ p. inr p)
-      (run.longer (moment old) c time.forward left);
+pub since_sync : {D : Type 0} (reads : D → Option (List ℕ)) (image : D → List ℕ → Type 0) (moment : D → ℕ) (image_since : D → ℕ → List ℕ → Type 0) (old synced new : D) (file : List ℕ) (P : List ℕ → Type 0)
+    → ((c : List ℕ) → image_since old (moment old) c → image old c) → TimePasses (moment old) (moment synced) (image_since old) (image_since synced) (image synced)
+    → ((c : List ℕ) → image synced c → image old c) → reads synced ≡ Some file → IsDurable file (image synced)
+    → CrashesLeave moment image_since synced new P → CrashesLeaveSince reads image moment image_since old new file P
+since_sync reads image moment image_since old synced new file P here time there told durable run = record {
+  synced = synced;
+  before = goes_on moment image_since old old synced (image old) (image synced) (started moment image_since old (image old) here) time there;
+  told = told;
+  durable = durable;
+  behind = run;
 }
+
+-- what a crash leaves that comes while a journal opens: it comes before the sync, or behind it
+pub left_since : {D : Type 0} (reads : D → Option (List ℕ)) (image : D → List ℕ → Type 0) (moment : D → ℕ) (image_since : D → ℕ → List ℕ → Type 0) (old new : D) (file : List ℕ) (P : List ℕ → Type 0)
+    → CrashesLeaveSince reads image moment image_since old new file P → (c : List ℕ) → image_since new (moment old) c → image old c ⊎ P c
+left_since reads image moment image_since old new file P run c left =
+    ⊎_elim (λ was. inl (run.before.each c was)) (λ p. inr p) (run.behind.longer (moment old) c run.before.forward left)
 
 pub prepared_ready : {D : Type 0} (reads : D → Option (List ℕ)) (image : D → List ℕ → Type 0) (before : Option (List ℕ)) (limits : List Limit) (mark : List ℕ) (r : Reading) (j : Journal D) (opens : List OpenGrant)
     → (p : IsPrepared before (reads j.disk) (image j.disk) limits mark r) → limits ≡ j.limits.items → r.accounts.items ≡ j.accounts.items → r.used ≡ j.used → length r.opens.items ≡ j.opened → r.opens.items ≡ opens

@@ -4,3 +4,4 @@ pub mod Histories
 pub mod Journals
 pub mod Reading
 pub mod Recovery
+pub mod Reopening

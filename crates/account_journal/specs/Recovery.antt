@@ -1,10 +1,12 @@
 -- What an opening makes of a file: each grant that it leaves open is settled at its bound.
-use Rattle.std.specs.Prelude.{◌≡◌, ◌⊎◌, ℕ, ◌+◌, ◌≤◌, List, [], ◌∷◌, ◌++◌, length, take, drop, map, max, Option, Some}
+use Rattle.std.specs.Prelude.{◌≡◌, ◌⊎◌, ℕ, ◌+◌, List, [], ◌∷◌, ◌++◌, length, take, drop, map, max, Option, Some}
 use Rattle.account_core.specs.Machine.{Grant, Entry, grant}
 use Rattle.account_core.specs.Sums.{open_grants}
-use Rattle.journal_disk.specs.Images.{CrashesLeave}
+use Rattle.journal_disk.specs.Images.{IsDurable, CrashesLeave}
 use Rattle.account_journal.specs.declared.journal.Journal.{Journal}
 use Rattle.account_journal.specs.declared.reading.OpenGrant.{OpenGrant}
+use Rattle.account_journal.specs.declared.reading.OpenFault.{OpenFault}
+use Rattle.account_journal.specs.declared.reading.OpenFault.TheVariants.{Failed}
 use Rattle.account_journal.specs.Slots.{bodies}
 use Rattle.account_journal.specs.Histories.{HasEntryOrNot, history_in, settlement_entry}
 use Rattle.account_journal.specs.Journals.{Follows, IsTold, Stores}
@@ -71,26 +73,31 @@ free_slot file = max 1 (length (bodies file))
 abbrev pub settlements_due : List ℕ → List Entry
 settlements_due file = settlements_at_bound (free_slot file) (open_grants (history_in file))
 
+-- entries, and from a slot on a settlement at its bound of each grant that they leave open
+abbrev pub settled_from : ℕ → List Entry → List Entry
+settled_from slot entries = entries ++ settlements_at_bound slot (open_grants entries)
+
 -- the history of a file once it is recovered
 abbrev pub recovered_history : List ℕ → List Entry
-recovered_history file = history_in file ++ settlements_due file
+recovered_history file = settled_from (free_slot file) (history_in file)
 
 -- the history of a file is that of another and some first ones of the settlements that it owes
 abbrev pub IsPartlyRecovered : List ℕ → List ℕ → Type 0
 IsPartlyRecovered file c = (n : ℕ) × (history_in c ≡ history_in file ++ take n (settlements_due file))
 
--- A crash at any moment of a run leaves what it left at first, or a file with P; and from some moment of the run on, a file with P.
-pub record CrashesLeaveSince {D : Type 0} (moment : D → ℕ) (image_since : D → ℕ → List ℕ → Type 0) (old new : D) (first P : List ℕ → Type 0) : Type 0 where
-  pub since : ℕ
-  pub from : moment old ≤ since
-  pub until : since ≤ moment new
-  pub late : (c : List ℕ) → image_since new since c → P c
-  pub early : (c : List ℕ) → image_since new (moment old) c → first c ⊎ P c
+-- A crash at any moment of a run whose disk reads as a file at first and is synced before all else: until the sync it leaves what it
+-- left before the run. Behind the sync the disk still reads as that file, which is durable; from there on a crash leaves a file with P.
+pub record CrashesLeaveSince {D : Type 0} (reads : D → Option (List ℕ)) (image : D → List ℕ → Type 0) (moment : D → ℕ) (image_since : D → ℕ → List ℕ → Type 0) (old new : D) (file : List ℕ) (P : List ℕ → Type 0) : Type 0 where
+  pub synced : D
+  pub before : CrashesLeave moment image_since old synced (image old)
+  pub told : reads synced ≡ Some file
+  pub durable : IsDurable file (image synced)
+  pub behind : CrashesLeave moment image_since synced new P
 
--- the run ended before that moment or behind it
-abbrev pub CrashesLeaveOrSince : {D : Type 0} → (D → ℕ) → (D → ℕ → List ℕ → Type 0) → D → D → (List ℕ → Type 0) → (List ℕ → Type 0) → Type 0
-CrashesLeaveOrSince moment image_since old new first P =
-    CrashesLeave moment image_since old new first ⊎ CrashesLeaveSince moment image_since old new first P
+-- the sync failed, and so did the run; or it went on behind the sync
+abbrev pub FailsOrLeavesSince : {D : Type 0} → (D → Option (List ℕ)) → (D → List ℕ → Type 0) → (D → ℕ) → (D → ℕ → List ℕ → Type 0) → D → D → OpenFault → List ℕ → (List ℕ → Type 0) → Type 0
+FailsOrLeavesSince reads image moment image_since old new fault file P =
+    ((fault ≡ Failed) × CrashesLeave moment image_since old new (image old)) ⊎ CrashesLeaveSince reads image moment image_since old new file P
 
 -- a journal follows and stores some entries that leave nothing open
 pub record HasNoneOpen {D : Type 0} (reads : D → Option (List ℕ)) (image : D → List ℕ → Type 0) (j : Journal D) : Type 0 where
@@ -104,3 +111,11 @@ pub record IsRecoveredFrom {D : Type 0} (reads : D → Option (List ℕ)) (image
   pub stands : Follows j (recovered_history file)
   pub kept : Stores reads image j (recovered_history file)
   pub none : open_grants (recovered_history file) ≡ []
+
+-- a journal follows entries and a settlement of what they leave open, each from the first free slot of a file on
+abbrev pub FollowsSettled : {D : Type 0} → Journal D → List ℕ → List Entry → Type 0
+FollowsSettled j file entries = Follows j (settled_from (free_slot file) entries)
+
+-- the same of the history of a first file and some first ones of the settlements that it owes
+abbrev pub FollowsPartly : {D : Type 0} → Journal D → List ℕ → List ℕ → Type 0
+FollowsPartly j first file = (n : ℕ) × FollowsSettled j file (history_in first ++ take n (settlements_due first))

@@ -10,7 +10,7 @@ ghost use Rattle.account_journal.specs.Slots.{bodies};
 ghost use Rattle.account_journal.specs.Histories.{no_limit};
 ghost use Rattle.account_journal.specs.Reading.{IsIntact, IsFaultOf, RoseIfFailed};
 ghost use Rattle.account_journal.specs.Journals.{IsSound, IsTold, Rests};
-ghost use Rattle.account_journal.specs.Recovery.{IsReady, IsReadyFor, IsReadyForAll, settlements, LeavesFirst, LeavesSettlements, bound_settlement, HasNoneOpen, IsRecoveredFrom, IsPartlyRecovered, CrashesLeaveOrSince, CrashesLeaveSince};
+ghost use Rattle.account_journal.specs.Recovery.{IsReady, IsReadyFor, IsReadyForAll, settlements, LeavesFirst, LeavesSettlements, bound_settlement, HasNoneOpen, IsRecoveredFrom, IsPartlyRecovered, FailsOrLeavesSince, CrashesLeaveSince};
 
 use crate::journal::{Journal, JournalFault, KeptTicket};
 use crate::reading::{OpenFault, OpenGrant, Reading, prepare};
@@ -155,9 +155,9 @@ impl<D: Disk> Journal<D> {
         ensures recovered { IfOk result (λ j. (b : List ℕ) → D.reads disk ≡ Some b → IsRecoveredFrom D.reads D.image j b) }
         ensures refused { IfErr result (λ e. (b : List ℕ) → D.reads disk ≡ Some b → IsFaultOf e.1 limits.items mark (bodies b)) }
         ensures any_moment { IfOk result (λ j. (b : List ℕ) → D.reads disk ≡ Some b
-            → CrashesLeaveSince D.moment D.image_since disk j.disk (D.image disk) (IsPartlyRecovered b)) }
+            → CrashesLeaveSince D.reads D.image D.moment D.image_since disk j.disk b (IsPartlyRecovered b)) }
         ensures any_moment_err { IfErr result (λ e. (b : List ℕ) → D.reads disk ≡ Some b
-            → CrashesLeaveOrSince D.moment D.image_since disk e.0 (D.image disk) (IsPartlyRecovered b)) }
+            → FailsOrLeavesSince D.reads D.image D.moment D.image_since disk e.0 e.1 b (IsPartlyRecovered b)) }
         ensures count { IfOk result (λ j. D.faults disk ≤ D.faults j.disk) }
         ensures cause { IfErr result (λ e. RoseIfFailed e.1 (D.faults disk) (D.faults e.0)) }
     {
