@@ -1,5 +1,5 @@
 -- How serving over a journal ends, by histories.
-use Rattle.std.proofs.Common.{◌≡◌, ℕ, ◌+◌, ◌-◌, ◌≤◌, ◌⊎◌, min, List, [], ◌∷◌, ◌++◌, length, map, take, drop, slice_index_or, All, nat_lt, refl, sym, ap, ◌∙◌, subst, arith, Option, Some, None, Result, Ok, Err, inl, inr, true, false, true≢false}
+use Rattle.std.proofs.Common.{◌≡◌, ℕ, ◌-◌, ◌≤◌, ◌⊎◌, min, List, [], ◌∷◌, ◌++◌, length, map, take, drop, slice_index_or, All, nat_lt, refl, sym, ap, ◌∙◌, subst, arith, Option, Some, None, Result, Ok, Err, inl, inr, true, false, true≢false}
 use Rattle.std.specs.Prelude.{IfSome, is_some}
 use Rattle.account_core.specs.Machine.{Entry}
 use Rattle.outside.specs.Faults.{Rose}

@@ -1,5 +1,5 @@
 -- What is said of journals, said of their histories.
-use Rattle.std.proofs.Common.{◌≡◌, ℕ, ◌+◌, ◌<◌, ◌≤◌, List, [], ◌∷◌, ◌++◌, length, get_or, refl, sym, ap, ◌∙◌, subst, arith, Option, Some, None, inl, inr, Result, ⊎_elim}
+use Rattle.std.proofs.Common.{◌≡◌, ℕ, ◌<◌, ◌≤◌, List, [], ◌∷◌, ◌++◌, length, get_or, refl, sym, ap, ◌∙◌, subst, arith, Option, Some, None, inl, inr, Result, ⊎_elim}
 use Rattle.std.specs.Prelude.{IfSome, is_some}
 use Rattle.cost_num.specs.declared.Cost.{Cost}
 use Rattle.account_core.specs.declared.Limit.{Limit}

@@ -9,6 +9,7 @@ use Rattle.outside.specs.Dials.{Dial}
 use Rattle.outside.specs.Faults.{Rose}
 use Rattle.doors.specs.Starts.{Stopped}
 use Rattle.doors.specs.Visits.{Told}
+use Rattle.journal_disk.specs.Beginnings.{may_be_journal}
 use Rattle.journal_disk.specs.Shutting.{Shut}
 use Rattle.journal_disk.specs.declared.disks.Disks.{Ghosts}
 use Rattle.account_journal.specs.Slots.{bodies}
@@ -26,14 +27,30 @@ use Rattle.journal_serving.specs.declared.ending.KeptEnd.{KeptEnd}
 use Rattle.journal_serving.specs.declared.ending.KeptFault.{KeptFault}
 use Rattle.journal_serving.specs.declared.ending.KeptFault.TheVariants.{Disk, OtherClients, Damaged, NotStarted, Memory}
 
--- What disks tell at one moment: how the latest that was shut was left, and the count of openings that failed.
+-- What disks tell at one moment: what the disk of each name reads as when it is opened, how the latest that was shut was left, and the
+-- count of openings that failed.
 pub record DisksTold : Type 0 where
+  pub holds : List ℕ → Option (List ℕ)
   pub last : Option Shut
   pub faults : ℕ
 
 -- the same of what opens them
 abbrev pub disks_told : {J D : Type 0} → Ghosts J D → J → DisksTold
-disks_told tell disks = record { last = tell.last disks; faults = tell.faults disks }
+disks_told tell disks = record { holds = tell.holds disks; last = tell.last disks; faults = tell.faults disks }
+
+-- No disk was opened, and the count of these faults rose: every name holds what it held.
+pub record WasNotOpened (before now : DisksTold) : Type 0 where
+  pub failed : Rose before.faults now.faults
+  pub last : now.last ≡ before.last
+  pub holds : now.holds ≡ before.holds
+
+-- The disk of this name, which held what may be a journal's, was opened and shut: the name holds what it was left with, and the other
+-- names hold what they held.
+pub record WasOpenedAndShut (name : List ℕ) (before now : DisksTold) (shut : Shut) : Type 0 where
+  pub may_be : IfSome (before.holds name) (λ b. may_be_journal b ≡ true)
+  pub last : now.last ≡ Some shut
+  pub held : now.holds name ≡ shut.reads
+  pub others : (other : List ℕ) → (other ≡ name → ⊥) → now.holds other ≡ before.holds other
 
 -- ---- the accounts
 
@@ -153,8 +170,8 @@ EndsShut s limits serving mark held shut before now (Err fault) =
     ⊎ ((fault ≡ NotStarted) × StartNone before now × Rose before.faults now.faults × WasLeft limits mark held shut)
     ⊎ ((fault ≡ Memory) × StartNone before now × (now.faults ≡ before.faults) × WasLeft limits mark held shut)
 
--- No disk was opened, and the count of these faults rose; or one was, and was shut.
-abbrev pub ComesTo : Service → List Limit → Serving → List ℕ → Option (List ℕ) → DisksTold → DisksTold → DoorsTold → DoorsTold → Result KeptEnd KeptFault → Type 0
-ComesTo s limits serving mark held disks disks_now before now came_to =
-    ((came_to ≡ Err Disk) × Rose disks.faults disks_now.faults × (disks_now.last ≡ disks.last) × (now ≡ before))
-    ⊎ ((shut : Shut) × (disks_now.last ≡ Some shut) × EndsShut s limits serving mark held shut before now came_to)
+-- No disk was opened; or one was, and was shut.
+abbrev pub ComesTo : Service → List Limit → Serving → List ℕ → List ℕ → DisksTold → DisksTold → DoorsTold → DoorsTold → Result KeptEnd KeptFault → Type 0
+ComesTo s limits serving mark name disks disks_now before now came_to =
+    ((came_to ≡ Err Disk) × WasNotOpened disks disks_now × (now ≡ before))
+    ⊎ ((shut : Shut) × WasOpenedAndShut name disks disks_now shut × EndsShut s limits serving mark (disks.holds name) shut before now came_to)

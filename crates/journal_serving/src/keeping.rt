@@ -130,7 +130,7 @@ fn unopened(fault: OpenFault) -> KeptFault
 /// that leaves open at its bound, starts one door, serves it until it has given its connections or has failed, stops it, and shuts
 /// the disk. The gate's own cells are not used.
 ///
-/// A disk that was opened is shut whatever it comes to, and so are the doors.
+/// A disk that was opened is shut whatever it comes to, and so are the doors. None is open before, and none after.
 ///
 /// # Errors
 ///
@@ -148,12 +148,14 @@ pub fn serve_journal<D: Doors, J: Disks, R: Wait>(
     serving: &Serving<'_>,
 ) -> Result<KeptEnd, KeptFault>
     requires idle { D.running doors.old ≡ 0 }
+    requires disks_idle { J.running disks.old ≡ 0 }
     requires workers { serving.now.workers ≡ 1 }
     requires connections { serving.now.connections ≤ CONNECTION_LIMIT }
     ensures idle { D.running doors.new ≡ 0 }
+    ensures disks_idle { J.running disks.new ≡ 0 }
     ensures settled { IfOk result (λ end. All IsSettledWithin end.accounts.items) }
     ensures carried { IfOk result (λ end. All IsCarriedWithin end.accounts.items) }
-    ensures came_to { ComesTo (service_kept gate.now) (limits_of gate.now) serving.now mark (J.holds disks.old name.now)
+    ensures came_to { ComesTo (service_kept gate.now) (limits_of gate.now) serving.now mark name.now
         (disks_told J.Disks disks.old) (disks_told J.Disks disks.new)
         (doors_told D.Doors doors.old) (doors_told D.Doors doors.new) result }
 {

@@ -1,8 +1,9 @@
 -- The disk was shut, whatever came of it.
-use Rattle.std.proofs.Common.{inl, inr, refl, ap, ◌∙◌}
+use Rattle.std.proofs.Common.{◌≡◌, true, inl, inr, refl, ap, ◌∙◌}
 use Rattle.std.specs.Prelude.{is_some}
 use Rattle.account_journal.specs.Slots.{bodies}
 use Rattle.account_journal.specs.Reading.{IsFaultOf}
+use Rattle.journal_disk.specs.Beginnings.{may_be_journal}
 use Rattle.journal_disk.specs.Shutting.{shut_with}
 use Rattle.gateway_journal.specs.PassedOn.{limits_of, telling}
 use Rattle.gateway_serving.specs.PassedOn.{door_members}
@@ -18,7 +19,12 @@ returns-in-Ok-open_for-clause-came_to g c =
     let disk = c.serve_opened-disk.result.0 in
     inr (
       shut_with (g.J.D.Disk.reads disk) (g.J.D.Disk.faults disk),
-      c.shut.ensures.last,
+      record {
+        may_be = each_told held (λ b. may_be_journal b ≡ true) (λ b is. c.in-Ok.ensures.may_be b (c.in-Ok.ensures.told ∙ is));
+        last = c.shut.ensures.last;
+        held = c.shut.ensures.held c.args.name.now c.in-Ok.ensures.named;
+        others = λ other isnt. c.shut.ensures.others c.args.name.now other c.in-Ok.ensures.named isnt ∙ ap (λ f. f other) c.in-Ok.ensures.holds;
+      },
       ends_shut (door_members g.D.D.Door)
           (disk_members g.J.D.Disk)
           (telling g.D.D.W.Wire)
@@ -39,7 +45,12 @@ returns-in-Err-clause-came_to g c =
     let disk = c.in-Err.disk in
     inr (
       shut_with (g.J.D.Disk.reads disk) (g.J.D.Disk.faults disk),
-      c.shut-in-Err.ensures.last,
+      record {
+        may_be = each_told held (λ b. may_be_journal b ≡ true) (λ b is. c.in-Ok.ensures.may_be b (c.in-Ok.ensures.told ∙ is));
+        last = c.shut-in-Err.ensures.last;
+        held = c.shut-in-Err.ensures.held c.args.name.now c.in-Ok.ensures.named;
+        others = λ other isnt. c.shut-in-Err.ensures.others c.args.name.now other c.in-Ok.ensures.named isnt ∙ ap (λ f. f other) c.in-Ok.ensures.holds;
+      },
       inl (
         record {
           reason = c.in-Err.fault;
