@@ -37,6 +37,7 @@ fn end_run<Rt: Threads + Wait + Sync, F: Files, D: Doors, J: Disks, K: Sink, E: 
     err: &mut E,
 ) -> ExitCode
     requires idle { D.running doors.old ≡ 0 }
+    requires disks_idle { J.running disks.old ≡ 0 }
     ensures ran { Runs words.now (exit_status result) (files_call F.Files files.old files.new)
         (outside_call (doors_call D.Doors doors.old doors.new) (disks_call J.Disks disks.old disks.new))
         (stream_told K.Sink out.old out.new)
@@ -59,6 +60,7 @@ pub(crate) fn end<Rt: Threads + Wait + Sync, F: Files, D: Doors, J: Disks, K: Si
     err: &mut E,
 ) -> ExitCode
     requires idle { D.running doors.old ≡ 0 }
+    requires disks_idle { J.running disks.old ≡ 0 }
     ensures ran { IfOk words (λ words. Runs words.items (exit_status result) (files_call F.Files files.old files.new)
         (outside_call (doors_call D.Doors doors.old doors.new) (disks_call J.Disks disks.old disks.new))
         (stream_told K.Sink out.old out.new)

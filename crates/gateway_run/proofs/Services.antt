@@ -30,11 +30,11 @@ pub same_limits : (gate : Gate) (inputs : ServeInputs) → rules_of gate ≡ rul
 same_limits gate inputs rules = ap (λ (r : Rules). map client_limit r.clients) rules
 
 -- what serving over a journal came to is said of what its parts are
-pub came_alike : (s t : Service) (limits own_limits : List Limit) (mark own_mark name own_name : List ℕ) (held : List ℕ → Option (List ℕ)) (serving : Serving) (disks disks_now : DisksTold) (doors doors_now : DoorsTold) (came_to : Result KeptEnd KeptFault)
+pub came_alike : (s t : Service) (limits own_limits : List Limit) (mark own_mark name own_name : List ℕ) (serving : Serving) (disks disks_now : DisksTold) (doors doors_now : DoorsTold) (came_to : Result KeptEnd KeptFault)
     → s ≡ t → limits ≡ own_limits → mark ≡ own_mark → name ≡ own_name
-    → ComesTo s limits serving mark (held name) disks disks_now doors doors_now came_to → ComesTo t own_limits serving own_mark (held own_name) disks disks_now doors doors_now came_to
-came_alike s t limits own_limits mark own_mark name own_name held serving disks disks_now doors doors_now came_to same_s same_l same_m same_n came =
-    subst (λ n. ComesTo t own_limits serving own_mark (held n) disks disks_now doors doors_now came_to) same_n
-    (subst (λ m. ComesTo t own_limits serving m (held name) disks disks_now doors doors_now came_to) same_m
-    (subst (λ l. ComesTo t l serving mark (held name) disks disks_now doors doors_now came_to) same_l
-    (subst (λ v. ComesTo v limits serving mark (held name) disks disks_now doors doors_now came_to) same_s came)))
+    → ComesTo s limits serving mark name disks disks_now doors doors_now came_to → ComesTo t own_limits serving own_mark own_name disks disks_now doors doors_now came_to
+came_alike s t limits own_limits mark own_mark name own_name serving disks disks_now doors doors_now came_to same_s same_l same_m same_n came =
+    subst (λ n. ComesTo t own_limits serving own_mark n disks disks_now doors doors_now came_to) same_n
+    (subst (λ m. ComesTo t own_limits serving m name disks disks_now doors doors_now came_to) same_m
+    (subst (λ l. ComesTo t l serving mark name disks disks_now doors doors_now came_to) same_l
+    (subst (λ v. ComesTo v limits serving mark name disks disks_now doors doors_now came_to) same_s came)))

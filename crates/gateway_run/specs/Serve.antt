@@ -35,14 +35,13 @@ pub record DoorsCall : Type 0 where
 abbrev pub doors_call : {D Door S K W C : Type 0} → DoorsTell D Door S K W C → D → D → DoorsCall
 doors_call tell before now = record { before = doors_told tell before; now = doors_told tell now }
 
--- What the disks tell before and after a call, and what the disk of a name reads as when it is opened.
+-- What the disks tell before and after a call.
 pub record DisksCall : Type 0 where
-  pub holds : List ℕ → Option (List ℕ)
   pub before : DisksTold
   pub now : DisksTold
 
 abbrev pub disks_call : {J D : Type 0} → DisksTell J D → J → J → DisksCall
-disks_call tell before now = record { holds = tell.holds before; before = disks_told tell before; now = disks_told tell now }
+disks_call tell before now = record { before = disks_told tell before; now = disks_told tell now }
 
 -- What doors and disks tell before and after a call.
 pub record OutsideCall : Type 0 where
@@ -128,7 +127,7 @@ abbrev pub KeepsAs : AskedServe → List ℕ → ServeInputs → OutsideCall →
 KeepsAs asked name inputs outside outcome = ((outcome ≡ Memory) × AreUntouched outside)
     ⊎ ((result : Result KeptEnd KeptFault) × (serving : Serving) × IsServingOf asked serving
     × KeptComesTo (kept_service_by asked inputs) (map client_limit inputs.rules.clients.clients.items) serving
-    (sha256 (client_file inputs.rules.clients.window_seconds inputs.rules.clients.clients.items)) (outside.disks.holds name) outside.disks.before outside.disks.now outside.doors.before outside.doors.now result
+    (sha256 (client_file inputs.rules.clients.window_seconds inputs.rules.clients.clients.items)) name outside.disks.before outside.disks.now outside.doors.before outside.doors.now result
     × IsKeptTold inputs.rules.clients.clients.items result outcome)
 
 -- By these rules, over the journal of this name, if there is one.

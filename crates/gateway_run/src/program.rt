@@ -43,6 +43,8 @@ fn outcome_of<Rt: Threads + Wait + Sync, F: Files, D: Doors, J: Disks>(
 ) -> Outcome
     requires limits { ServesWithinLimits command }
     requires idle { D.running doors.old ≡ 0 }
+    requires disks_idle { J.running disks.old ≡ 0 }
+    ensures disks_idle { J.running disks.new ≡ 0 }
     ensures { CommandCameTo command (files_call F.Files files.old files.new)
         (outside_call (doors_call D.Doors doors.old doors.new) (disks_call J.Disks disks.old disks.new)) result }
 {
@@ -87,6 +89,8 @@ fn answer_words<Rt: Threads + Wait + Sync, F: Files, D: Doors, J: Disks>(
     disks: &mut J,
 ) -> Outcome
     requires idle { D.running doors.old ≡ 0 }
+    requires disks_idle { J.running disks.old ≡ 0 }
+    ensures disks_idle { J.running disks.new ≡ 0 }
     ensures { ComeTo words.now (files_call F.Files files.old files.new)
         (outside_call (doors_call D.Doors doors.old doors.new) (disks_call J.Disks disks.old disks.new)) result }
 {
@@ -96,8 +100,8 @@ fn answer_words<Rt: Threads + Wait + Sync, F: Files, D: Doors, J: Disks>(
     }
 }
 
-/// Does what the words after the program's name say, and gives the status to end with. No doors run before, and none after: a
-/// command that serves stops those that it started. It may wait for the steps of other workers.
+/// Does what the words after the program's name say, and gives the status to end with. No doors run and no disk is open before, and
+/// none after: a command that serves stops the doors that it started, and shuts the disk that it opened. It may wait for the steps of other workers.
 pub fn run<Rt: Threads + Wait + Sync, F: Files, D: Doors, J: Disks, K: Sink, E: Sink>(
     rt: &Rt,
     alloc: Global,
@@ -109,6 +113,8 @@ pub fn run<Rt: Threads + Wait + Sync, F: Files, D: Doors, J: Disks, K: Sink, E: 
     err: &mut E,
 ) -> u8
     requires idle { D.running doors.old ≡ 0 }
+    requires disks_idle { J.running disks.old ≡ 0 }
+    ensures disks_idle { J.running disks.new ≡ 0 }
     ensures { Runs words.now result (files_call F.Files files.old files.new)
         (outside_call (doors_call D.Doors doors.old doors.new) (disks_call J.Disks disks.old disks.new))
         (stream_told K.Sink out.old out.new)

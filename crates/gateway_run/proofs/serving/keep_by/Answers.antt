@@ -26,7 +26,7 @@ returns g c =
       serving,
       c.serving_of-serving.ensures,
       came_alike (service_kept gate) (kept_service_by asked inputs) (limits_of gate) (map client_limit clients.clients.items) c.in-Ok.mark (sha256 (client_file clients.window_seconds clients.clients.items))
-          c.as_str-journal.result.now c.args.name.now (g.J.Disks.holds c.args.disks.now) serving
+          c.as_str-journal.result.now c.args.name.now serving
           (disks_told g.J.Disks c.args.disks.now) (disks_told g.J.Disks c.serve_journal-came_to.new.disks)
           (doors_told g.D.Doors c.args.doors.now) (doors_told g.D.Doors c.serve_journal-came_to.new.doors) came_to
           (same_service kept_slots gate asked inputs c.in-Ok-settings_of.settings rules c.in-Ok-made.ensures.settings c.in-Ok-settings_of.ensures.host c.in-Ok-settings_of.ensures.target c.in-Ok-settings_of.ensures.passed
