@@ -5,7 +5,7 @@
 //! see that each step that was said is in the file.
 #![tactic(auto)]
 
-ghost use Rattle.std.specs.Prelude.{IfOk};
+ghost use Rattle.std.specs.Prelude.{◌≡◌, IfOk, OnOk};
 ghost use Rattle.account_journal.specs.Journals.{IsSound, Rests};
 
 mod clients;
@@ -32,11 +32,13 @@ fn opened(
     disks: &mut StdDisks<HostRuntime>,
     name: &str,
 ) -> io::Result<Journal<StdDisk>>
+    requires idle { ⟦<StdDisks<HostRuntime> as Disks>⟧.running disks.old ≡ 0 }
+    ensures running { OnOk result (⟦<StdDisks<HostRuntime> as Disks>⟧.running disks.new ≡ 1) }
     ensures sound { IfOk result (λ journal. IsSound journal) }
     ensures rest { IfOk result (λ journal. Rests ⟦<StdDisk as Disk>⟧.reads journal) }
 {
     let Ok(disk) = disks.open(alloc, name) else {
-        return Err(wrong("the file can't be opened, or is locked"));
+        return Err(wrong("the file can't be opened, is locked, or is no journal"));
     };
     match Journal::open(alloc, disk, MARK, limits(alloc)?) {
         Ok(journal) => Ok(journal),
@@ -48,7 +50,10 @@ fn opened(
 }
 
 // Shuts the disk of a journal. A journal with open grants is given up; the next opening settles them.
-fn shut(disks: &mut StdDisks<HostRuntime>, journal: Journal<StdDisk>) {
+fn shut(disks: &mut StdDisks<HostRuntime>, journal: Journal<StdDisk>)
+    requires running { ⟦<StdDisks<HostRuntime> as Disks>⟧.running disks.old ≡ 1 }
+    ensures idle { ⟦<StdDisks<HostRuntime> as Disks>⟧.running disks.new ≡ 0 }
+{
     let disk = if journal.opened() == 0 {
         journal.close()
     } else {

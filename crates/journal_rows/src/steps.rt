@@ -8,7 +8,7 @@ use crate::opening::{MARK, open, write_fault, write_journal};
 use crate::row::Step;
 use account_journal::{Journal, KeptReply, KeptTicket};
 use cost_num::Cost;
-use journal_disk::{Disk, Disks, MemDisk, MemDisks};
+use journal_disk::{Disk, MemDisk};
 use outside::Failures;
 use std::alloc::{AllocError, Global};
 
@@ -147,10 +147,7 @@ fn open_again(
         None => Vec::new(alloc),
     };
     let bytes = Vec::from_slice(alloc, state.into_disk().bytes())?;
-    let mut disks = MemDisks::new(bytes, failing, Failures::none(alloc));
-    let Ok(disk) = disks.open(alloc, "journal") else {
-        return Err(AllocError);
-    };
+    let disk = MemDisk::new(alloc, &bytes, Failures::of(failing))?;
     match open(alloc, disk, MARK) {
         Ok(journal) => {
             write_journal(&mut desk.text, &journal)?;

@@ -4,6 +4,8 @@
 #[cfg(test)]
 mod accounts;
 #[cfg(test)]
+mod disks;
+#[cfg(test)]
 mod documents;
 #[cfg(test)]
 mod forms;

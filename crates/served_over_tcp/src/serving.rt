@@ -57,7 +57,12 @@ pub(crate) fn serve<W: Threads + Wait + Sync>(
     let mut doors = TcpDoors::new(rt.clone()?, alloc);
     let mut out = MemSink::new(alloc, Failures::none(alloc));
     let mut err = MemSink::new(alloc, Failures::none(alloc));
-    let mut disks = MemDisks::new(Vec::new(alloc), Vec::new(alloc), Failures::none(alloc));
+    let mut disks = MemDisks::new(
+        alloc,
+        Vec::new(alloc),
+        Vec::new(alloc),
+        Failures::none(alloc),
+    );
     let status = run(
         workers, alloc, &words, &mut files, &mut doors, &mut disks, &mut out, &mut err,
     );
