@@ -44,7 +44,6 @@ fn outcome_of<Rt: Threads + Wait + Sync, F: Files, D: Doors, J: Disks>(
     requires limits { ServesWithinLimits command }
     requires idle { D.running doors.old ≡ 0 }
     requires disks_idle { J.running disks.old ≡ 0 }
-    ensures disks_idle { J.running disks.new ≡ 0 }
     ensures { CommandCameTo command (files_call F.Files files.old files.new)
         (outside_call (doors_call D.Doors doors.old doors.new) (disks_call J.Disks disks.old disks.new)) result }
 {
@@ -90,7 +89,6 @@ fn answer_words<Rt: Threads + Wait + Sync, F: Files, D: Doors, J: Disks>(
 ) -> Outcome
     requires idle { D.running doors.old ≡ 0 }
     requires disks_idle { J.running disks.old ≡ 0 }
-    ensures disks_idle { J.running disks.new ≡ 0 }
     ensures { ComeTo words.now (files_call F.Files files.old files.new)
         (outside_call (doors_call D.Doors doors.old doors.new) (disks_call J.Disks disks.old disks.new)) result }
 {
@@ -114,7 +112,6 @@ pub fn run<Rt: Threads + Wait + Sync, F: Files, D: Doors, J: Disks, K: Sink, E: 
 ) -> u8
     requires idle { D.running doors.old ≡ 0 }
     requires disks_idle { J.running disks.old ≡ 0 }
-    ensures disks_idle { J.running disks.new ≡ 0 }
     ensures { Runs words.now result (files_call F.Files files.old files.new)
         (outside_call (doors_call D.Doors doors.old doors.new) (disks_call J.Disks disks.old disks.new))
         (stream_told K.Sink out.old out.new)

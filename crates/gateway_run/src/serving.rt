@@ -89,7 +89,6 @@ fn keep_by<Rt: Threads + Wait + Sync, D: Doors, J: Disks>(
     requires served { MayBeServed inputs.rules.clients.window_seconds inputs.rules.clients.clients.items }
     requires idle { D.running doors.old ≡ 0 }
     requires disks_idle { J.running disks.old ≡ 0 }
-    ensures disks_idle { J.running disks.new ≡ 0 }
     ensures { KeepsAs asked.now name.now inputs (outside_call (doors_call D.Doors doors.old doors.new) (disks_call J.Disks disks.old disks.new)) result }
 {
     let serving = serving_of(asked);
@@ -167,7 +166,6 @@ fn serve_asked<Rt: Threads + Wait + Sync, D: Doors, J: Disks>(
     requires served { MayBeServed inputs.rules.clients.window_seconds inputs.rules.clients.clients.items }
     requires idle { D.running doors.old ≡ 0 }
     requires disks_idle { J.running disks.old ≡ 0 }
-    ensures disks_idle { J.running disks.new ≡ 0 }
     ensures { ServesAs asked.now inputs (outside_call (doors_call D.Doors doors.old doors.new) (disks_call J.Disks disks.old disks.new)) result }
 {
     match &asked.journal {
@@ -189,7 +187,6 @@ fn serve_of<Rt: Threads + Wait + Sync, D: Doors, J: Disks>(
     requires text { IsText SCHEMA_LIMIT texts.now.rules.schema }
     requires idle { D.running doors.old ≡ 0 }
     requires disks_idle { J.running disks.old ≡ 0 }
-    ensures disks_idle { J.running disks.new ≡ 0 }
     ensures { ServeOf asked.now texts.now (outside_call (doors_call D.Doors doors.old doors.new) (disks_call J.Disks disks.old disks.new)) result }
 {
     built_schemas_can_be_filled();
@@ -217,7 +214,6 @@ pub fn serve<Rt: Threads + Wait + Sync, F: Files, D: Doors, J: Disks>(
     requires limits { ServesWithinLimits (Serve asked.now) }
     requires idle { D.running doors.old ≡ 0 }
     requires disks_idle { J.running disks.old ≡ 0 }
-    ensures disks_idle { J.running disks.new ≡ 0 }
     ensures { ServeCameTo asked.now (files_told (F.content files.old) (F.faults files.old) (F.faults files.new))
         (outside_call (doors_call D.Doors doors.old doors.new) (disks_call J.Disks disks.old disks.new)) result }
 {

@@ -27,26 +27,29 @@ use Rattle.journal_serving.specs.declared.ending.KeptEnd.{KeptEnd}
 use Rattle.journal_serving.specs.declared.ending.KeptFault.{KeptFault}
 use Rattle.journal_serving.specs.declared.ending.KeptFault.TheVariants.{Disk, OtherClients, Damaged, NotStarted, Memory}
 
--- What disks tell at one moment: what the disk of each name reads as when it is opened, how the latest that was shut was left, and the
--- count of openings that failed.
+-- What disks tell at one moment: what the disk of each name reads as when it is opened, how many are open, how the latest that was shut
+-- was left, and the count of openings that failed.
 pub record DisksTold : Type 0 where
   pub holds : List ℕ → Option (List ℕ)
+  pub running : ℕ
   pub last : Option Shut
   pub faults : ℕ
 
 -- the same of what opens them
 abbrev pub disks_told : {J D : Type 0} → Ghosts J D → J → DisksTold
-disks_told tell disks = record { holds = tell.holds disks; last = tell.last disks; faults = tell.faults disks }
+disks_told tell disks = record { holds = tell.holds disks; running = tell.running disks; last = tell.last disks; faults = tell.faults disks }
 
 -- No disk was opened, and the count of these faults rose: every name holds what it held.
 pub record WasNotOpened (before now : DisksTold) : Type 0 where
+  pub idle : now.running ≡ 0
   pub failed : Rose before.faults now.faults
   pub last : now.last ≡ before.last
   pub holds : now.holds ≡ before.holds
 
--- The disk of this name, which held what may be a journal's, was opened and shut: the name holds what it was left with, and the other
--- names hold what they held.
+-- The disk of this name, which held what may be a journal's, was opened and shut, and none is open: the name holds what it was left with,
+-- and the other names hold what they held.
 pub record WasOpenedAndShut (name : List ℕ) (before now : DisksTold) (shut : Shut) : Type 0 where
+  pub idle : now.running ≡ 0
   pub may_be : IfSome (before.holds name) (λ b. may_be_journal b ≡ true)
   pub last : now.last ≡ Some shut
   pub held : now.holds name ≡ shut.reads

@@ -21,6 +21,7 @@ returns-in-Ok-open_for-clause-came_to g c =
       shut_with (g.J.D.Disk.reads disk) (g.J.D.Disk.faults disk),
       record {
         may_be = each_told held (λ b. may_be_journal b ≡ true) (λ b is. c.in-Ok.ensures.may_be b (c.in-Ok.ensures.told ∙ is));
+        idle = c.shut.ensures.idle;
         last = c.shut.ensures.last;
         held = c.shut.ensures.held c.args.name.now c.in-Ok.ensures.named;
         others = λ other isnt. c.shut.ensures.others c.args.name.now other c.in-Ok.ensures.named isnt ∙ ap (λ f. f other) c.in-Ok.ensures.holds;
@@ -47,6 +48,7 @@ returns-in-Err-clause-came_to g c =
       shut_with (g.J.D.Disk.reads disk) (g.J.D.Disk.faults disk),
       record {
         may_be = each_told held (λ b. may_be_journal b ≡ true) (λ b is. c.in-Ok.ensures.may_be b (c.in-Ok.ensures.told ∙ is));
+        idle = c.shut-in-Err.ensures.idle;
         last = c.shut-in-Err.ensures.last;
         held = c.shut-in-Err.ensures.held c.args.name.now c.in-Ok.ensures.named;
         others = λ other isnt. c.shut-in-Err.ensures.others c.args.name.now other c.in-Ok.ensures.named isnt ∙ ap (λ f. f other) c.in-Ok.ensures.holds;
