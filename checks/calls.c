@@ -130,10 +130,10 @@ int ftruncate64(int fd, long size) { return ftruncate(fd, size); }
 int shutdown(int fd, int how) { return (int) made("shutdown", SHUTDOWN, fd, how, 0, 0); }
 int accept4(int fd, void *from, void *length, int flags) { return (int) made("accept4", ACCEPT4, fd, (long) from, (long) length, flags); }
 
+/* It gives its error as its result. */
 int posix_fadvise(int fd, long at, long size, int advice) {
-    int result = (int) syscall(FADVISE, (long) fd, at, size, (long) advice);
-    told("fadvise", fd, size, advice, result, 0, 0);
-    return result < 0 ? *__errno_location() : 0;
+    long result = fails("fadvise") ? error_of(-way) : syscall(FADVISE, (long) fd, at, size, (long) advice);
+    return told("fadvise", fd, size, advice, result, 0, 0) < 0 ? *__errno_location() : 0;
 }
 int posix_fadvise64(int fd, long at, long size, int advice) { return posix_fadvise(fd, at, size, advice); }
 

@@ -7,7 +7,7 @@ The built program serves some requests over loopback, under a preload that recor
 - each request goes to the upstream, and each reply that tells a charge to its client, only once all that it needs is synced in the file, and the file's name in its folder;
 - at each moment of such a run, and of one that is started on a file whose last write wasn't synced, the images that a crash may leave (`crates/journal_disk/README.md`) are
   made: any part of what wasn't synced, and any bytes in its place. The program opens each, and has to have the accounts after some of the steps that were taken by then, and
-  after all that anybody was told of;
+  after all that anybody was told of. A first byte that no journal has may be refused, where no step was taken;
 - each call to the disk fails in turn, with EIO, ENOSPC or EINTR, or does a part of what it was asked for: the program has to end with status 9, and its file has all that it
   told, or to serve as if nothing had been; where it was interrupted, or a part was done, it has to serve. Behind a sync that failed a crash may leave what it likes of all that wasn't
   synced until then, and these images are opened too.
@@ -40,10 +40,13 @@ FAULTS = {
     "fsync": ("5", "28"),
     "fdatasync": ("5",),
     "flock": ("11", "5"),
+    "fadvise": ("5",),
     "open": ("5", "28"),
 }
 GOES_ON = {("pread", "4"), ("pread", "short"), ("pwrite", "4"), ("pwrite", "short")}
 AT_ONCE = os.cpu_count() or 1
+# The advice that has the system read the disk anew.
+GIVE_UP_COPIES = 4
 
 
 def patched(text, place, piece):
@@ -56,7 +59,7 @@ class Disk:
 
     def __init__(self, content=b"", pending=(), is_there=False):
         self.safe, self.pending, self.stuck, self.is_named = content, list(pending), [], is_there
-        self.fds, self.folders, self.has_read_unsafe = set(), set(), False
+        self.fds, self.folders, self.is_fresh, self.has_read_unsafe = set(), set(), False, False
 
     def content(self):
         text = self.safe
@@ -79,7 +82,9 @@ class Disk:
             self.synced(call)
         elif call.fd in self.fds and call.name == "pwrite" and call.result > 0:
             self.pending.append((call.place, call.bytes[: call.result]))
-        elif call.fd in self.fds and call.name == "pread" and not self.is_safe():
+        elif call.fd in self.fds and (call.name, call.place, call.result) == ("fadvise", GIVE_UP_COPIES, 0):
+            self.is_fresh = not self.pending
+        elif call.fd in self.fds and call.name == "pread" and not (self.is_fresh and self.is_safe()):
             self.has_read_unsafe = True
 
     def synced(self, call):
@@ -173,7 +178,7 @@ def ill_told(calls, disk):
             if charged and charged.charged and not (kind == 2 and cost == charged.charged and disk.is_safe()):
                 yield "a reply went to its client before its settlement was synced"
     if disk.has_read_unsafe:
-        yield "the file was read before it was synced, and its name in its folder"
+        yield "the file was read before it and its folder were synced, or from copies that the system had of it before"
 
 
 def lines_of(accounts):
@@ -257,7 +262,9 @@ class Checked:
         for image, told, taken in {*wanted}:
             status, err, accounts, left = opened[image]
             right = [self.accounts_after(final, steps) for steps in range(told, taken + 1)]
-            if (status, err) != (8, "door\n") or accounts not in right or not self.is_at_rest(left, accounts):
+            is_right = (status, err) == (8, "door\n") and accounts in right and self.is_at_rest(left, accounts)
+            is_refused = taken == 0 and image and image[0] > 1 and (status, err, left) == (9, "disk\n", image)
+            if not is_right and not is_refused:
                 wrong += 1
                 if kind:
                     self.note(f"{kind}: an image with {told} to {taken} steps is opened with status {status}, {err.strip()} and {accounts}")
