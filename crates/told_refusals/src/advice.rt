@@ -485,7 +485,7 @@ const OVER_SCHEMAS: &[Advice] = &[
     Advice {
         fault: "7 FragmentOn",
         inner: "",
-        wrong: "An operation that asks for the schema has conditions on its root type and on the types of introspection alone, and {@} is none of these.",
+        wrong: "An operation that asks for the schema has conditions on its root type and on the object types of introspection alone, and {@} is none of these.",
         helps: "Put the condition on the root type, or select the fields without one.",
     },
     Advice {

@@ -42,7 +42,7 @@ const ROWS: &[(&str, Option<Place<'_>>, &str)] = &[
             text: "{ ... on Node { __schema { description } } }",
             offset: 9,
         }),
-        "local 2 Rule 7 FragmentOn 9\nline 1, column 10:\n{ ... on Node { __schema { description } } }\n         ^\nAn operation that asks for the schema has conditions on its root type and on the types of introspection alone, and Node is none of these.\nPut the condition on the root type, or select the fields without one.",
+        "local 2 Rule 7 FragmentOn 9\nline 1, column 10:\n{ ... on Node { __schema { description } } }\n         ^\nAn operation that asks for the schema has conditions on its root type and on the object types of introspection alone, and Node is none of these.\nPut the condition on the root type, or select the fields without one.",
     ),
     (
         "local 2 Rule 12 UnknownField 13",
