@@ -1,5 +1,5 @@
 -- What a request comes to, each that asks the same comes to.
-use Rattle.std.proofs.Common.{◌≡◌, ◌∙◌, ℕ, true, List, [], ◌∷◌, map, Result, Ok, Err, sym, ap, ap₂, subst}
+use Rattle.std.proofs.Common.{◌≡◌, ◌∙◌, inl, inr, ℕ, true, List, [], ◌∷◌, map, Some, Result, Ok, Err, sym, ap, ap₂, subst}
 use Rattle.response_model.specs.Plan.{single}
 use Rattle.response_model.specs.Response.{Tree}
 use Rattle.response_model.specs.Cost.{Part, types, fields}
@@ -25,7 +25,9 @@ use Rattle.acceptance.proofs.AlikeOperations.{AreAlike, parts_alike, broken_alik
 use Rattle.local_introspection.specs.declared.fault.LocalFault.{LocalFault}
 use Rattle.local_introspection.specs.declared.fault.LocalFault.TheVariants.{Mixed, Rule, Variable, Plan, TooLarge, Memory}
 use Rattle.local_introspection.specs.declared.walk.Local.{Local}
+use Rattle.response_model.specs.ResponseText.{response_text}
 use Rattle.local_introspection.specs.Answers.{Gives}
+use Rattle.local_introspection.specs.Lengths.{IsShort, IsLong}
 use Rattle.local_introspection.specs.LocalRequests.{LocalRequest, AsksFor, KeepsRules, Prepared, setting, IsPlannedWell, place_in, nodes_asked, IsTheAnswer}
 use Rattle.local_introspection.specs.LocalAnswers.{IsAnsweredWith, IsRefusedFor, ComesTo}
 use Rattle.local_introspection.specs.AskAlike.{AskAlike}
@@ -126,6 +128,7 @@ module _ (classes : OneClass) (r q : LocalRequest) (alike : AskAlike r q) where
     record {
       few = written.few;
       text = written.text;
+      short = subst (λ most. IsShort most (response_text (Some t) [])) alike.most written.short;
       of_types = written.of_types ∙ ap (cost_by t types) (planned_alike p);
       of_fields = written.of_fields ∙ ap (cost_by t fields) (planned_alike p);
     },
@@ -140,7 +143,8 @@ module _ (classes : OneClass) (r q : LocalRequest) (alike : AskAlike r q) where
       let kept = kept_alike o keeps in
       (kept.0, kept.1, subst (NamesVariable fault) (answer_alike o kept.0 kept.2) refused)
   refused_alike (Plan fault) (p, named) = (other p, subst (NamesNode fault) (ap answer_by (planned_alike p)) named)
-  refused_alike TooLarge (p, well, t, is, many) = (other p, well_alike p well, t, tree_alike p t is, many)
+  refused_alike TooLarge (p, well, t, is, inl many) = (other p, well_alike p well, t, tree_alike p t is, inl many)
+  refused_alike TooLarge (p, well, t, is, inr long) = (other p, well_alike p well, t, tree_alike p t is, inr (subst (λ most. IsLong most (response_text (Some t) [])) alike.most long))
   refused_alike Memory refused = tt
 
   pub comes_alike : (result : Result Local LocalFault) → ComesTo r result → ComesTo q result

@@ -14,7 +14,7 @@ use Rattle.meta_schema.specs.MetaTypes.{number_of}
 use Rattle.meta_schema.specs.MetaForms.{form_of, below_of, leaf_type_of, holds as table_holds, meta_name}
 use Rattle.local_introspection.specs.Answers.{given_by, entries_of, tree_of_thing, leaf_or, tree_of_held, elements_for, field_cost, unless_leaf, cost_of_thing, cost_of_things, cost_of_held, cost_of_entries}
 use Rattle.local_introspection.specs.MetaNodes.{IsFieldNode, IsMetaLeaf, what_in, AreMetaFields, IsMetaBelow, IsMetaRoot}
-use Rattle.local_introspection.specs.Walking.{answer_tree, answer_cost}
+use Rattle.local_introspection.specs.Counting.{answer_tree, answer_cost}
 use Rattle.local_introspection.proofs.Suits.{IsObjectOf, IsLeafFor, Suits, suits}
 
 -- objects of one type

@@ -1,10 +1,10 @@
 -- Each request whose operation the gateway answers has a verdict.
-use Rattle.std.proofs.Common.{◌≡◌, ◌⊎◌, ℕ, List, [], inl, inr, Option, None, Some, Result, Ok, Err, refl, sym, ap, subst, ◌∙◌}
+use Rattle.std.proofs.Common.{◌≡◌, ◌⊎◌, ℕ, List, inl, inr, Option, None, Some, Result, Ok, Err, refl, sym, ap, subst, ◌∙◌}
 use Rattle.std.specs.Prelude.{◌≢◌}
 use Rattle.std.proofs.lemmas.Bool.{cases_lt}
 use Rattle.serde_json.specs.Data.{Data}
 use Rattle.response_model.specs.Response.{Tree}
-use Rattle.response_model.specs.ResponseText.{response_text}
+use Rattle.cost_num.specs.declared.Cost.{Cost}
 use Rattle.response_model.specs.Cost.{types, fields}
 use Rattle.document_reader.specs.declared.trees.Definition.{Definition}
 use Rattle.document_reader.specs.declared.trees.Operation.{Operation}
@@ -26,7 +26,9 @@ use Rattle.local_introspection.specs.declared.fault.LocalFault.{LocalFault}
 use Rattle.local_introspection.specs.declared.fault.LocalFault.TheVariants.{Mixed, Rule, Variable, Plan, TooLarge as LocalTooLarge, Memory}
 use Rattle.local_introspection.specs.declared.walk.Local.{Local}
 use Rattle.local_introspection.specs.Answers.{values_in}
-use Rattle.local_introspection.specs.Walking.{answer_tree, answer_cost}
+use Rattle.local_introspection.proofs.Lengths.{short_or_long}
+use Rattle.local_introspection.specs.Walking.{answer_text}
+use Rattle.local_introspection.specs.Counting.{answer_tree, answer_cost}
 use Rattle.local_introspection.specs.LocalRequests.{LocalRequest, local_request, AsksFor, KeepsRules, Prepared, plan_answer, IsPlannedWell, nodes_asked}
 use Rattle.local_introspection.specs.LocalAnswers.{IsRefusedFor, HasVerdict}
 use Rattle.local_introspection.proofs.OverMeta.{AskLaws}
@@ -76,10 +78,14 @@ module _ (laws : AskLaws) (forms : HaveTheirForms) (facts : Facts) (document : L
       let nodes : AskedNodes = nodes_asked r p in
       let tree : Tree = answer_tree r.facts nodes in
       elim (cases_lt 1000000 (values_in tree)) [
-        | inl many ↦ refused r LocalTooLarge (λ same. absurd (cc)) (is_too_large laws forms facts document place given p well many)
+        | inl many ↦ refused r LocalTooLarge (λ same. absurd (cc)) (is_too_large laws forms facts document place given p well (inl many))
         | inr few ↦
-            let local : Local = record { cost = record { types = answer_cost r.facts nodes types; fields = answer_cost r.facts nodes fields }; text = response_text (Some tree) [] } in
-            inl (local, is_written laws forms facts document place given p well local (few, refl, refl, refl))
+            let cost : Cost = record { types = answer_cost r.facts nodes types; fields = answer_cost r.facts nodes fields } in
+            let local : Local = record { cost = cost; text = answer_text r.facts nodes } in
+            elim (short_or_long r.most (answer_text r.facts nodes)) [
+              | inl short ↦ inl (local, is_written laws forms facts document place given p well cost (few, refl, refl) short)
+              | inr long ↦ refused r LocalTooLarge (λ same. absurd (cc)) (is_too_large laws forms facts document place given p well (inr long))
+            ]
       ]
 
   by_plan : (p : Prepared r) (answer : PlanAnswer) → plan_answer r p ≡ answer → HasVerdict r

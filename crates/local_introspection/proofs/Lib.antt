@@ -1,4 +1,7 @@
+pub mod NamedFacts
+pub mod CountSteps
 pub mod WalkSteps
+pub mod MeasureSteps
 pub mod Opened
 pub mod OneAnswer
 pub mod Most
@@ -13,6 +16,8 @@ pub mod Stages
 pub mod PreparedAnswers
 pub mod RequestAnswers
 pub mod PlainTexts
+pub mod Lengths
+pub mod Sizes
 pub mod OneVerdict
 pub mod HasVerdict
 pub mod AlikeRequests

@@ -31,8 +31,10 @@ use Rattle.schema_facts.specs.Things.{one, the_root}
 use Rattle.local_introspection.specs.declared.fault.LocalFault.{LocalFault}
 use Rattle.local_introspection.specs.declared.fault.LocalFault.TheVariants.{Mixed, Rule, Variable, Plan, TooLarge as LocalTooLarge, Memory}
 use Rattle.local_introspection.specs.declared.walk.Local.{Local}
-use Rattle.local_introspection.specs.Walking.{answer_tree}
+use Rattle.local_introspection.specs.Counting.{answer_tree}
 use Rattle.local_introspection.specs.Answers.{values_in}
+use Rattle.local_introspection.specs.Lengths.{IsShort}
+use Rattle.local_introspection.proofs.Lengths.{short_and_long}
 use Rattle.local_introspection.specs.LocalRequests.{LocalRequest, AsksFor, KeepsRules, Prepared, plan_answer, IsPlannedWell, place_in, nodes_asked, IsTheAnswer, cost_of_response}
 use Rattle.local_introspection.specs.LocalAnswers.{IsAnsweredWith, IsRefusedFor}
 use Rattle.local_introspection.proofs.OneAnswer.{one_tree}
@@ -225,9 +227,11 @@ pub one_refusal : (r : LocalRequest) (fault other : LocalFault) → fault ≢ Me
 one_refusal r fault other is_one too refused also = same_told r fault other (is_told r fault is_one refused) (is_told r other too also)
 
 not_too_large : (r : LocalRequest) (local : Local) → IsAnsweredWith r local → IsRefusedFor r LocalTooLarge → ⊥
-not_too_large r local (p, well, t, is, written) (q, also, u, too, many) =
+not_too_large r local (p, well, t, is, written) (q, also, u, too, inl many) =
     let fewer : values_in u ≤ 1000000 = subst (λ (x : Tree). values_in x ≤ 1000000) (same_tree r p q t u is too) written.few in
     omega (arith, fewer, many)
+not_too_large r local (p, well, t, is, written) (q, also, u, too, inr long) =
+    short_and_long r.most (response_text (Some u) []) (subst (λ (x : Tree). IsShort r.most (response_text (Some x) [])) (same_tree r p q t u is too) written.short) long
 
 pub not_both : (r : LocalRequest) (local : Local) (fault : LocalFault) → fault ≢ Memory → IsAnsweredWith r local → IsRefusedFor r fault → ⊥
 not_both r local fault is_one answered refused =

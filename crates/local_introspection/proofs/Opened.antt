@@ -1,7 +1,7 @@
 -- A node, opened.
 use Rattle.std.proofs.Common.{◌≡◌, ℕ, zero, suc, ◌+◌, ◌<◌, ◌≤◌, List, [], ◌∷◌, length, drop, get_or, max, ap, arith}
 use Rattle.meta_schema.specs.PassedOn.{AskedNode, fold_out-AskedNode, out-AskedNode, AskedOne, asked_step, asked_node, asked_nodes, asked_depth}
-use Rattle.local_introspection.proofs.WalkSteps.{front_node}
+use Rattle.local_introspection.proofs.CountSteps.{front_node}
 
 pub open_asked : (n : AskedNode) → asked_node n ≡ record { key = (out-AskedNode n).key; name = (out-AskedNode n).name; argument = (out-AskedNode n).argument; below = asked_nodes (out-AskedNode n).below.items }
 unfolding asked_node

@@ -14,7 +14,7 @@ use Rattle.schema_facts.specs.Things.{the_root}
 use Rattle.meta_schema.specs.PassedOn.{AskedNodes, asked_operation, plan_in, FitsAsAsked, CostsAsAsked, kept_below}
 use Rattle.meta_schema.specs.MetaFields.{HasMetaForm}
 use Rattle.local_introspection.specs.Answers.{values_in}
-use Rattle.local_introspection.specs.Walking.{answer_tree, answer_cost}
+use Rattle.local_introspection.specs.Counting.{answer_tree, answer_cost}
 use Rattle.local_introspection.proofs.Fitting.{root_fits, root_costs}
 use Rattle.local_introspection.proofs.MetaAsked.{root_is_meta}
 use Rattle.local_introspection.proofs.MetaLeaves.{said_of_leaves}

@@ -1,5 +1,5 @@
 -- A plain text is its own escaped form.
-use Rattle.std.proofs.Common.{◌≡◌, ◌∙◌, inl, inr, ℕ, List, [], ◌∷◌, ◌++◌, Bool, true, false, not, ◌&&◌, eqb, leb, ltb, eqb-true, refl, sym, ap, ap₂, arith, append_assoc}
+use Rattle.std.proofs.Common.{◌≡◌, ◌∙◌, ◌+◌, length, length-append, inl, inr, ℕ, List, [], ◌∷◌, ◌++◌, Bool, true, false, not, ◌&&◌, eqb, leb, ltb, eqb-true, refl, sym, ap, ap₂, arith, append_assoc}
 use Rattle.std.proofs.lemmas.Bool.{cases_Bool, false≢true, leb-true, ltb-true}
 use Rattle.serde_json.specs.Data.{string}
 use Rattle.serde_json.specs.Written.{compact_text}
@@ -34,6 +34,10 @@ pub plain_escaped : (text : List ℕ) → is_plain text ≡ true → escape text
 plain_escaped [] h = refl
 plain_escaped (x ∷ text) h =
     let parts = both (is_plain_byte x) (is_plain text) h in ap₂ (λ (a b : List ℕ). a ++ b) (byte_plain x parts.0) (plain_escaped text parts.1)
+
+-- it has two bytes more than the text
+pub plain_length : (text : List ℕ) → is_plain text ≡ true → length text + 2 ≡ length (compact_text (string text))
+plain_length text plain = omega (arith, ap length (plain_escaped text plain), length-append (escape text) (34 ∷ []))
 
 -- what was pushed is the text between quotation marks
 pub plain_written : (text old first second new : List ℕ) → is_plain text ≡ true → first ≡ old ++ (34 ∷ []) → second ≡ first ++ text → new ≡ second ++ (34 ∷ []) → new ≡ old ++ compact_text (string text)

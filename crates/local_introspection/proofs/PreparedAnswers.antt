@@ -1,10 +1,11 @@
 -- What is planned well has the one answer, or one that is too large.
-use Rattle.std.proofs.Common.{◌≡◌, ◌∙◌, ◌<◌, ℕ, List, Some, Ok, refl, sym, ap, subst}
+use Rattle.std.proofs.Common.{◌⊎◌, ◌≡◌, ◌∙◌, ◌<◌, ℕ, List, Some, Ok, refl, sym, ap, subst}
 use Rattle.serde_json.specs.Data.{Data}
 use Rattle.gql_base.specs.declared.parts.trees.OperationKind.{OperationKind}
 use Rattle.gql_base.specs.declared.parts.trees.OperationKind.TheVariants.{Query}
 use Rattle.document_reader.specs.declared.trees.Definition.{Definition}
 use Rattle.response_model.specs.Response.{Tree}
+use Rattle.cost_num.specs.declared.Cost.{Cost}
 use Rattle.response_model.specs.Cost.{types, fields}
 use Rattle.schema_model.specs.SchemaData.{SchemaData}
 use Rattle.schema_model.specs.SchemaViews.{schema_data}
@@ -17,9 +18,10 @@ use Rattle.meta_schema.specs.MetaSchemas.{IsOver}
 use Rattle.meta_schema.specs.MetaFields.{HasMetaForm}
 use Rattle.local_introspection.specs.declared.facts.Facts.{Facts}
 use Rattle.local_introspection.specs.declared.fault.LocalFault.TheVariants.{TooLarge}
-use Rattle.local_introspection.specs.declared.walk.Local.{Local}
+use Rattle.local_introspection.specs.Walking.{answer_text}
 use Rattle.local_introspection.specs.Answers.{values_in}
-use Rattle.local_introspection.specs.Walking.{IsAnswer, answer_tree}
+use Rattle.local_introspection.specs.Lengths.{IsShort, IsLong}
+use Rattle.local_introspection.specs.Counting.{IsCount, answer_tree}
 use Rattle.local_introspection.specs.LocalRequests.{LocalRequest, local_request, Prepared, setting, IsPlannedWell, place_in, nodes_asked, IsTheAnswer}
 use Rattle.local_introspection.specs.LocalAnswers.{IsAnsweredWith, IsRefusedFor}
 use Rattle.local_introspection.proofs.OneAnswer.{is_given, entries_are_given}
@@ -59,19 +61,20 @@ module _ (laws : AskLaws) (forms : HaveTheirForms) (facts : Facts) (document : L
       given = is_given r.facts (nodes_asked r p) (entries_are_given r.facts (nodes_asked r p)) (one the_root);
     }
 
-    pub is_written : (l : Local) → IsAnswer r.facts (nodes_asked r p) (Ok l) → IsAnsweredWith r l
-    is_written l is = (
+    pub is_written : (c : Cost) → IsCount r.facts (nodes_asked r p) (Ok c) → IsShort r.most (answer_text r.facts (nodes_asked r p)) → IsAnsweredWith r (record { cost = c; text = answer_text r.facts (nodes_asked r p) })
+    is_written c is short = (
       p,
       well,
       tree,
       is_the_answer,
       record {
         few = is.0;
-        text = is.1;
-        of_types = is.2 ∙ sym (answer_costs laws r.facts e meta (place_in r.facts) p.operation p.root rooted types well is.0);
-        of_fields = is.3 ∙ sym (answer_costs laws r.facts e meta (place_in r.facts) p.operation p.root rooted fields well is.0);
+        text = refl;
+        short = short;
+        of_types = is.1 ∙ sym (answer_costs laws r.facts e meta (place_in r.facts) p.operation p.root rooted types well is.0);
+        of_fields = is.2 ∙ sym (answer_costs laws r.facts e meta (place_in r.facts) p.operation p.root rooted fields well is.0);
       },
     )
 
-    pub is_too_large : 1000000 < values_in tree → IsRefusedFor r TooLarge
-    is_too_large many = (p, well, tree, is_the_answer, many)
+    pub is_too_large : (1000000 < values_in tree) ⊎ IsLong r.most (answer_text r.facts (nodes_asked r p)) → IsRefusedFor r TooLarge
+    is_too_large large = (p, well, tree, is_the_answer, large)

@@ -17,10 +17,12 @@ use Rattle.schema_facts.specs.FactsViews.{facts_data}
 use Rattle.meta_schema.specs.PassedOn.{AskedNode, AskedNodes, asked_nodes, asked_operation, kept_below, asked_for}
 use Rattle.local_introspection.specs.declared.facts.Facts.{Facts}
 use Rattle.local_introspection.specs.declared.fault.LocalFault.{LocalFault}
-use Rattle.local_introspection.specs.declared.walk.Local.{Local}
-use Rattle.local_introspection.specs.declared.walk.Stop.{Stop}
-use Rattle.local_introspection.specs.declared.walk.Stop.TheVariants.{TooLarge as LargeStop, Memory as MemoryStop}
-use Rattle.local_introspection.specs.Walking.{IsAnswer}
+use Rattle.cost_num.specs.declared.Cost.{Cost}
+use Rattle.local_introspection.specs.declared.counting.Stop.{Stop}
+use Rattle.local_introspection.specs.declared.counting.Stop.TheVariants.{TooLarge as LargeStop, Memory as MemoryStop}
+use Rattle.local_introspection.specs.Measuring.{IsSized}
+use Rattle.local_introspection.specs.Walking.{answer_text}
+use Rattle.local_introspection.specs.Counted.{answer_at}
 use Rattle.local_introspection.specs.LocalRequests.{LocalRequest, local_request, IsCheckFor, AreValues, Prepared, setting, IsPlannedWell, place_in, nodes_asked}
 use Rattle.local_introspection.specs.LocalAnswers.{IsAnsweredWith, IsRefusedFor}
 use Rattle.local_introspection.specs.LocalStages.{IsPlannedOver, AreAsked, stop_told}
@@ -61,10 +63,13 @@ module _ (laws : AskLaws) (forms : HaveTheirForms) (facts : Facts) (document : L
     same_nodes : asked_nodes nodes ≡ nodes_asked r p
     same_nodes = asked ∙ ap (λ (s : Setting). kept_below (place_in r.facts) (asked_operation s c.root.number c.operation.now)) same
 
-    pub is_answered : (l : Local) → IsAnswer r.facts (asked_nodes nodes) (Ok l) → IsAnsweredWith r l
-    is_answered l is = is_written laws forms facts document place given p well l (subst (λ (ns : AskedNodes). IsAnswer r.facts ns (Ok l)) same_nodes is)
+    pub is_answered : (cost : Cost) → IsSized r.facts (asked_nodes nodes) r.most (Ok cost) → IsAnsweredWith r (answer_at facts nodes cost)
+    is_answered cost is =
+        let sized = subst (λ (ns : AskedNodes). IsSized r.facts ns r.most (Ok cost)) same_nodes is in
+        subst (λ (ns : AskedNodes). IsAnsweredWith r (record { cost = cost; text = answer_text r.facts ns })) (sym same_nodes)
+        (is_written laws forms facts document place given p well cost sized.0 sized.1)
 
-    pub is_stopped : (stop : Stop) (fault : LocalFault) → fault ≡ stop_told stop → IsAnswer r.facts (asked_nodes nodes) (Err stop) → IsRefusedFor r fault
+    pub is_stopped : (stop : Stop) (fault : LocalFault) → fault ≡ stop_told stop → IsSized r.facts (asked_nodes nodes) r.most (Err stop) → IsRefusedFor r fault
     is_stopped LargeStop fault told is =
-        subst (IsRefusedFor r) (sym told) (is_too_large laws forms facts document place given p well (subst (λ (ns : AskedNodes). IsAnswer r.facts ns (Err LargeStop)) same_nodes is))
+        subst (IsRefusedFor r) (sym told) (is_too_large laws forms facts document place given p well (subst (λ (ns : AskedNodes). IsSized r.facts ns r.most (Err LargeStop)) same_nodes is))
     is_stopped MemoryStop fault told is = subst (IsRefusedFor r) (sym told) tt

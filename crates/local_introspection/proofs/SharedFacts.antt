@@ -16,7 +16,7 @@ meta_sync : IsSync (meta.the_field).row
 meta_sync = search (sendable, crosses, maps_cross, schema_field_sync, weights_field_sync) depth 40 fits 20000
 
 pub facts_send : IsSend the_row
-facts_send = recorded_send (the_field).row _ _ (the_type).to_one (struct_send (shape the_type) (known_send, (meta_send, tt)))
+facts_send = recorded_send (the_field).row _ _ (the_type).to_one (struct_send (shape the_type) (known_send, (meta_send, (search (sendable, crosses) depth 40 fits 20000, tt))))
 
 pub facts_sync : IsSync the_row
-facts_sync = recorded_sync (the_field).row _ _ (the_type).to_one (struct_sync (shape the_type) (known_sync, (meta_sync, tt)))
+facts_sync = recorded_sync (the_field).row _ _ (the_type).to_one (struct_sync (shape the_type) (known_sync, (meta_sync, (search (sendable, crosses) depth 40 fits 20000, tt))))

@@ -10,6 +10,7 @@ pub record AskAlike (r q : LocalRequest) : Type 0 where
   pub facts : r.facts ≡ q.facts
   pub schema : r.schema ≡ q.schema
   pub weights : r.weights ≡ q.weights
+  pub most : r.most ≡ q.most
   pub place : r.place ≡ q.place
   pub given : r.given ≡ q.given
   pub trees : map definition_tree r.document ≡ map definition_tree q.document

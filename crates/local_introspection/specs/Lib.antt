@@ -7,7 +7,11 @@ pub mod LocalAnswers
 pub mod AskedHere
 pub mod AskAlike
 pub mod LocalTexts
+pub mod Counted
 -- what serves proofs
+pub mod Counting
+pub mod Lengths
+pub mod Measuring
 pub mod Walking
 pub mod LocalStages
 pub mod PlainTexts

@@ -1,7 +1,8 @@
 -- What a request of the gateway's own schema comes to.
-use Rattle.std.specs.Prelude.{◌≡◌, ◌≢◌, ◌<◌, ◌⊎◌, Result, Ok, Err}
+use Rattle.std.specs.Prelude.{◌≡◌, ◌≢◌, ◌<◌, ◌⊎◌, [], Some, Result, Ok, Err}
 use Rattle.document_reader.specs.declared.trees.Operation.{Operation}
 use Rattle.response_model.specs.Response.{Tree}
+use Rattle.response_model.specs.ResponseText.{response_text}
 use Rattle.operation_class.specs.declared.classes.Class.TheVariants.{Mixed as MixedClass}
 use Rattle.operation_class.specs.Classes.{class_at}
 use Rattle.document_rules.specs.declared.rule.RuleFault.{RuleFault}
@@ -16,6 +17,7 @@ use Rattle.local_introspection.specs.declared.fault.LocalFault.{LocalFault}
 use Rattle.local_introspection.specs.declared.fault.LocalFault.TheVariants.{Mixed, Rule, Variable, Plan, TooLarge, Memory}
 use Rattle.local_introspection.specs.declared.walk.Local.{Local}
 use Rattle.local_introspection.specs.Answers.{values_in}
+use Rattle.local_introspection.specs.Lengths.{IsLong}
 use Rattle.local_introspection.specs.LocalRequests.{LocalRequest, AsksFor, KeepsRules, Prepared, plan_answer, IsPlannedWell, IsTheAnswer, IsWritten}
 
 -- The operation is planned well, and the one answer to it is written so.
@@ -24,13 +26,14 @@ IsAnsweredWith r local = (p : Prepared r) × IsPlannedWell r p × (t : Tree) × 
 
 -- A request is refused since a field stands beside that the gateway can't answer, as the class of its operation tells; or for the first
 -- rule that the operation breaks over the schema of schemas; or for the first variable that is refused; or since it isn't planned; or
--- since the one answer to it has more than 1,000,000 values. What stands before in this order is passed.
+-- since the one answer to it has more than 1,000,000 values, or its text is longer than it may be. What stands before in this order is
+-- passed.
 abbrev pub IsRefusedFor : LocalRequest → LocalFault → Type 0
 IsRefusedFor r (Mixed at) = class_at r.document r.place ≡ MixedClass at
 IsRefusedFor r (Rule fault) = (o : Operation) × AsksFor r o × NamesBreach fault (first_broken r.schema r.document o)
 IsRefusedFor r (Variable fault) = (o : Operation) × KeepsRules r o × NamesVariable fault (variables_answer r.schema o.variables.items r.given)
 IsRefusedFor r (Plan fault) = (p : Prepared r) × NamesNode fault (plan_answer r p)
-IsRefusedFor r TooLarge = (p : Prepared r) × IsPlannedWell r p × (t : Tree) × IsTheAnswer r p t × (1000000 < values_in t)
+IsRefusedFor r TooLarge = (p : Prepared r) × IsPlannedWell r p × (t : Tree) × IsTheAnswer r p t × ((1000000 < values_in t) ⊎ IsLong r.most (response_text (Some t) []))
 IsRefusedFor r Memory = Unit {0}
 
 abbrev pub ComesTo : LocalRequest → Result Local LocalFault → Type 0

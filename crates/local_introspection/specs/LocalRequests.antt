@@ -32,19 +32,21 @@ use Rattle.meta_schema.specs.MetaSchemas.{IsMetaSchema}
 use Rattle.local_introspection.specs.declared.facts.Facts.{Facts}
 use Rattle.local_introspection.specs.declared.walk.Local.{Local}
 use Rattle.local_introspection.specs.Answers.{Gives, values_in}
+use Rattle.local_introspection.specs.Lengths.{IsShort}
 
--- What is known of the schema, the schema of schemas with its weights, the definitions of a document with the place of the operation
+-- What is known of the schema, the schema of schemas with its weights, how long the text of an answer may be, the definitions of a document with the place of the operation
 -- among them, and what is given for its variables.
 pub record LocalRequest : Type 0 where
   pub facts : FactsData
   pub schema : SchemaData
   pub weights : WeightsData
+  pub most : Option ℕ
   pub document : List Definition
   pub place : ℕ
   pub given : Data
 
 abbrev pub local_request : Facts → List Definition → ℕ → Data → LocalRequest
-local_request f document place given = record { facts = facts_data f.known; schema = schema_data f.meta.schema; weights = weights_data f.meta.weights; document = document; place = place; given = given }
+local_request f document place given = record { facts = facts_data f.known; schema = schema_data f.meta.schema; weights = weights_data f.meta.weights; most = f.most; document = document; place = place; given = given }
 
 -- The schema of schemas is built of the text with the name of the type of queries.
 abbrev pub IsMade : Facts → Type 0
@@ -111,9 +113,10 @@ module _ (r : LocalRequest) (p : Prepared r) where
   abbrev pub cost_of_response : Tree → Part → ℕ
   cost_of_response t part = response_cost (setting r p) part (root_place p.root) (root_position p.root p.operation) t
 
-  -- The text is that of the tree, which has at most 1,000,000 values, and the cost is what it costs.
+  -- The text is that of the tree, which has at most 1,000,000 values, and it isn't longer than it may be. The cost is what the tree costs.
   pub record IsWritten (t : Tree) (local : Local) : Type 0 where
     pub few : values_in t ≤ 1000000
     pub text : local.text ≡ response_text (Some t) []
+    pub short : IsShort r.most (response_text (Some t) [])
     pub of_types : local.cost.types ≡ cost_of_response t types
     pub of_fields : local.cost.fields ≡ cost_of_response t fields

@@ -9,8 +9,8 @@ use Rattle.local_introspection.specs.declared.answering.Asking.{Asking}
 use Rattle.local_introspection.specs.declared.facts.Facts.{Facts}
 use Rattle.local_introspection.specs.declared.fault.LocalFault.{LocalFault}
 use Rattle.local_introspection.specs.declared.fault.LocalFault.TheVariants.{TooLarge, Memory}
-use Rattle.local_introspection.specs.declared.walk.Stop.{Stop}
-use Rattle.local_introspection.specs.declared.walk.Stop.TheVariants.{TooLarge as LargeStop, Memory as MemoryStop}
+use Rattle.local_introspection.specs.declared.counting.Stop.{Stop}
+use Rattle.local_introspection.specs.declared.counting.Stop.TheVariants.{TooLarge as LargeStop, Memory as MemoryStop}
 use Rattle.meta_schema.specs.PassedOn.{AskedNode, asked_nodes, kept_below, asked_for}
 use Rattle.schema_facts.specs.FactsViews.{facts_data}
 use Rattle.local_introspection.specs.LocalRequests.{LocalRequest, local_request, place_in}

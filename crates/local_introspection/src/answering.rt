@@ -1,4 +1,4 @@
-//! The answer to an operation that asks for the gateway's own schema, stage by stage.
+//! The answer to an operation that asks for the gateway's own schema, counted stage by stage, and then written.
 
 ghost use Rattle.std.specs.Prelude.{◌≡◌, IfOk, IfErr};
 ghost use Rattle.serde_json.specs.View.{view};
@@ -9,13 +9,20 @@ ghost use Rattle.variable_coercion.specs.Calls.{variables_data};
 ghost use Rattle.operation_class.specs.declared.classes.Class.TheVariants.{Local as LocalClass};
 ghost use Rattle.operation_class.specs.Classes.{class_at};
 ghost use Rattle.local_introspection.specs.LocalRequests.{local_request, IsLocal, IsCheckFor, AreValues};
-ghost use Rattle.local_introspection.specs.LocalAnswers.{IsRefusedFor, ComesTo, TellsRule, TellsVariable, TellsPlan};
+ghost use Rattle.local_introspection.specs.LocalAnswers.{IsAnsweredWith, IsRefusedFor, TellsRule, TellsVariable, TellsPlan};
 ghost use Rattle.local_introspection.specs.LocalStages.{ask_data, IsPlannedOver, AreAsked, stop_told};
+ghost use Rattle.meta_schema.specs.PassedOn.{asked_nodes};
+ghost use Rattle.schema_facts.specs.FactsViews.{facts_data};
+ghost use Rattle.local_introspection.specs.Measuring.{TellsLength, IsSized};
+ghost use Rattle.local_introspection.specs.Counted.{answer_at, answer_counted};
 
+use crate::counting::{Stop, count_answer};
 use crate::facts::Facts;
 use crate::fault::LocalFault;
-use crate::walk::{Local, Stop, write_answer};
+use crate::measuring::measure_answer;
+use crate::walk::{Local, write_answer};
 use acceptance::{PlanFault, build_plan};
+use cost_num::Cost;
 use document_reader::Document;
 use document_rules::{Checked, RuleFault, check};
 use meta_schema::{AskedNode, a_meta_schema_has_its_form, ask, responses_to_what_is_asked};
@@ -141,45 +148,80 @@ fn asked(
     )
 }
 
-// The answer to what it asks.
-fn written(
+// Whether the text of the answer is longer than it may be. Where nothing is said of that, no text is looked at.
+fn fits(alloc: Global, facts: &Facts, nodes: &[AskedNode]) -> Result<(), Stop>
+    ensures { TellsLength (facts_data facts.now.known) (asked_nodes nodes.now) facts.now.most result }
+{
+    match facts.most {
+        Some(most) => measure_answer(alloc, &facts.known, nodes, most),
+        None => Ok(()),
+    }
+}
+
+// What the answer costs, where it isn't too large.
+fn sized(alloc: Global, facts: &Facts, nodes: &[AskedNode]) -> Result<Cost, Stop>
+    ensures { IsSized (facts_data facts.now.known) (asked_nodes nodes.now) facts.now.most result }
+{
+    let cost = match count_answer(alloc, &facts.known, nodes) {
+        Ok(cost) => cost,
+        Err(stop) => return Err(stop),
+    };
+    match fits(alloc, facts, nodes) {
+        Ok(()) => Ok(cost),
+        Err(stop) => Err(stop),
+    }
+}
+
+// What the answer to what it asks costs.
+fn cost_of(
     alloc: Global,
     of: &Asking,
     checked: &Checked,
     variables: &Variables,
     nodes: &[AskedNode],
-) -> Result<Local, LocalFault>
+) -> Result<Cost, LocalFault>
     requires of { IsCheckFor (ask_data of.now) checked.now }
     requires values { AreValues (ask_data of.now) checked.now.operation.now (variables_data variables.now) }
     requires planned { IsPlannedOver of.now.facts.now checked.now variables.now }
     requires asked { AreAsked of.now.facts.now checked.now variables.now nodes.now }
-    ensures comes_to { ComesTo (ask_data of.now) result }
-    ensures within { IfOk result (λ local. IsWithin local.cost) }
+    ensures answered { IfOk result (λ cost. IsAnsweredWith (ask_data of.now) (answer_at of.now.facts.now nodes.now cost)) }
+    ensures within { IfOk result IsWithin }
+    ensures refused { IfErr result (IsRefusedFor (ask_data of.now)) }
 {
     what_arguments_see();
     responses_to_what_is_asked();
     a_meta_schema_has_its_form();
-    match write_answer(alloc, &of.facts.known, nodes) {
-        Ok(local) => Ok(local),
+    match sized(alloc, of.facts, nodes) {
+        Ok(cost) => Ok(cost),
         Err(stop) => Err(stop_fault(stop)),
     }
 }
 
-/// The answer to an operation that asks for the gateway's own schema, and what it costs as a response: the one tree that fits the operation over
-/// the schema of schemas, and whose every entry is what the schema's facts give. Or the first test that the operation doesn't
+/// An answer that was counted, and of which nothing is made yet.
+#[derive(Drop)]
+pub struct Counted<'f> {
+    facts: &'f Facts,
+    nodes: Vec<AskedNode>,
+    /// What it costs as a response.
+    pub cost: Cost,
+}
+
+/// Counts the answer to an operation that asks for the gateway's own schema: the one tree that fits the operation over
+/// the schema of schemas, and whose every entry is what the schema's facts give. Or tells the first test that the operation doesn't
 /// pass: the rules (GraphQL October 2021, 5), the values of its variables (6.1.2), its plan (6.3.2), and the size of the answer.
 ///
 /// It asks that the operation at the place is local. `given` is an object of JSON; what is no object gives no variable a value.
-pub fn answer(
+pub fn count<'f>(
     alloc: Global,
-    facts: &Facts,
+    facts: &'f Facts,
     document: &Document,
     place: usize,
     given: &Value,
-) -> Result<Local, LocalFault>
+) -> Result<Counted<'f>, LocalFault>
     requires local { class_at document.now.definitions.items place ≡ LocalClass }
-    ensures comes_to { ComesTo (local_request facts.now document.now.definitions.items place (view given.now)) result }
-    ensures within { IfOk result (λ local. IsWithin local.cost) }
+    ensures answered { IfOk result (λ counted. IsAnsweredWith (local_request facts.now document.now.definitions.items place (view given.now)) (answer_counted counted)) }
+    ensures within { IfOk result (λ counted. IsWithin counted.cost) }
+    ensures refused { IfErr result (IsRefusedFor (local_request facts.now document.now.definitions.items place (view given.now))) }
 {
     let of = Asking {
         facts,
@@ -203,5 +245,19 @@ pub fn answer(
         Ok(nodes) => nodes,
         Err(AllocError) => return Err(LocalFault::Memory),
     };
-    written(alloc, &of, &checked, &variables, nodes.as_slice())
+    match cost_of(alloc, &of, &checked, &variables, nodes.as_slice()) {
+        Ok(cost) => Ok(Counted { facts, nodes, cost }),
+        Err(fault) => Err(fault),
+    }
+}
+
+/// Writes an answer that was counted. It fails for want of memory alone.
+pub fn write(alloc: Global, counted: &Counted) -> Result<Local, AllocError>
+    ensures { IfOk result (λ local. local ≡ answer_counted counted.now) }
+{
+    let text = write_answer(alloc, &counted.facts.known, counted.nodes.as_slice())?;
+    Ok(Local {
+        cost: counted.cost,
+        text,
+    })
 }

@@ -16,11 +16,13 @@ use std::alloc::{AllocError, Global};
 pub struct Facts {
     pub(crate) known: SchemaFacts,
     pub(crate) meta: MetaSchema,
+    /// How many bytes the text of an answer has at most, where it may not have more.
+    pub(crate) most: Option<usize>,
     ghost named: { name_of_queries (schema_data meta.schema) ≡ (facts_data known).query_name },
 }
 
 impl Facts {
-    ghost use Rattle.std.specs.Prelude.{IfOk};
+    ghost use Rattle.std.specs.Prelude.{IfOk, None};
     ghost use Rattle.schema_reader.specs.Trees.{schema_trees};
     ghost use Rattle.schema_facts.specs.Facts.{AreFacts};
     ghost use Rattle.local_introspection.specs.LocalRequests.{IsMade};
@@ -30,9 +32,23 @@ impl Facts {
     pub fn make(alloc: Global, text: SchemaText) -> Result<Facts, AllocError>
         ensures known { IfOk result (λ f. AreFacts (schema_trees text) (facts_data f.known)) }
         ensures made { IfOk result IsMade }
+        ensures most { IfOk result (λ f. f.most ≡ None) }
     {
         let known = facts_of(alloc, text)?;
         let meta = MetaSchema::make(alloc, known.query_name())?;
-        Ok(Facts { known, meta })
+        Ok(Facts {
+            known,
+            meta,
+            most: None,
+        })
+    }
+
+    /// The same, where the text of an answer may have at most so many bytes.
+    pub fn with_most(self, most: Option<usize>) -> Facts
+        ensures { result ≡ record self { most = most } }
+    {
+        let mut facts = self;
+        facts.most = most;
+        facts
     }
 }

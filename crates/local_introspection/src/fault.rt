@@ -10,7 +10,7 @@ use variable_coercion::CoerceFault;
 #[derive(Debug, Drop, Error)]
 pub enum LocalFault {
     /// Beside a field that the gateway answers stands one that it can't, whose name begins at this offset: the class of the
-    /// operation tells it, and `answer` isn't asked for such a one.
+    /// operation tells it, and `count` isn't asked for such a one.
     #[error("the field at {at} can't be answered beside fields of the schema")]
     Mixed { at: usize },
     /// The operation breaks a rule.

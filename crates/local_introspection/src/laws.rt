@@ -13,7 +13,7 @@ ghost use Rattle.schema_facts.specs.Facts.{FactsData};
 ghost use Rattle.schema_facts.specs.Things.{one, the_root};
 ghost use Rattle.meta_schema.specs.PassedOn.{AskedNodes};
 ghost use Rattle.local_introspection.specs.Answers.{Gives, values_in};
-ghost use Rattle.local_introspection.specs.Walking.{answer_tree, answer_cost};
+ghost use Rattle.local_introspection.specs.Counting.{answer_tree, answer_cost};
 ghost use Rattle.local_introspection.specs.LocalRequests.{LocalRequest, local_request, Prepared, IsTheAnswer, cost_of_response};
 ghost use Rattle.local_introspection.specs.LocalAnswers.{ComesTo, HasVerdict};
 ghost use Rattle.local_introspection.specs.AskAlike.{AskAlike};

@@ -1,13 +1,15 @@
 //! Answers to introspection from the gateway's own schema (GraphQL October 2021, 4).
 //!
-//! `Facts::make` tells what is known of a schema, `answer` answers an operation that asks for it. What an operation comes to is said in
-//! `specs/LocalAnswers`, by the words of `plan_model` over the schema of schemas.
+//! `Facts::make` tells what is known of a schema, `count` counts the answer to an operation that asks for it, and `write` writes it. What an
+//! operation comes to is said in `specs/LocalAnswers`, by the words of `plan_model` over the schema of schemas.
 #![tactic(auto)]
 
 mod answering;
+mod counting;
 mod facts;
 mod fault;
 pub mod laws;
+mod measuring;
 mod plain;
 mod sharing;
 mod telling;
@@ -19,9 +21,10 @@ pub use acceptance::{
     alike_requests_are_answered_alike, alike_requests_have_one_verdict, read,
     read_values_have_each_key_once, refusal_text, refusal_texts_are_one_line, sent_for,
 };
-pub use answering::answer;
+pub use answering::{Counted, count, write};
+pub use counting::VALUE_LIMIT;
 pub use facts::Facts;
 pub use fault::LocalFault;
 pub use sharing::{answers_are_shared, facts_are_shared};
 pub use telling::local_text;
-pub use walk::{Local, Stop, VALUE_LIMIT, write_answer};
+pub use walk::Local;

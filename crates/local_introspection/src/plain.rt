@@ -15,7 +15,8 @@ fn is_plain_byte(byte: u8) -> bool
     byte >= 32 && byte != 34 && byte != 92
 }
 
-fn is_plain(text: &str) -> bool
+/// Whether a text stands in JSON as it is.
+pub(crate) fn is_plain(text: &str) -> bool
     ensures { result ≡ is_plain text.now }
 {
     text.as_bytes().iter().all(|byte| is_plain_byte(*byte))

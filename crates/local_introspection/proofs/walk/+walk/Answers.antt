@@ -1,12 +1,10 @@
 use Rattle.std.proofs.Common.{◌++◌, ◌∷◌, [], refl, sym, ap, ◌∙◌, arith, string_bytes}
-use Rattle.std.proofs.lemmas.Result.{err_from_is_err_and}
 use Rattle.meta_schema.specs.PassedOn.{asked_node, asked_nodes, asked_depth, AskedOne}
 use Rattle.response_model.specs.ResponseText.{key_text}
 use Rattle.schema_facts.specs.FactsViews.{facts_data}
 use Rattle.schema_facts.specs.Things.{thing_data, held_data}
 use Rattle.schema_facts.specs.Table.{held}
-use Rattle.meta_schema.specs.MetaTypes.{weight_of}
-use Rattle.local_introspection.proofs.WalkSteps.{entries_go_on, entries_stop, entries_end, entry_added, entry_stops}
+use Rattle.local_introspection.proofs.WalkSteps.{on_ok, pushed, entries_go_on, entries_end, entry_written}
 use Rattle.local_introspection.proofs.Opened.{open_asked, less_deep}
 use Rattle.local_introspection.proofs.walk.+walk.Goals as goal
 
@@ -14,45 +12,28 @@ pub write_entries-write_entry-requires : goal.write_entries-write_entry-requires
 write_entries-write_entry-requires t c =
     let less = less_deep c.args.nodes.now c.nodes.node-index c.node-item.result c.nodes-test.true c.node-item.is in omega arith
 
-pub write_entries-returns-in_err-write_entry : goal.write_entries-returns-in_err-write_entry
-write_entries-returns-in_err-write_entry t c =
-    let p = err_from_is_err_and c.from_residual-in_err-write_entry.result c.from_residual-in_err-write_entry.ensures.1 in
-    rw (p.1, p.2) (entries_stop (facts_data c.args.facts.now) (thing_data c.args.thing) c.args.left.now (string_bytes c.args.into.now) c.nodes.left c.write_entry.new.left (string_bytes c.nodes.into) (string_bytes c.push_str.new.self) (string_bytes c.write_entry.new.into)
-    c.nodes.cost c.in_err-write_entry.field-0.0 c.nodes.front.now c.args.nodes.now c.nodes.node-index c.node-item.result c.nodes-test.true c.node-item.is c.nodes.invariant.1 c.in_err-write_entry.ensures)
-
 pub write_entries-nodes-preserved : goal.write_entries-nodes-preserved
 unfolding lib.Utf8.encode
 write_entries-nodes-preserved t c = (
   (44 ∷ [], (refl, refl)),
-  entries_go_on (facts_data c.args.facts.now) (thing_data c.args.thing) c.args.left.now (string_bytes c.args.into.now) c.nodes.left c.write_entry.new.left (string_bytes c.nodes.into) (string_bytes c.push_str.new.self) (string_bytes c.write_entry.new.into)
-      c.nodes.cost c.in_ok-write_entry.field-0 c.sum-cost.result c.nodes.front.now c.args.nodes.now c.nodes.node-index c.node-item.result c.nodes-test.true c.node-item.is c.nodes.invariant.1 c.in_ok-push_str.ensures.bytes c.in_ok-write_entry.ensures c.sum-cost.ensures.types c.sum-cost.ensures.fields,
+  entries_go_on (facts_data c.args.facts.now) (thing_data c.args.thing) (string_bytes c.args.into.now) (string_bytes c.nodes.into) (string_bytes c.push_str.new.self) (string_bytes c.write_entry.new.into)
+      c.nodes.front.now c.args.nodes.now c.nodes.node-index c.node-item.result c.nodes-test.true c.node-item.is c.nodes.invariant.1 c.in_ok-push_str.ensures.bytes c.in_ok-write_entry.ensures,
 )
-
-pub write_entries-returns : goal.write_entries-returns
-write_entries-returns t c =
-    entries_end (facts_data c.args.facts.now) (thing_data c.args.thing) c.args.left.now (string_bytes c.args.into.now) c.nodes.left (string_bytes c.nodes.into) (string_bytes c.push_str-2.new.self) c.nodes.cost c.nodes.front.now c.args.nodes.now c.nodes.node-index c.nodes-test.false c.nodes.invariant.1 c.in_ok-push_str-2.ensures.bytes
 
 pub write_entry-write_held-requires : goal.write_entry-write_held-requires
 write_entry-write_held-requires t c =
     let opened = ap (λ (n : AskedOne). asked_depth n.below) (open_asked c.args.node.now) in
     let same = ap (λ ns. asked_depth (asked_nodes ns)) c.as_slice.ensures.value in omega (arith, opened, same)
 
-pub write_entry-returns-in_err-below : goal.write_entry-returns-in_err-below
-write_entry-returns-in_err-below t c =
-    let p = err_from_is_err_and c.from_residual-in_err-below.result c.from_residual-in_err-below.ensures.1 in
-    rw (p.1, p.2) (entry_stops (facts_data c.args.facts.now) (thing_data c.args.thing) (asked_node c.args.node.now) c.args.left.now c.write_held.new.left (string_bytes c.args.into.now) (string_bytes c.write_key.new.into) (string_bytes c.write_held.new.into)
-    c.in_err-below.field-0.0 (held_data c.in_ok-found.found) (asked_nodes c.as_slice.result.now)
-    (c.in_ok-found.ensures ∙ ap (λ w. held (facts_data c.args.facts.now) (thing_data c.args.thing) w) c.what_of-what.ensures)
-    (ap asked_nodes c.as_slice.ensures.value ∙ ap (λ (n : AskedOne). n.below) (sym (open_asked c.args.node.now)))
-    c.in_err-below.ensures)
+pub write_entries-returns : goal.write_entries-returns
+write_entries-returns t c =
+    on_ok c.push_str-2.result _ _ (entries_end (facts_data c.args.facts.now) (thing_data c.args.thing) (string_bytes c.args.into.now) (string_bytes c.nodes.into) (string_bytes c.push_str-2.new.self)
+    c.nodes.front.now c.args.nodes.now c.nodes.node-index c.nodes-test.false c.nodes.invariant.1) (pushed c.push_str-2.result (string_bytes c.nodes.into) (125 ∷ []) (string_bytes c.push_str-2.new.self) c.push_str-2.ensures.bytes)
 
 pub write_entry-returns : goal.write_entry-returns
 write_entry-returns t c =
-    entry_added (facts_data c.args.facts.now) (thing_data c.args.thing) (asked_node c.args.node.now) c.args.left.now c.write_held.new.left (string_bytes c.args.into.now) (string_bytes c.write_key.new.into) (string_bytes c.write_held.new.into)
-    c.in_ok-below.below c.sum.result (held_data c.in_ok-found.found) (asked_nodes c.as_slice.result.now) c.weight_of.result
+    on_ok c.write_held.result _ _ (entry_written (facts_data c.args.facts.now) (thing_data c.args.thing) (asked_node c.args.node.now) (string_bytes c.args.into.now) (string_bytes c.write_key.new.into) (string_bytes c.write_held.new.into)
+    (held_data c.in_ok-found.found) (asked_nodes c.as_slice.result.now)
     (c.in_ok-write_key.ensures ∙ ap (λ k. string_bytes c.args.into.now ++ key_text k) (c.as_str.ensures ∙ ap (λ (n : AskedOne). n.key) (sym (open_asked c.args.node.now))))
-    (c.in_ok-found.ensures ∙ ap (λ w. held (facts_data c.args.facts.now) (thing_data c.args.thing) w) c.what_of-what.ensures)
-    (ap asked_nodes c.as_slice.ensures.value ∙ ap (λ (n : AskedOne). n.below) (sym (open_asked c.args.node.now)))
-    c.in_ok-below.ensures
-    (c.weight_of.ensures ∙ ap weight_of c.what_of-what.ensures)
-    c.sum.ensures.types c.sum.ensures.fields
+    (c.in_ok-found.ensures ∙ ap (λ w. held (facts_data c.args.facts.now) (thing_data c.args.thing) w) c.what_of.ensures)
+    (ap asked_nodes c.as_slice.ensures.value ∙ ap (λ (n : AskedOne). n.below) (sym (open_asked c.args.node.now)))) c.write_held.ensures

@@ -1,4 +1,4 @@
--- What was done and what is left give the whole. Each step goes down in the nodes.
+-- What was written and what is left give the whole. Each step goes down in the nodes.
 use Rattle.std.proofs.Common.{◌+◌, ◌*◌, drop, map, string_bytes}
 use denote.Text.{Utf8}
 use denote.Shadow.{shadow}
@@ -10,11 +10,11 @@ use Rattle.local_introspection.proofs.walk.+walk.Given as goal
 
 abbrev pub invariant-write_entries-nodes : goal.invariant-write_entries-nodes
 invariant-write_entries-nodes l = shadow (Utf8 l.front)
-    × EntriesGoOn (facts_data l.facts) (thing_data l.thing) l.initial.left (string_bytes l.initial.into) l.left (string_bytes l.into) l.cost l.front (asked_nodes (drop l.node-index l.nodes)) (asked_nodes l.nodes)
+    × EntriesGoOn (facts_data l.facts) (thing_data l.thing) (string_bytes l.initial.into) (string_bytes l.into) l.front (asked_nodes (drop l.node-index l.nodes)) (asked_nodes l.nodes)
 
 abbrev pub invariant-write_things-things : goal.invariant-write_things-things
 invariant-write_things-things l = shadow (Utf8 l.front)
-    × ThingsGoOn (facts_data l.facts) (asked_nodes l.nodes) l.initial.left (string_bytes l.initial.into) l.left (string_bytes l.into) l.cost l.front (map thing_data (drop l.thing-index l.things)) (map thing_data l.things)
+    × ThingsGoOn (facts_data l.facts) (asked_nodes l.nodes) (string_bytes l.initial.into) (string_bytes l.into) l.front (map thing_data (drop l.thing-index l.things)) (map thing_data l.things)
 
 abbrev pub decreases-write_thing : goal.decreases-write_thing
 decreases-write_thing l = 10 * asked_depth (asked_nodes l.nodes.now) + 7
