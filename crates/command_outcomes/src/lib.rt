@@ -22,7 +22,7 @@ pub use limits::{
     CLIENTS_LIMIT, DOCUMENT_LIMIT, REPLY_LIMIT, SCHEMA_LIMIT, SCRIPT_LIMIT, TRUSTED_LIMIT,
     VARIABLES_LIMIT,
 };
-pub use local_introspection::{Facts, Local, LocalFault, answer, local_text};
+pub use local_introspection::{Counted, Facts, Local, LocalFault, count, local_text, write};
 pub use outcome::{
     DISK_FAILED, DONE, DOOR_FAILED, FILE_FAILED, NO_MEMORY, NOT_RESPONSE, Outcome, REFUSED,
     SIZE_BROKEN, STREAM_FAILED, USAGE,

@@ -22,7 +22,7 @@ use Rattle.gateway_core.specs.Requests.{IsPricedAt, IsPromisedFor, IsLocalAt}
 use Rattle.gateway_core.specs.declared.beginning.Begun.TheVariants.{Denied}
 use Rattle.gateway_core.specs.PassedOn.{Local}
 use Rattle.gateway_core.specs.Numbers.{IsFullAt}
-use Rattle.gateway_core.specs.Begins.{IsDenied, IsUnfit, TellsFull, HasOneAnswer, calls_begun}
+use Rattle.gateway_core.specs.Begins.{IsDenied, IsUnfit, IsWritten, TellsFull, HasOneAnswer, calls_begun}
 use Rattle.gateway_core.specs.Grants.{promise_of}
 use Rattle.gateway_core.specs.PlanBounds.{IsMeasuredBy}
 use Rattle.gateway_core.specs.Measures.{Metered, HasNamedTypes, IsMeasuredFor, MeasuredIsAnswered}
@@ -136,9 +136,13 @@ forwarded laws s made x f reply metered named brought measured = elim (by_dials 
 local_at : (s : Service) (made : ℕ) (x : Exchange) (a : WasAnswered s made (Unit {0}) x) → IsLocalAt s.rules x.ask.body.items a.is_answered.answer.cost
 local_at s made x a = (a.is_answered.answer, a.is_answered.answered, refl)
 
--- and is answered with 200
-answered_200 : (s : Service) (made : ℕ) (x : Exchange) → WasAnswered s made (Unit {0}) x → x.reply.status ≡ 200
-answered_200 s made x a = status_of x a.answer.finished a.reply ∙ ap (λ (g : Finished). g.status) a.is_answered.finished
+-- and isn't answered with 502
+answered_no_502 : (s : Service) (made : ℕ) (x : Exchange) → WasAnswered s made (Unit {0}) x → x.reply.status ≡ 502 → ⊥
+answered_no_502 s made x a at = by_text a.is_answered.finished
+  where
+    by_text : IsWritten a.is_answered.answer a.answer.finished → ⊥
+    by_text (inl written) = let e : 200 ≡ 502 = sym (status_of x a.answer.finished a.reply ∙ ap (λ (g : Finished). g.status) written) ∙ at in omega (arith, e)
+    by_text (inr none) = let e : 500 ≡ 502 = sym (starved_500 x a.answer.finished a.is_answered.answer.cost a.reply none) ∙ at in omega (arith, e)
 
 -- a body to which a response is due has a price
 price : OneResponse → (s : Service) (made : ℕ) (x : Exchange) (metered : Metered) → IsDue s made x metered → (bound : Cost) × IsPricedAt s.rules x.ask.body.items bound
@@ -172,24 +176,28 @@ denied_here laws s made x answer client denial denied calls hint reply full due 
     each Full is calls (inr none) full = ap (λ (r : Reply). r.status) none
     each Memory is calls told full = denied_500 x hint no_memory_text told
 
--- what was answered is the one answer
-answered_so : OneResponse → (s : Service) (made : ℕ) (x : Exchange) (answer : Local) → WasAnswered s made (Unit {0}) x → IsDueHere s made x answer → WasGivenHere s x answer
-answered_so laws s made x answer a due =
-    let one = laws.local s.rules x.ask.body.items in
-    let other = a.is_answered.answer in
-    let texts : other.text ≡ answer.text = one.text other answer a.is_answered.answered due.is_answer in
-    let costs : other.cost ≡ answer.cost = one.cost other.cost answer.cost (local_at s made x a) (answer, due.is_answer, refl) in
-    record {
-      client = a.client;
-      given = a.answer;
-      is_answer = a.is_answered.finished ∙ (λ i. finished_as 200 (texts i) (costs i) (costs i));
-      calls = a.calls;
-      replied = a.reply;
-    }
+-- what was answered is the one answer, or there was no memory for it
+answered_so : OneResponse → (s : Service) (made : ℕ) (x : Exchange) (answer : Local) → WasAnswered s made (Unit {0}) x → IsDueHere s made x answer → WasGivenHere s x answer ⊎ (x.reply.status ≡ 500)
+answered_so laws s made x answer a due = by_text a.is_answered.finished
+  where
+    by_text : IsWritten a.is_answered.answer a.answer.finished → WasGivenHere s x answer ⊎ (x.reply.status ≡ 500)
+    by_text (inl written) =
+        let one = laws.local s.rules x.ask.body.items in
+        let other = a.is_answered.answer in
+        let texts : other.text ≡ answer.text = one.text other answer a.is_answered.answered due.is_answer in
+        let costs : other.cost ≡ answer.cost = one.cost other.cost answer.cost (local_at s made x a) (answer, due.is_answer, refl) in
+        inl record {
+          client = a.client;
+          given = a.answer;
+          is_answer = written ∙ (λ i. finished_as 200 (texts i) (costs i) (costs i));
+          calls = a.calls;
+          replied = a.reply;
+        }
+    by_text (inr none) = inr (starved_500 x a.answer.finished a.is_answered.answer.cost a.reply none)
 
 pub given_here : OneResponse → (s : Service) (made : ℕ) (x : Exchange) (answer : Local) → IsExchange s made (Unit {0}) x → IsDueHere s made x answer → WasGivenHere s x answer ⊎ (x.reply.status ≡ 500)
 given_here laws s made x answer (inl d) due = inr (denied_here laws s made x answer d.client d.denial d.denied d.calls (hint_of s x.ask.key x.moment d.denial) d.reply d.full due)
-given_here laws s made x answer (inr (inr a)) due = inl (answered_so laws s made x answer a due)
+given_here laws s made x answer (inr (inr a)) due = answered_so laws s made x answer a due
 given_here laws s made x answer (inr (inl f)) due =
     absurd ((laws.local s.rules x.ask.body.items).not_priced f.grant.ticket.bound answer.cost (laws.granted s.rules x.ask.body.items f.grant f.is_granted.promised) (answer, due.is_answer, refl))
 
@@ -298,7 +306,7 @@ given_status s x metered (inr none) at = let e : 500 ≡ 502 = sym none ∙ at i
 forwarded_at : (s : Service) (y : Exchange) → WasExchanged s y → y.reply.status ≡ 502 → (made : ℕ) × WasForwarded s made (Unit {0}) y
 forwarded_at s y (made, inl d) at = absurd (no_denial 502 (hint_of s y.ask.key y.moment d.denial) d.denial y.reply no_502 d.reply at)
 forwarded_at s y (made, inr (inl f)) at = (made, f)
-forwarded_at s y (made, inr (inr a)) at = let e : 200 ≡ 502 = sym (answered_200 s made y a) ∙ at in absurd (omega (arith, e))
+forwarded_at s y (made, inr (inr a)) at = absurd (answered_no_502 s made y a at)
 
 not_both_at : OneResponse → (s : Service) (made : ℕ) (x y : Exchange) (reply : UpstreamReply) → HasNamedTypes s.rules → WasExchanged s x → WasForwarded s made (Unit {0}) y
     → x.ask.body.items ≡ y.ask.body.items → WasBrought reply x → WasBrought reply y → x.reply.status ≡ 200 → y.reply.status ≡ 502 → ⊥

@@ -81,7 +81,7 @@ pub(crate) fn denial_reply(alloc: Global, denial: &Denial, hint: Option<Hint>) -
 
 /// The reply to what the gateway answers itself.
 pub(crate) fn answered_reply(finished: Finished) -> Reply
-    requires status { finished.status ≡ 200 }
+    requires status { status_text finished.status ≢ [] }
     requires bound { Within greatest finished.bound }
     requires charged { Within greatest finished.charged }
     ensures reply { result ≡ finished_reply finished }

@@ -101,6 +101,7 @@ asked_alike facts r q place alike = record {
   facts = refl;
   schema = refl;
   weights = refl;
+  most = refl;
   place = refl;
   given = alike.given;
   trees = alike.trees;

@@ -17,7 +17,8 @@ use Rattle.gateway_core.specs.Rules.{Rules, client_of, window_of, greatest}
 use Rattle.gateway_core.specs.Requests.{IsRefusedBody, IsPricedAt, IsPromisedFor, IsAnsweredFor, IsLocalAt, IsNotLocal}
 use Rattle.gateway_core.specs.declared.grant.Grant.{Grant}
 use Rattle.gateway_core.specs.Grants.{promise_of}
-use Rattle.gateway_core.specs.Finishes.{finished_as}
+use Rattle.gateway_core.specs.declared.finishing.Finished.{Finished}
+use Rattle.gateway_core.specs.Finishes.{finished_as, IsStarved}
 
 -- Why a body of the client at this place, with this key, is denied. The key is tested first, then the expansion, then the body,
 -- then the operation, and last whether its grant can be kept, and whether the account has room for its bound, or for the cost of the
@@ -56,12 +57,16 @@ pub record IsGranted (rules : Rules) (key body : List ℕ) (client made : ℕ) (
   pub to_client : g.ticket.client ≡ client
   pub numbered : g.ticket.seq ≡ made
 
+-- The answer was written with 200; or, for want of memory, its body is empty. What it costs is charged.
+abbrev pub IsWritten : Local → Finished → Type 0
+IsWritten answer f = (f ≡ finished_as 200 answer.text answer.cost answer.cost) ⊎ IsStarved answer.cost f
+
 -- It is answered by the gateway, at what the answer costs, and its call has this number.
 pub record IsAnswered (rules : Rules) (key body : List ℕ) (client made : ℕ) (a : LocalAnswer) : Type 0 where
   pub known : client_of rules key ≡ Some client
   pub answer : Local
   pub answered : IsAnsweredFor rules body answer
-  pub finished : a.finished ≡ finished_as 200 answer.text answer.cost answer.cost
+  pub finished : IsWritten answer a.finished
   pub numbered : a.seq ≡ made
 
 abbrev pub IsBegun : Rules → List ℕ → List ℕ → ℕ → ℕ → Begun → Type 0
@@ -113,9 +118,9 @@ abbrev pub IfAnswered : Begun → (LocalAnswer → Type 0) → Type 0
 IfAnswered (Answered a) P = P a
 IfAnswered other P = ⊤
 
--- an answer has the status of one, and its costs are within the cap
+-- an answer has the status of one, or that of want of memory, and its costs are within the cap
 abbrev pub IsGiven : LocalAnswer → Type 0
-IsGiven a = (a.finished.status ≡ 200) × Within greatest a.finished.bound × Within greatest a.finished.charged
+IsGiven a = ((a.finished.status ≡ 200) ⊎ (a.finished.status ≡ 500)) × Within greatest a.finished.bound × Within greatest a.finished.charged
 
 -- ---- what serves proofs
 
@@ -139,7 +144,7 @@ IsReserved promise client made other = ⊥
 
 -- The account of the client covered the cost of the answer, under this number of a call; or it is short of it, or full.
 abbrev pub IsPaid : Local → ℕ → Begun → Type 0
-IsPaid answer made (Answered a) = (a.finished ≡ finished_as 200 answer.text answer.cost answer.cost) × (a.seq ≡ made)
+IsPaid answer made (Answered a) = IsWritten answer a.finished × (a.seq ≡ made)
 IsPaid answer made (Denied (Short left bound)) = bound ≡ answer.cost
 IsPaid answer made (Denied Full) = ⊤
 IsPaid answer made other = ⊥

@@ -2,7 +2,8 @@
 use Rattle.std.specs.Prelude.{◌≢◌, ℕ, List, Option, None, Some, ⊤}
 use Rattle.local_introspection.specs.PassedOn.{RequestData, IsRefusedFor, IsWithin}
 use Rattle.local_introspection.specs.declared.fault.LocalFault.TheVariants.{Memory as NoLocalMemory}
-use Rattle.local_introspection.specs.declared.walk.Local.{Local}
+use Rattle.local_introspection.specs.declared.answering.Counted.{Counted}
+use Rattle.local_introspection.specs.Counted.{answer_counted}
 use Rattle.local_introspection.specs.LocalRequests.{LocalRequest}
 use Rattle.local_introspection.specs.LocalAnswers.{IsRefusedFor as IsNotAnsweredFor}
 use Rattle.local_introspection.specs.AskedHere.{IsAnsweredHere, IsRefusedHere}
@@ -17,12 +18,12 @@ use Rattle.gateway_core.specs.PlanBounds.{Covers}
 -- what a body was found to ask for
 abbrev pub IsFound : Rules → List ℕ → Examined → Type 0
 IsFound rules body (found.Upstream promise) = IsPromisedFor rules body promise
-IsFound rules body (found.Local answer) = IsAnsweredFor rules body answer
+IsFound rules body (found.Local counted) = IsAnsweredFor rules body (answer_counted counted)
 
 -- what a request was found to be for
 abbrev pub IsFoundFor : Rules → RequestData → Examined → Type 0
 IsFoundFor rules r (found.Upstream promise) = GoesUpstream rules r × IsPromised r promise
-IsFoundFor rules r (found.Local answer) = IsAnsweredHere (Knows rules) answer r
+IsFoundFor rules r (found.Local counted) = IsAnsweredHere (Knows rules) (answer_counted counted) r
 
 -- why a request is neither forwarded nor answered
 abbrev pub IsUnfitFor : Rules → RequestData → Denial → Type 0
@@ -34,16 +35,16 @@ IsUnfitFor rules r other = ⊥
 -- The bound covers the replies to what is promised; the cost of an answer is within the cap.
 abbrev pub IsPayable : Examined → Type 0
 IsPayable (found.Upstream promise) = Covers promise.plan promise.bound
-IsPayable (found.Local answer) = IsWithin answer.cost
+IsPayable (found.Local counted) = IsWithin counted.cost
 
 -- what the gateway answers itself, where it is the one to answer
-abbrev pub IsOwn : Rules → RequestData → Option Local → Type 0
+abbrev pub IsOwn : Rules → RequestData → Option Counted → Type 0
 IsOwn rules r None = GoesUpstream rules r
-IsOwn rules r (Some answer) = IsAnsweredHere (Knows rules) answer r
+IsOwn rules r (Some counted) = IsAnsweredHere (Knows rules) (answer_counted counted) r
 
-abbrev pub IsOwnWithin : Option Local → Type 0
+abbrev pub IsOwnWithin : Option Counted → Type 0
 IsOwnWithin None = ⊤
-IsOwnWithin (Some answer) = IsWithin answer.cost
+IsOwnWithin (Some counted) = IsWithin counted.cost
 
 -- the gateway doesn't answer it, though it is the one to answer
 abbrev pub IsNotOwn : Rules → RequestData → Denial → Type 0

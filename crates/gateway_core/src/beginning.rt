@@ -8,18 +8,19 @@ ghost use Rattle.gateway_core.specs.Rules.{window_of};
 ghost use Rattle.gateway_core.specs.Losses.{LosesCalls, LosesBegun};
 ghost use Rattle.gateway_core.specs.Gates.{rules_of};
 ghost use Rattle.gateway_core.specs.PlanBounds.{Covers};
-ghost use Rattle.gateway_core.specs.Begins.{Begins, OpensIfBegun, IfDenied, HasCostsWithin, IfAnswered, IsGiven, IsReserved, IsPaid, TellsFull, calls_begun};
+ghost use Rattle.local_introspection.specs.Counted.{answer_counted};
+ghost use Rattle.gateway_core.specs.Begins.{Begins, OpensIfBegun, IfDenied, HasCostsWithin, IfAnswered, IsGiven, IsWritten, IsReserved, IsPaid, TellsFull, calls_begun};
 
 use crate::examining::{Examined, examine};
-use crate::finishing::Finished;
+use crate::finishing::{Finished, starved};
 use crate::gate::Gate;
 use crate::grant::Grant;
 use crate::ledger::{Ledger, Reserved};
 use crate::promise::Promise;
 use cost_num::Cost;
-use local_introspection::{Local, LocalFault, Refusal};
+use local_introspection::{Counted, LocalFault, Refusal, write};
 use request_bodies::BodyFault;
-use std::alloc::Global;
+use std::alloc::{AllocError, Global};
 use std::sync::Wait;
 use trusted_documents::ExpandFault;
 
@@ -107,44 +108,57 @@ fn reserve<'g, L: Ledger, R: Wait>(
     }
 }
 
-// Reserves what an answer costs at the client's account, and settles it at once where it is granted. It takes no memory.
+// An answer that is paid for. Where there is no memory for its text, it is answered as a reply is that there is no memory for.
+fn written(alloc: Global, counted: &Counted) -> Finished
+    ensures written { IsWritten (answer_counted counted.now) result }
+    ensures bound { result.bound ≡ counted.now.cost }
+    ensures charged { result.charged ≡ counted.now.cost }
+{
+    match write(alloc, counted) {
+        Ok(answer) => Finished {
+            status: 200,
+            body: answer.text,
+            bound: answer.cost,
+            charged: answer.cost,
+        },
+        Err(AllocError) => starved(alloc, counted.cost),
+    }
+}
+
+// Reserves what an answer costs at the client's account, and settles it at once where it is granted. Only then the answer is written.
 fn pay<'g, L: Ledger, R: Wait>(
     gate: &'g Gate,
+    alloc: Global,
     rt: &R,
     ledger: &mut L,
     client: u32,
     moment: u64,
-    answer: Local,
+    counted: Counted,
 ) -> Result<Begun<'g>, L::Lost>
     requires belong { L.belongs ledger.old gate.now }
     requires made { L.made ledger.old < 2 ^ 62 }
     requires client { client < length (rules_of gate.now).clients }
-    requires capped { IsWithin answer.cost }
+    requires capped { IsWithin counted.cost }
     ensures belong { IfOk result (λ begun. L.belongs ledger.new gate.now) }
     ensures open { IfOk result (OpensIfBegun (λ g. L.opens ledger.new g.ticket)) }
-    ensures paid { IfOk result (IsPaid answer (L.made ledger.old)) }
+    ensures paid { IfOk result (IsPaid (answer_counted counted.entry) (L.made ledger.old)) }
     ensures calls { IfOk result (λ begun. L.gains ledger.old ledger.new (calls_begun client (window_of (rules_of gate.now) moment) begun)) }
     ensures within { IfOk result (λ begun. IfDenied begun HasCostsWithin) }
     ensures given { IfOk result (λ begun. IfAnswered begun IsGiven) }
     ensures full { IfOk result (TellsFull (L.full ledger.old)) }
-    ensures lost { OnErr result (LosesCalls client (window_of (rules_of gate.now) moment) answer.cost (L.made ledger.old) (L.gains ledger.old) (λ before. L.loses before ledger.new)) }
+    ensures lost { OnErr result (LosesCalls client (window_of (rules_of gate.now) moment) counted.entry.cost (L.made ledger.old) (L.gains ledger.old) (λ before. L.loses before ledger.new)) }
     ensures count { L.faults ledger.old ≤ L.faults ledger.new }
     ensures cause { OnErr result (Rose (L.faults ledger.old) (L.faults ledger.new)) }
 {
     let window = moment / u64::from(gate.settings.window_seconds);
-    let cost = answer.cost;
+    let cost = counted.cost;
     let reserved = ledger.reserve(gate, rt, client, window, cost)?;
     match reserved {
         Reserved::Granted(ticket) => {
             let window = ticket.window;
             let seq = ticket.seq;
             ledger.settle(gate, rt, ticket, cost)?;
-            let finished = Finished {
-                status: 200,
-                body: answer.text,
-                bound: cost,
-                charged: cost,
-            };
+            let finished = written(alloc, &counted);
             Ok(Begun::Answered(LocalAnswer {
                 finished,
                 window,
@@ -159,9 +173,9 @@ fn pay<'g, L: Ledger, R: Wait>(
 /// Begins a request with this key and this body at a moment, in seconds. The key is tested first. Then the body is expanded by the
 /// list of trusted documents, if the gate has one, and tested, and then its operation; and then the bound of the operation is reserved
 /// at the client's account, in the window of the moment. Where the gate knows its schema, an operation that asks for it is answered,
-/// and what the answer costs is reserved and settled.
+/// and what the answer costs is reserved and settled before any of it is written.
 ///
-/// All memory is taken before the reservation. It may wait for the steps of other workers.
+/// All memory is taken before the reservation, but that of the gateway's own answer. It may wait for the steps of other workers.
 ///
 /// # Errors
 ///
@@ -192,7 +206,7 @@ pub fn begin_in<'g, L: Ledger, R: Wait>(
     };
     match examine(gate, alloc, key, client, body) {
         Ok(Examined::Upstream(promise)) => Ok(reserve(gate, rt, ledger, client, moment, promise)?),
-        Ok(Examined::Local(answer)) => Ok(pay(gate, rt, ledger, client, moment, answer)?),
+        Ok(Examined::Local(counted)) => Ok(pay(gate, alloc, rt, ledger, client, moment, counted)?),
         Err(denial) => Ok(Begun::Denied(denial)),
     }
 }

@@ -17,7 +17,7 @@ use crate::gate::Gate;
 use crate::own_answers::own_answer;
 use crate::promise::{Promise, denied, promised};
 use document_reader::Document;
-use local_introspection::{Local, Request, read, read_values_have_each_key_once};
+use local_introspection::{Counted, Request, read, read_values_have_each_key_once};
 use request_bodies::Request as Asked;
 use std::alloc::Global;
 use trusted_documents::{Unread, read_request_by, variables_are_the_clients};
@@ -27,8 +27,8 @@ use trusted_documents::{Unread, read_request_by, variables_are_the_clients};
 pub(crate) enum Examined<'g> {
     /// It may be forwarded.
     Upstream(Promise<'g>),
-    /// The gateway answers it so.
-    Local(Local),
+    /// The gateway answers it so. Nothing of the answer is made yet.
+    Local(Counted<'g>),
 }
 
 // The request that a body is.
@@ -87,7 +87,7 @@ fn found_for<'g>(
 {
     let request = request_of(gate, asked, document);
     match own_answer(gate, alloc, &request) {
-        Ok(Some(answer)) => Ok(Examined::Local(answer)),
+        Ok(Some(counted)) => Ok(Examined::Local(counted)),
         Ok(None) => match promised(alloc, &request) {
             Ok(promise) => Ok(Examined::Upstream(promise)),
             Err(denial) => Err(denial),

@@ -47,8 +47,8 @@ pub(crate) const NOTHING: Cost = Cost {
     fields: 0,
 };
 
-// The answer for want of memory. It takes none.
-fn starved(alloc: Global, bound: Cost) -> Finished
+/// The answer for want of memory. It takes none.
+pub(crate) fn starved(alloc: Global, bound: Cost) -> Finished
     ensures { IsStarved bound result }
 {
     Finished {

@@ -12,12 +12,13 @@ ghost use Rattle.local_introspection.specs.LocalRequests.{LocalRequest};
 ghost use Rattle.local_introspection.specs.LocalAnswers.{IsAnsweredWith, IsRefusedFor as IsNotAnsweredFor};
 ghost use Rattle.gateway_core.specs.Gates.{rules_of};
 ghost use Rattle.local_introspection.specs.AskedHere.{asked_at};
+ghost use Rattle.local_introspection.specs.Counted.{answer_counted};
 ghost use Rattle.gateway_core.specs.Examined.{IsOwn, IsOwnWithin, TellsLocal, IsNotOwn};
 
 use crate::beginning::Denial;
 use crate::gate::Gate;
 use local_introspection::laws::{a_request_has_one_verdict, alike_requests_are_answered_alike};
-use local_introspection::{Facts, Local, LocalFault, Request, answer};
+use local_introspection::{Counted, Facts, LocalFault, Request, count};
 use operation_class::{Route, route_of};
 use std::alloc::{AllocError, Global};
 
@@ -31,26 +32,32 @@ pub(crate) fn alike_local_requests_have_one_verdict()
     alike_requests_are_answered_alike();
 }
 
-// What is answered of an operation that stands at this place, or why it isn't.
-fn answer_at(alloc: Global, facts: &Facts, request: &Request, place: usize) -> Result<Local, Denial>
+// The answer to an operation that stands at this place, counted, or why there is none.
+fn counted_at<'f>(
+    alloc: Global,
+    facts: &'f Facts,
+    request: &Request,
+    place: usize,
+) -> Result<Counted<'f>, Denial>
     requires local { class_at (request_data request.now).document place ≡ LocalClass }
-    ensures answered { IfOk result (IsAnsweredWith (asked_at facts.now (request_data request.now) place)) }
-    ensures within { IfOk result (λ answer. IsWithin answer.cost) }
+    ensures answered { IfOk result (λ counted. IsAnsweredWith (asked_at facts.now (request_data request.now) place) (answer_counted counted)) }
+    ensures within { IfOk result (λ counted. IsWithin counted.cost) }
     ensures refused { IfErr result (TellsLocal (asked_at facts.now (request_data request.now) place)) }
 {
-    match answer(alloc, facts, request.document, place, request.given) {
-        Ok(answer) => Ok(answer),
+    match count(alloc, facts, request.document, place, request.given) {
+        Ok(counted) => Ok(counted),
         Err(LocalFault::Memory) => Err(Denial::Memory),
         Err(fault) => Err(Denial::NotLocal(fault)),
     }
 }
 
-/// What the gateway answers itself of what is asked; nothing, where the operation goes to the upstream, or none is picked.
-pub(crate) fn own_answer(
-    gate: &Gate,
+/// What the gateway answers itself of what is asked, counted and not written yet; nothing, where the operation goes to the upstream, or
+/// none is picked.
+pub(crate) fn own_answer<'g>(
+    gate: &'g Gate,
     alloc: Global,
     request: &Request,
-) -> Result<Option<Local>, Denial>
+) -> Result<Option<Counted<'g>>, Denial>
     ensures own { IfOk result (IsOwn (rules_of gate.now) (request_data request.now)) }
     ensures within { IfOk result IsOwnWithin }
     ensures refused { IfErr result (IsNotOwn (rules_of gate.now) (request_data request.now)) }
@@ -61,8 +68,8 @@ pub(crate) fn own_answer(
     match route_of(alloc, request.document, request.name) {
         Ok(Route::Upstream) => Ok(None),
         Ok(Route::Mixed { at }) => Err(Denial::NotLocal(LocalFault::Mixed { at })),
-        Ok(Route::Local { place }) => match answer_at(alloc, facts, request, place) {
-            Ok(answer) => Ok(Some(answer)),
+        Ok(Route::Local { place }) => match counted_at(alloc, facts, request, place) {
+            Ok(counted) => Ok(Some(counted)),
             Err(denial) => Err(denial),
         },
         Err(AllocError) => Err(Denial::Memory),

@@ -28,16 +28,14 @@ module _ (text : List ℕ) (r : RequestData) (facts : Facts) (known : AreKnownOf
     not_upstream : class_at r.document place ≢ class.Upstream
     not_upstream e = let f : ◌≡◌ {A = Class} class.Local class.Upstream = sym picked.1 ∙ e in cc f
 
-    pub answered_own : (result : Result Local OwnFault) → IfOk result (IsAnsweredWith (asked_at facts r place)) → IfOk result (λ answer. IsOwn text r (Some answer))
-    answered_own (Ok answer) is = (facts, known, (place, picked.0, not_upstream, is))
-    answered_own (Err fault) is = tt
+    pub answered_own : (answer : Local) → IsAnsweredWith (asked_at facts r place) answer → IsOwn text r (Some answer)
+    answered_own answer is = (facts, known, (place, picked.0, not_upstream, is))
 
-    pub refused_own : (result : Result Local OwnFault) → IfErr result (TellsLocal (asked_at facts r place)) → IfErr result (λ fault. IfOwnRefused fault (IsNotOwn text r))
-    refused_own (Ok answer) told = tt
-    refused_own (Err (Refused (refusal.Asked q))) told = absurd told
-    refused_own (Err (Refused (refusal.NotAnswered fault))) told = (told.0, (facts, known, (place, picked.0, not_upstream, told.1)))
-    refused_own (Err (Refused refusal.NotLocal)) told = absurd told
-    refused_own (Err Memory) told = tt
+    pub refused_own : (fault : OwnFault) → TellsLocal (asked_at facts r place) fault → IfOwnRefused fault (IsNotOwn text r)
+    refused_own (Refused (refusal.Asked q)) told = absurd told
+    refused_own (Refused (refusal.NotAnswered fault)) told = (told.0, (facts, known, (place, picked.0, not_upstream, told.1)))
+    refused_own (Refused refusal.NotLocal) told = absurd told
+    refused_own Memory told = tt
 
 -- ---- what a request comes to, its texts come to
 

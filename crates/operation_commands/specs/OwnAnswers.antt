@@ -2,7 +2,9 @@
 use Rattle.std.specs.Prelude.{◌≡◌, ◌≢◌, ℕ, List, Option, None, Some, codes}
 use Rattle.static_cost.specs.CostBound.{IsWithin}
 use Rattle.acceptance.specs.Requests.{RequestData}
-use Rattle.operation_class.specs.Routes.{GoesUpstream}
+use Rattle.cost_num.specs.declared.Cost.{Cost}
+use Rattle.operation_class.specs.declared.classes.Class.TheVariants.{Local as LocalClass}
+use Rattle.operation_class.specs.Routes.{GoesUpstream, IsPicked}
 use Rattle.command_outcomes.specs.PassedOn.{Memory as NoLocalMemory, Local, LocalRequest, IsRefusedFor, local_text, IsAnsweredHere, IsRefusedHere}
 use Rattle.command_words.specs.declared.command.Asked.{Asked}
 use Rattle.command_outcomes.specs.Known.{AreKnownOf}
@@ -14,6 +16,11 @@ use Rattle.operation_commands.specs.declared.own_answers.OwnFault.{OwnFault}
 use Rattle.operation_commands.specs.declared.own_answers.OwnFault.TheVariants.{Refused, Memory}
 use Rattle.operation_commands.specs.Asked.{asked_text}
 
+-- where the operation stands that is answered from the schema, if it doesn't go to the upstream
+abbrev pub IsPlaced : RequestData → Option ℕ → Type 0
+IsPlaced r None = GoesUpstream r.name r.document
+IsPlaced r (Some place) = IsPicked r.name r.document place LocalClass
+
 -- what is answered of a request from the schema of the text, if it doesn't go to the upstream
 abbrev pub IsOwn : List ℕ → RequestData → Option Local → Type 0
 IsOwn text r None = GoesUpstream r.name r.document
@@ -22,6 +29,15 @@ IsOwn text r (Some answer) = IsAnsweredHere (AreKnownOf text) answer r
 abbrev pub IsOwnWithin : Option Local → Type 0
 IsOwnWithin None = Unit {0}
 IsOwnWithin (Some answer) = IsWithin answer.cost
+
+-- what the answer costs, if it doesn't go to the upstream
+abbrev pub IsOwnCost : List ℕ → RequestData → Option Cost → Type 0
+IsOwnCost text r None = GoesUpstream r.name r.document
+IsOwnCost text r (Some cost) = (answer : Local) × IsAnsweredHere (AreKnownOf text) answer r × (answer.cost ≡ cost)
+
+abbrev pub IsCostWithin : Option Cost → Type 0
+IsCostWithin None = Unit {0}
+IsCostWithin (Some cost) = IsWithin cost
 
 -- why it isn't answered
 abbrev pub IsNotOwn : List ℕ → RequestData → OwnRefusal → Type 0

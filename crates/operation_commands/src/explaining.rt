@@ -14,7 +14,7 @@ ghost use Rattle.operation_commands.specs.Explain.{own_price_text, TablesPlan, I
 
 use crate::asked::{AskedTexts, read_asked};
 use crate::asking::{inputs_in, request_of};
-use crate::own_answers::{OwnFault, OwnRefusal, asked_fault, own_answer, refused_own};
+use crate::own_answers::{OwnFault, OwnRefusal, asked_fault, own_cost, refused_own};
 use crate::places::place_of;
 use crate::pricing::{accepted_request, text_of_cost};
 use acceptance::Request;
@@ -62,8 +62,8 @@ fn explanation_of(alloc: Global, texts: &AskedTexts, request: &Request) -> Resul
     ensures explained { IfOk result (λ text. IsExplainedAs texts.now (request_data request.now) text.items) }
     ensures refused { IfErr result (λ fault. IfOwnRefused fault (IsUnpricedAs texts.now (request_data request.now))) }
 {
-    match own_answer(alloc, texts, request) {
-        Ok(Some(answer)) => match own_price(alloc, answer.cost) {
+    match own_cost(alloc, texts, request) {
+        Ok(Some(cost)) => match own_price(alloc, cost) {
             Ok(text) => Ok(text),
             Err(AllocError) => Err(OwnFault::Memory),
         },

@@ -6,18 +6,20 @@ ghost use Rattle.acceptance.specs.Requests.{request_data};
 ghost use Rattle.operation_class.specs.declared.classes.Class.TheVariants.{Local as LocalClass};
 ghost use Rattle.operation_class.specs.Classes.{class_at};
 ghost use Rattle.operation_class.specs.Routes.{IsPicked, IsRoute};
-ghost use Rattle.command_outcomes.specs.PassedOn.{IsAnsweredWith, asked_at};
+ghost use Rattle.command_outcomes.specs.PassedOn.{IsAnsweredWith, answer_counted, asked_at};
 ghost use Rattle.command_outcomes.specs.Reading.{IsText};
 ghost use Rattle.command_outcomes.specs.Outcomes.{IsRefusedAs};
-ghost use Rattle.operation_commands.specs.OwnAnswers.{IsOwn, IsOwnWithin, IsNotOwn, TellsLocal, IfOwnRefused, IsAskedFault, own_text};
+ghost use Rattle.operation_commands.specs.OwnAnswers.{IsPlaced, IsOwn, IsOwnWithin, IsOwnCost, IsCostWithin, IsNotOwn, TellsLocal, IfOwnRefused, IsAskedFault, own_text};
 
 use crate::asked::AskedTexts;
 use crate::asking::{AskedFault, AskedRefusal, refused_asked};
 use acceptance::Request;
 use command_outcomes::{
-    Facts, Local, LocalFault, Outcome, SCHEMA_LIMIT, answer, known_of, local_text, refused_as,
+    Counted, Facts, Local, LocalFault, Outcome, SCHEMA_LIMIT, count, known_of, local_text,
+    refused_as, write,
 };
 use command_words::Asked;
+use cost_num::Cost;
 use operation_class::{Route, route_of};
 use std::alloc::{AllocError, Global};
 use thiserror::Error;
@@ -57,22 +59,44 @@ pub(crate) fn asked_fault(fault: AskedFault) -> OwnFault
     }
 }
 
-// What is answered of an operation that stands at this place, or why it isn't.
-fn answer_at(
+// The answer to an operation that stands at this place, counted, or why there is none.
+fn counted_at<'f>(
     alloc: Global,
-    facts: &Facts,
+    facts: &'f Facts,
     request: &Request,
     place: usize,
-) -> Result<Local, OwnFault>
+) -> Result<Counted<'f>, OwnFault>
     requires local { class_at (request_data request.now).document place ≡ LocalClass }
-    ensures answered { IfOk result (IsAnsweredWith (asked_at facts.now (request_data request.now) place)) }
-    ensures within { IfOk result (λ answer. IsWithin answer.cost) }
+    ensures answered { IfOk result (λ counted. IsAnsweredWith (asked_at facts.now (request_data request.now) place) (answer_counted counted)) }
+    ensures within { IfOk result (λ counted. IsWithin counted.cost) }
     ensures refused { IfErr result (TellsLocal (asked_at facts.now (request_data request.now) place)) }
 {
-    match answer(alloc, facts, request.document, place, request.given) {
-        Ok(answer) => Ok(answer),
+    match count(alloc, facts, request.document, place, request.given) {
+        Ok(counted) => Ok(counted),
         Err(LocalFault::Memory) => Err(OwnFault::Memory),
         Err(fault) => Err(OwnFault::Refused(OwnRefusal::NotAnswered(fault))),
+    }
+}
+
+// What the answer to an operation of this schema costs that stands at this place, or why there is none.
+fn local_cost(
+    alloc: Global,
+    schema: &str,
+    request: &Request,
+    place: usize,
+) -> Result<Cost, OwnFault>
+    requires text { IsText SCHEMA_LIMIT schema.now }
+    requires picked { IsPicked (request_data request.now).name (request_data request.now).document place LocalClass }
+    ensures own { IfOk result (λ cost. IsOwnCost schema.now (request_data request.now) (Some cost)) }
+    ensures within { IfOk result IsWithin }
+    ensures refused { IfErr result (λ fault. IfOwnRefused fault (IsNotOwn schema.now (request_data request.now))) }
+{
+    let Ok(facts) = known_of(alloc, schema) else {
+        return Err(OwnFault::Memory);
+    };
+    match counted_at(alloc, &facts, request, place) {
+        Ok(counted) => Ok(counted.cost),
+        Err(fault) => Err(fault),
     }
 }
 
@@ -89,9 +113,15 @@ fn local_answer(
     ensures within { IfOk result (λ answer. IsWithin answer.cost) }
     ensures refused { IfErr result (λ fault. IfOwnRefused fault (IsNotOwn schema.now (request_data request.now))) }
 {
-    match known_of(alloc, schema) {
-        Ok(facts) => answer_at(alloc, &facts, request, place),
-        Err(AllocError) => Err(OwnFault::Memory),
+    let Ok(facts) = known_of(alloc, schema) else {
+        return Err(OwnFault::Memory);
+    };
+    match counted_at(alloc, &facts, request, place) {
+        Ok(counted) => match write(alloc, &counted) {
+            Ok(answer) => Ok(answer),
+            Err(AllocError) => Err(OwnFault::Memory),
+        },
+        Err(fault) => Err(fault),
     }
 }
 
@@ -107,6 +137,46 @@ fn mixed_fault(alloc: Global, schema: &str, request: &Request, at: usize) -> Own
     OwnFault::Refused(OwnRefusal::NotAnswered(LocalFault::Mixed { at }))
 }
 
+// The place of an operation that is answered from the schema; nothing, where it goes to the upstream, or none is picked.
+fn own_place(
+    alloc: Global,
+    texts: &AskedTexts,
+    request: &Request,
+) -> Result<Option<usize>, OwnFault>
+    requires text { IsText SCHEMA_LIMIT texts.now.schema }
+    ensures placed { IfOk result (IsPlaced (request_data request.now)) }
+    ensures refused { IfErr result (λ fault. IfOwnRefused fault (IsNotOwn texts.now.schema (request_data request.now))) }
+{
+    match route_of(alloc, request.document, request.name) {
+        Ok(Route::Upstream) => Ok(None),
+        Ok(Route::Mixed { at }) => Err(mixed_fault(alloc, texts.schema.as_str(), request, at)),
+        Ok(Route::Local { place }) => Ok(Some(place)),
+        Err(AllocError) => Err(OwnFault::Memory),
+    }
+}
+
+/// What the answer to a request costs that is answered from the schema itself; nothing, where its operation goes to the upstream, or
+/// none is picked. No answer is made for it.
+pub(crate) fn own_cost(
+    alloc: Global,
+    texts: &AskedTexts,
+    request: &Request,
+) -> Result<Option<Cost>, OwnFault>
+    requires text { IsText SCHEMA_LIMIT texts.now.schema }
+    ensures own { IfOk result (IsOwnCost texts.now.schema (request_data request.now)) }
+    ensures within { IfOk result IsCostWithin }
+    ensures refused { IfErr result (λ fault. IfOwnRefused fault (IsNotOwn texts.now.schema (request_data request.now))) }
+{
+    match own_place(alloc, texts, request) {
+        Ok(Some(place)) => match local_cost(alloc, texts.schema.as_str(), request, place) {
+            Ok(cost) => Ok(Some(cost)),
+            Err(fault) => Err(fault),
+        },
+        Ok(None) => Ok(None),
+        Err(fault) => Err(fault),
+    }
+}
+
 /// What is answered of a request from the schema itself; nothing, where its operation goes to the upstream, or none is picked.
 pub(crate) fn own_answer(
     alloc: Global,
@@ -118,19 +188,13 @@ pub(crate) fn own_answer(
     ensures within { IfOk result IsOwnWithin }
     ensures refused { IfErr result (λ fault. IfOwnRefused fault (IsNotOwn texts.now.schema (request_data request.now))) }
 {
-    match route_of(alloc, request.document, request.name) {
-        Ok(Route::Upstream) => Ok(None),
-        Ok(Route::Mixed { at }) => Err(mixed_fault(alloc, texts.schema.as_str(), request, at)),
-        Ok(Route::Local { place }) => match local_answer(
-            alloc,
-            texts.schema.as_str(),
-            request,
-            place,
-        ) {
+    match own_place(alloc, texts, request) {
+        Ok(Some(place)) => match local_answer(alloc, texts.schema.as_str(), request, place) {
             Ok(answer) => Ok(Some(answer)),
             Err(fault) => Err(fault),
         },
-        Err(AllocError) => Err(OwnFault::Memory),
+        Ok(None) => Ok(None),
+        Err(fault) => Err(fault),
     }
 }
 

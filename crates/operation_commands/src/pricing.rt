@@ -15,7 +15,7 @@ ghost use Rattle.plan_table.specs.declared.table.Plan.{Plan};
 
 use crate::asked::{AskedTexts, read_asked};
 use crate::asking::{AskedFault, AskedRefusal, Inputs, inputs_in, request_of};
-use crate::own_answers::{OwnFault, asked_fault, own_answer, refused_own};
+use crate::own_answers::{OwnFault, asked_fault, own_cost, refused_own};
 use acceptance::{AcceptFault, Accepted, Request, accept};
 use command_outcomes::{Outcome, SCHEMA_LIMIT};
 use command_words::Asked;
@@ -117,8 +117,8 @@ pub(crate) fn price_of(
     ensures fields_within { IfOk result (λ cost. cost.fields ≤ CAP) }
     ensures refused { IfErr result (λ fault. IfOwnRefused fault (IsUnpricedAs texts.now (request_data request.now))) }
 {
-    match own_answer(alloc, texts, request) {
-        Ok(Some(answer)) => Ok(answer.cost),
+    match own_cost(alloc, texts, request) {
+        Ok(Some(cost)) => Ok(cost),
         Ok(None) => upstream_price(alloc, request),
         Err(fault) => Err(fault),
     }

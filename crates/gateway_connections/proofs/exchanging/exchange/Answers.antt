@@ -1,4 +1,6 @@
-use Rattle.std.proofs.Common.{◌≡◌, ◌∷◌, [], inl, inr, refl, subst, arith, Some, None}
+use Rattle.std.proofs.Common.{◌≡◌, ◌⊎◌, ℕ, ◌∷◌, [], inl, inr, refl, subst, arith, Some, None}
+use Rattle.std.specs.Prelude.{◌≢◌}
+use Rattle.http_front.specs.ReplyBytes.{status_text}
 use Rattle.account_core.specs.Machine.{reservation, granted}
 use Rattle.account_shared.specs.Gains.{client_call}
 use Rattle.outside.proofs.Dialling.{logged_none}
@@ -128,10 +130,14 @@ returns-in-Denied-clause-few g c =
     few_more (service_in g.L.Ledger.slots c.args.gate.now) (g.L.Ledger.made c.args.ledger.now) (g.L.Ledger.made c.begin_in.new.ledger) (c.args.wire.now ≡ c.args.wire.now) x r.exchanges.is_exchange
     (g.met.L.Ledger.counts c.args.ledger.now c.begin_in.new.ledger x.calls r.exchanges.gains)
 
+has_status : (status : ℕ) → (status ≡ 200) ⊎ (status ≡ 500) → status_text status ≢ []
+has_status status (inl is) same = let e : status_text 200 ≡ [] = subst (λ n. status_text n ≡ []) is same in cc e
+has_status status (inr is) same = let e : status_text 500 ≡ [] = subst (λ n. status_text n ≡ []) is same in cc e
+
 pub answered_reply-requires : goal.answered_reply-requires
 answered_reply-requires g c =
     let given = subst (λ b. IfAnswered b IsGiven) c.in-Answered.is c.in_ok-begun.ensures.given in
-    record { status = given.0; bound = given.1; charged = given.2 }
+    record { status = has_status c.in-Answered.answer.finished.status given.0; bound = given.1; charged = given.2 }
 
 pub returns-in-Answered-clause-replied : goal.returns-in-Answered-clause-replied
 returns-in-Answered-clause-replied g c =

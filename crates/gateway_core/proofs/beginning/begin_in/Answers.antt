@@ -1,5 +1,6 @@
 -- The key is the client's, and what its body comes to is promised.
 use Rattle.std.proofs.Common.{inl, inr, refl, sym, subst}
+use Rattle.local_introspection.specs.Counted.{answer_counted}
 use Rattle.gateway_core.specs.Gates.{rules_of}
 use Rattle.gateway_core.specs.Examined.{IsFound}
 use Rattle.gateway_core.specs.Losses.{LosesBegun}
@@ -20,7 +21,7 @@ returns-in_ok-pay-in-Ok-Local-clause-begun g c =
     let rules = rules_of c.args.gate.now in
     let paid = c.in_ok-pay-in-Ok-Local in
     let found = subst (IsFound rules c.args.body.now) c.in-Ok-Local.field-0-is c.in-Ok-Local.ensures.found in
-    let begun = begun_with rules c.args.key.now c.args.body.now c.in-Some.client (g.L.Ledger.made c.args.ledger.now) c.in-Ok-Local.answer paid.field-0 (sym c.in-Some.ensures.place) found paid.ensures.paid in
+    let begun = begun_with rules c.args.key.now c.args.body.now c.in-Some.client (g.L.Ledger.made c.args.ledger.now) (answer_counted c.in-Ok-Local.counted) paid.field-0 (sym c.in-Some.ensures.place) found paid.ensures.paid in
     (c.in-Some.client, begun, paid.ensures.calls)
 
 pub returns-in_err-reserve-in-Ok-Upstream-clause-lost : goal.returns-in_err-reserve-in-Ok-Upstream-clause-lost
@@ -45,7 +46,7 @@ pub returns-in_err-pay-in-Ok-Local-clause-lost : goal.returns-in_err-pay-in-Ok-L
 returns-in_err-pay-in-Ok-Local-clause-lost g c =
     let rules = rules_of c.args.gate.now in
     let book = c.args.ledger.now in
-    let answer = c.in-Ok-Local.answer in
+    let answer = answer_counted c.in-Ok-Local.counted in
     let lost : LosesBegun rules c.args.key.now c.args.body.now c.args.moment (g.L.Ledger.made book) (g.L.Ledger.gains book) (λ before. g.L.Ledger.loses before c.pay.new.ledger) =
     record {
       client = c.in-Some.client;

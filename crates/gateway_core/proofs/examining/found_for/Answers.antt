@@ -12,7 +12,7 @@ use Rattle.gateway_core.proofs.examining.found_for.Goals as goal
 pub returns-in-Ok-Some-clause-found : goal.returns-in-Ok-Some-clause-found
 returns-in-Ok-Some-clause-found c =
     let rules = rules_of c.args.gate.now in
-    subst (λ q. IsOwn rules q (Some c.in-Ok-Some.answer)) c.request_of-request.ensures.data
+    subst (λ q. IsOwn rules q (Some c.in-Ok-Some.counted)) c.request_of-request.ensures.data
     (subst (IsOwn rules (request_data c.request_of-request.result)) c.in-Ok-Some.field-0-is c.in-Ok-Some.ensures.own)
 
 pub returns-in-Ok-clause-found : goal.returns-in-Ok-clause-found
