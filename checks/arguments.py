@@ -16,8 +16,8 @@ import tempfile
 TOP = os.path.dirname(os.path.dirname(os.path.abspath(__file__)))
 RELEASED = f"{TOP}/release/tellcrock"
 OPTIONS = ["variables", "operation", "unsized", "listen", "upstream", "target", "workers", "connections", "endless", "idle", "stop", "journal",
-           "trusted", "trusted-only", "pass", "hints", "most", "variables-none", "help", "limit"]
-NUMBERS = ["0", "1", "00010", "16", "17", "5000", "5001", "1000000", "1000001", "99999999999999999999", "+4", "-1", "1.0", "", "ten"]
+           "trusted", "trusted-only", "pass", "hints", "most-answer", "most", "variables-none", "help", "limit"]
+NUMBERS = ["0", "1", "00010", "16", "17", "5000", "5001", "1000000", "1000001", "1000000000", "1000000001", "99999999999999999999", "+4", "-1", "1.0", "", "ten"]
 AMOUNTS = ["0", "0.5", "21", "007.125000000", "1000000000000", "1000000000000.0", "1000000000000.1", "1000000000001", "0.0000001", "1.", ".5", "1.2.3", "-1", "x", ""]
 FILES = ["books.graphql", "titles.graphql", "search.json", "reply.json", "day.clients", "minute.script", "trusted.json", "not_there", "-", ""]
 # What an option takes, so that most lists are nearly right.
@@ -31,6 +31,7 @@ VALUES = {
     "workers": NUMBERS,
     "connections": NUMBERS,
     "idle": NUMBERS,
+    "most-answer": NUMBERS,
     "stop": ["not_there", ""],
     "journal": ["not_there/journal", ""],
     "trusted": ["trusted.json", "trusted.json", *FILES],
@@ -57,7 +58,7 @@ OWN = {
     "audit": ["most", "most", "variables-none", "unsized"],
     "introspect": ["variables", "operation"],
     "replay": ["unsized", "trusted", "trusted-only"],
-    "serve": ["target", "workers", "connections", "endless", "idle", "stop", "journal", "trusted", "trusted-only", "pass", "pass", "hints", "unsized"],
+    "serve": ["target", "workers", "connections", "endless", "idle", "stop", "journal", "trusted", "trusted-only", "pass", "pass", "hints", "most-answer", "unsized"],
 }
 
 

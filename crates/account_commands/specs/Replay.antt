@@ -1,5 +1,5 @@
 -- What a replay command comes to.
-use Rattle.std.specs.Prelude.{◌≡◌, ◌⊎◌, ℕ, ◌+◌, ◌<◌, ◌≤◌, length, List, [], ◌∷◌, ◌++◌, Option, Bool, true, false, codes, string_bytes}
+use Rattle.std.specs.Prelude.{◌≡◌, ◌⊎◌, ℕ, ◌+◌, ◌<◌, ◌≤◌, length, List, [], ◌∷◌, ◌++◌, Option, None, Bool, true, false, codes, string_bytes}
 use Rattle.std.specs.Fmt.{decimal}
 use Rattle.cost_num.specs.declared.Cost.{Cost}
 use Rattle.cost_num.specs.CostText.{cost_text}
@@ -115,7 +115,7 @@ pub record EndsAs (rules : Rules) (script : List StepData) (end : ReplayEnd) : T
 -- The texts hold a replay, and this holds of its end.
 abbrev pub IsReplayed : ReplayTexts → ℕ → (ReplayEnd → Type 0) → Type 0
 IsReplayed texts undeclared P = (inputs : ReplayInputs) × HoldReplay texts undeclared inputs
-    × ((end : ReplayEnd) × EndsAs (rules_in inputs.rules inputs.list) (steps_of inputs.script) end × P end)
+    × ((end : ReplayEnd) × EndsAs (rules_in inputs.rules inputs.list None) (steps_of inputs.script) end × P end)
 
 -- ---- how it is written
 

@@ -1,6 +1,6 @@
 //! Replaying a script over fresh accounts, to their end.
 
-ghost use Rattle.std.specs.Prelude.{◌≡◌, ◌≤◌, IfOk, IfErr, length};
+ghost use Rattle.std.specs.Prelude.{◌≡◌, ◌≤◌, None, IfOk, IfErr, length};
 ghost use Rattle.schema_model.specs.SchemaViews.{schema_data};
 ghost use Rattle.cost_directives.specs.WeightViews.{weights_data};
 ghost use Rattle.account_shared.specs.Views.{Belongs};
@@ -72,7 +72,7 @@ fn replay_by<Rt: Wait>(
     requires weighed { HasWeights (schema_data inputs.rules.weighed.schema) (weights_data inputs.rules.weighed.weights) }
     requires served { MayBeServed inputs.rules.clients.window_seconds inputs.rules.clients.clients.items }
     requires few { length (steps_of inputs.script) ≤ LINE_LIMIT }
-    ensures { IfOk result (EndsAs (rules_in inputs.entry.rules inputs.entry.list) (steps_of inputs.entry.script)) }
+    ensures { IfOk result (EndsAs (rules_in inputs.entry.rules inputs.entry.list None) (steps_of inputs.entry.script)) }
 {
     let ReplayInputs {
         rules,
@@ -80,7 +80,7 @@ fn replay_by<Rt: Wait>(
         list,
     } = inputs;
     let settings = settings_of(alloc, rules.clients.window_seconds);
-    let (gate, passes) = gate_by(alloc, rules, list, settings)?;
+    let (gate, passes) = gate_by(alloc, rules, list, settings, None)?;
     replay_fresh(alloc, rt, gate, passes, &script)
 }
 

@@ -65,9 +65,9 @@ with_lasting app = with_rule (with_rule (with_rule (with_rule app (flag (codes "
 abbrev pub with_list : App → App
 with_list app = with_rule (with_rule app (option (codes "trusted"))) (flag (codes "trusted-only"))
 
--- what is told to the upstream of a client's request, and to the client of its account
+-- what is told to the upstream of a client's request, and to the client of its account and of the schema
 abbrev pub with_telling : App → App
-with_telling app = with_rule (with_rule app (repeated_option (codes "pass"))) (flag (codes "hints"))
+with_telling app = with_rule (with_rule (with_rule app (repeated_option (codes "pass"))) (flag (codes "hints"))) (option (codes "most-answer"))
 
 -- `check SCHEMA`
 abbrev pub check_app : App

@@ -35,6 +35,10 @@ endless_connections = 4294967295
 abbrev pub greatest_waiting : ℕ
 greatest_waiting = 1000000
 
+-- how many bytes may be given as the most that an answer about the schema has
+abbrev pub greatest_answer : ℕ
+greatest_answer = 1000000000
+
 -- how many names of fields to pass on may be given
 abbrev pub greatest_passed : ℕ
 greatest_passed = 16

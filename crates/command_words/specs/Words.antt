@@ -18,7 +18,7 @@ use Rattle.command_words.specs.declared.command.AskedReplay.{AskedReplay}
 use Rattle.command_words.specs.declared.command.AskedServe.{AskedServe}
 use Rattle.response_model.specs.declared.part.Part.{Part}
 use Rattle.response_model.specs.declared.part.Part.TheVariants.{Types, Fields}
-use Rattle.command_words.specs.Defaults.{usual_size, greatest_size, greatest_exercise, usual_target, usual_workers, greatest_workers, greatest_connections, endless_connections, greatest_waiting, greatest_passed}
+use Rattle.command_words.specs.Defaults.{usual_size, greatest_size, greatest_exercise, usual_target, usual_workers, greatest_workers, greatest_connections, endless_connections, greatest_waiting, greatest_answer, greatest_passed}
 use Rattle.command_words.specs.Apps.{check_app, price_app, explain_app, audit_app, introspect_app, worst_app, forward_app, meter_app, replay_app, serve_app, exercise_app, migrate_app}
 
 -- The text is this number, in one decimal digit or more, and it is no greater than that.
@@ -44,11 +44,11 @@ IsWorkers (Some journal) given n = (given ≡ None) × (n ≡ 1)
 abbrev pub Stands : Option (List ℕ) → Type 0
 Stands flag = flag ≡ Some (codes "true")
 
--- how many clients may wait for their next turn, where they take turns
-abbrev pub IsWaiting : Option (List ℕ) → Option ℕ → Type 0
-IsWaiting None waiting = waiting ≡ None
-IsWaiting (Some text) None = ⊥
-IsWaiting (Some text) (Some n) = IsNumber greatest_waiting text n × (1 ≤ n)
+-- the number of an option, from 1 to the greatest one; none without the option
+abbrev pub IsMaybe : ℕ → Option (List ℕ) → Option ℕ → Type 0
+IsMaybe greatest None number = number ≡ None
+IsMaybe greatest (Some text) None = ⊥
+IsMaybe greatest (Some text) (Some n) = IsNumber greatest text n × (1 ≤ n)
 
 -- the target of requests to the upstream
 abbrev pub IsTarget : Option (List ℕ) → List ℕ → Type 0
@@ -135,11 +135,12 @@ pub record GivesAskedServe (rows : Rows) (asked : AskedServe) : Type 0 where
   pub journal : first_of (codes "journal") rows ≡ asked.journal
   pub workers : IsWorkers (first_of (codes "journal") rows) (first_of (codes "workers") rows) asked.workers
   pub connections : IsConnections rows asked.connections
-  pub waiting : IsWaiting (first_of (codes "idle") rows) asked.waiting
+  pub waiting : IsMaybe greatest_waiting (first_of (codes "idle") rows) asked.waiting
   pub stop : first_of (codes "stop") rows ≡ asked.stop
   pub is_list : IsList rows asked.list
   pub are_passed : ArePassed (unwrap_or (all_of (codes "pass") rows) []) asked.passed.items
   pub hints : IsTrue asked.hints ↔ Stands (first_of (codes "hints") rows)
+  pub most_answer : IsMaybe greatest_answer (first_of (codes "most-answer") rows) asked.most_answer
   pub undeclared : IsUndeclared (first_of (codes "unsized") rows) asked.undeclared
 
 abbrev pub part_word : Part → List ℕ

@@ -201,12 +201,13 @@ fn with_list<'a>(alloc: Global, command: Command<'a>) -> Result<Command<'a>, All
     with_flag(alloc, command, "trusted-only")
 }
 
-// What is told to the upstream of a client's request, and to the client of its account.
+// What is told to the upstream of a client's request, and to the client of its account and of the schema.
 fn with_telling<'a>(alloc: Global, command: Command<'a>) -> Result<Command<'a>, AllocError>
     ensures { IfOk result (λ c. app_of c ≡ with_telling (app_of command.entry)) }
 {
     let command = with_repeated_option(alloc, command, "pass")?;
-    with_flag(alloc, command, "hints")
+    let command = with_flag(alloc, command, "hints")?;
+    with_option(alloc, command, "most-answer")
 }
 
 /// `check SCHEMA`

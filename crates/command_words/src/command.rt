@@ -24,6 +24,8 @@ pub const GREATEST_CONNECTIONS: u32 = 1_000_000;
 pub const ENDLESS_CONNECTIONS: u32 = 4_294_967_295;
 /// How many clients may wait for their next turn.
 pub const GREATEST_WAITING: u32 = 1_000_000;
+/// How many bytes may be given as the most that an answer about the schema has.
+pub const GREATEST_ANSWER: u32 = 1_000_000_000;
 /// How many names of fields to pass on may be given.
 pub const GREATEST_PASSED: usize = 16;
 
@@ -100,6 +102,8 @@ pub struct AskedServe {
     pub passed: Vec<Text>,
     /// Whether a client whose account is short is told when it may try again.
     pub hints: bool,
+    /// How many bytes an answer about the schema has at most, where that is said.
+    pub most_answer: Option<u32>,
     /// The size of lists that declare none.
     pub undeclared: u32,
 }

@@ -34,7 +34,7 @@ usage: tellcrock meter SCHEMA DOCUMENT REPLY [--variables FILE] [--operation NAM
   prints what a reply cost, and the answer for its client
 usage: tellcrock replay SCHEMA CLIENTS SCRIPT [--trusted FILE [--trusted-only]] [--unsized N]
   prints what becomes of each request of a script, and of the clients' accounts
-usage: tellcrock serve SCHEMA CLIENTS --listen ADDR --upstream ADDR [--target PATH] [--workers N] [--connections N | --endless] [--idle N] [--stop FILE] [--journal FILE] [--trusted FILE [--trusted-only]] [--pass NAME].. [--hints] [--unsized N]
+usage: tellcrock serve SCHEMA CLIENTS --listen ADDR --upstream ADDR [--target PATH] [--workers N] [--connections N | --endless] [--idle N] [--stop FILE] [--journal FILE] [--trusted FILE [--trusted-only]] [--pass NAME].. [--hints] [--most-answer BYTES] [--unsized N]
   serves clients over HTTP within their budgets, and forwards what they cover; prints the accounts at the end
 usage: tellcrock exercise N
   prints a summary of a replay of N requests of one client

@@ -99,7 +99,7 @@ fn keep_by<Rt: Threads + Wait + Sync, D: Doors, J: Disks>(
     let Ok(settings) = settings_of(alloc, asked, rules.clients.window_seconds) else {
         return Outcome::Memory;
     };
-    let made = gate_by(alloc, rules, list, settings);
+    let made = gate_by(alloc, rules, list, settings, asked.most_answer);
     let Ok((gate, _passes)) = made else {
         return Outcome::Memory;
     };
@@ -127,7 +127,7 @@ fn serve_by<Rt: Threads + Wait + Sync, D: Doors>(
     let Ok(settings) = settings_of(alloc, asked, rules.clients.window_seconds) else {
         return Err(ServeFault::Memory);
     };
-    let made = gate_by(alloc, rules, list, settings);
+    let made = gate_by(alloc, rules, list, settings, asked.most_answer);
     let Ok((gate, passes)) = made else {
         return Err(ServeFault::Memory);
     };

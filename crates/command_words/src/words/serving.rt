@@ -7,11 +7,11 @@ ghost use Rattle.clap.specs.Walk.{rows_of, first_of, all_of};
 ghost use Rattle.clap.specs.Matches.{found_of};
 ghost use Rattle.http_front.specs.Passed.{may_be_passed};
 ghost use Rattle.command_words.specs.declared.command.AskedServe.{AskedServe as AskedServeType};
-ghost use Rattle.command_words.specs.Words.{IsTarget, IsWithin, IsWorkers, IsConnections, IsWaiting, ArePassed, GivesAskedServe};
+ghost use Rattle.command_words.specs.Words.{IsTarget, IsWithin, IsWorkers, IsConnections, IsMaybe, ArePassed, GivesAskedServe};
 
 use crate::command::{
-    AskedServe, ENDLESS_CONNECTIONS, GREATEST_CONNECTIONS, GREATEST_PASSED, GREATEST_WAITING,
-    GREATEST_WORKERS, TARGET, WORKERS, WordsFault,
+    AskedServe, ENDLESS_CONNECTIONS, GREATEST_ANSWER, GREATEST_CONNECTIONS, GREATEST_PASSED,
+    GREATEST_WAITING, GREATEST_WORKERS, TARGET, WORKERS, WordsFault,
 };
 use crate::number::number_of;
 use crate::words::asked::{list_of, option_text, place_text, undeclared_of};
@@ -91,13 +91,13 @@ fn connections_of(matches: &ArgMatches) -> Result<u32, WordsFault>
     count_of(matches, "connections", most, most)
 }
 
-// How many clients may wait for their next turn, where they take turns.
-fn waiting_of(matches: &ArgMatches) -> Result<Option<u32>, WordsFault>
-    ensures found { IfOk result (IsWaiting (first_of (codes "idle") (rows_of (found_of matches.now)))) }
-    ensures usage { result ≡ Err WordsFault.Usage → (n : Option ℕ) → IsWaiting (first_of (codes "idle") (rows_of (found_of matches.now))) n → ⊥ }
+// The number of an option, from 1 to the greatest one; none where the option is absent.
+fn maybe_count_of(matches: &ArgMatches, id: &str, greatest: u32) -> Result<Option<u32>, WordsFault>
+    ensures found { IfOk result (IsMaybe greatest (first_of id.now (rows_of (found_of matches.now)))) }
+    ensures usage { result ≡ Err WordsFault.Usage → (n : Option ℕ) → IsMaybe greatest (first_of id.now (rows_of (found_of matches.now))) n → ⊥ }
 {
-    match word_of(matches, "idle") {
-        Some(word) => match number_of(word, GREATEST_WAITING) {
+    match word_of(matches, id) {
+        Some(word) => match number_of(word, greatest) {
             Some(0) => Err(WordsFault::Usage),
             Some(number) => Ok(Some(number)),
             None => Err(WordsFault::Usage),
@@ -154,7 +154,8 @@ pub fn asked_serve_of(alloc: Global, matches: &ArgMatches) -> Result<AskedServe,
     let upstream = place_text(alloc, matches, "upstream")?;
     let workers = workers_of(matches)?;
     let connections = connections_of(matches)?;
-    let waiting = waiting_of(matches)?;
+    let waiting = maybe_count_of(matches, "idle", GREATEST_WAITING)?;
+    let most_answer = maybe_count_of(matches, "most-answer", GREATEST_ANSWER)?;
     let list = list_of(alloc, matches)?;
     let passed = passed_of(alloc, matches)?;
     let undeclared = undeclared_of(matches)?;
@@ -175,6 +176,7 @@ pub fn asked_serve_of(alloc: Global, matches: &ArgMatches) -> Result<AskedServe,
         list,
         passed,
         hints: stands(matches, "hints"),
+        most_answer,
         undeclared,
     })
 }
