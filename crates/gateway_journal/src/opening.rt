@@ -2,7 +2,7 @@
 
 ghost use Rattle.std.specs.Prelude.{◌≡◌, List, ℕ, Some, is_some, IfOk, IfErr};
 ghost use Rattle.account_journal.specs.Slots.{bodies};
-ghost use Rattle.account_journal.specs.Recovery.{IsRecoveredFrom};
+ghost use Rattle.account_journal.specs.Recovery.{IsPartlyRecovered, IsRecoveredFrom};
 ghost use Rattle.account_journal.specs.Reading.{IsFaultOf, IsIntact, RoseIfFailed};
 ghost use Rattle.gateway_workers.specs.PassedOn.{limits_of};
 ghost use Rattle.gateway_journal.specs.Kept.{IsKeptFor};
@@ -16,7 +16,8 @@ use std::alloc::Global;
 ///
 /// # Errors
 ///
-/// The disk is handed back where the journal is refused, as `Journal::open` says.
+/// The disk is handed back where the journal is refused, as `Journal::open` says. It then has the history that it had, and some first
+/// ones of the settlements that it owes, unless a call on it failed.
 pub fn open_for<D: Disk>(
     alloc: Global,
     gate: &Gate,
@@ -29,6 +30,7 @@ pub fn open_for<D: Disk>(
     ensures intact { IfOk result (λ j. (b : List ℕ) → D.reads disk ≡ Some b → IsIntact (limits_of gate.now) mark (bodies b)) }
     ensures recovered { IfOk result (λ j. (b : List ℕ) → D.reads disk ≡ Some b → IsRecoveredFrom D.reads D.image j b) }
     ensures refused { IfErr result (λ e. (b : List ℕ) → D.reads disk ≡ Some b → IsFaultOf e.1 (limits_of gate.now) mark (bodies b)) }
+    ensures left { IfErr result (λ e. (e.1 ≡ OpenFault.Failed → ⊥) → (b file : List ℕ) → D.reads disk ≡ Some b → D.reads e.0 ≡ Some file → IsPartlyRecovered b file) }
     ensures cause { IfErr result (λ e. RoseIfFailed e.1 (D.faults disk) (D.faults e.0)) }
 {
     match gate.limits(alloc) {

@@ -15,7 +15,7 @@ use Rattle.journal_disk.specs.declared.disks.Disks.{Ghosts}
 use Rattle.account_journal.specs.Slots.{bodies}
 use Rattle.account_journal.specs.Histories.{AccountsFollow, HasEntryOrNot, grant_entry, history_in, no_account, no_limit}
 use Rattle.account_journal.specs.Reading.{IsFaultOf, IsIntact}
-use Rattle.account_journal.specs.Recovery.{recovered_history}
+use Rattle.account_journal.specs.Recovery.{IsPartlyRecovered, recovered_history}
 use Rattle.account_journal.specs.declared.reading.OpenFault.{OpenFault}
 use Rattle.account_journal.specs.declared.reading.OpenFault.TheVariants as unopened
 use Rattle.gateway_journal.specs.PassedOn.{numbers_taken, Service, WireTelling, LosesServing}
@@ -151,12 +151,14 @@ IsUnopened unopened.OtherClients fault = fault ≡ OtherClients
 IsUnopened (unopened.Damaged slot) fault = fault ≡ Damaged slot
 IsUnopened unopened.Memory fault = fault ≡ Memory
 
--- The journal was not opened, by what its disk held, or since a call on the disk failed, or for want of memory.
+-- The journal was not opened, by what its disk held, or since a call on the disk failed, or for want of memory. Unless a call failed, the
+-- disk was shut with the history that it held, and some first ones of the settlements that this owes.
 pub record WasRefused (limits : List Limit) (mark : List ℕ) (held : Option (List ℕ)) (shut : Shut) (fault : KeptFault) : Type 0 where
   pub reason : OpenFault
   pub told : IsUnopened reason fault
   pub is_fault : IfSome held (λ b. IsFaultOf reason limits mark (bodies b))
   pub failed : reason ≡ unopened.Failed → shut.failed ≡ true
+  pub stored : (reason ≡ unopened.Failed → ⊥) → IfSome held (λ b. IfSome shut.reads (λ file. IsPartlyRecovered b file))
 
 -- The journal was opened, and no connection was served over it: the disk was shut with the recovered history.
 pub record WasLeft (limits : List Limit) (mark : List ℕ) (held : Option (List ℕ)) (shut : Shut) : Type 0 where

@@ -1,8 +1,9 @@
 -- The disk was shut, whatever came of it.
 use Rattle.std.proofs.Common.{◌≡◌, true, inl, inr, refl, ap, ◌∙◌}
-use Rattle.std.specs.Prelude.{is_some}
+use Rattle.std.specs.Prelude.{IfSome, is_some}
 use Rattle.account_journal.specs.Slots.{bodies}
 use Rattle.account_journal.specs.Reading.{IsFaultOf}
+use Rattle.account_journal.specs.Recovery.{IsPartlyRecovered}
 use Rattle.journal_disk.specs.Beginnings.{may_be_journal}
 use Rattle.journal_disk.specs.Shutting.{shut_with}
 use Rattle.gateway_journal.specs.PassedOn.{limits_of, telling}
@@ -59,6 +60,8 @@ returns-in-Err-clause-came_to g c =
           told = c.unopened.ensures;
           is_fault = each_told held (λ b. IsFaultOf c.in-Err.fault (limits_of c.args.gate.now) c.args.mark (bodies b)) (λ b is. refused.refused b (c.in-Ok.ensures.told ∙ is));
           failed = unopened_failed c.in-Err.fault (g.J.D.Disk.faults c.in-Ok.disk) (g.J.D.Disk.faults disk) refused.cause;
+          stored = λ isnt. each_told held (λ b. IfSome (g.J.D.Disk.reads disk) (λ file. IsPartlyRecovered b file))
+              (λ b is. each_told (g.J.D.Disk.reads disk) (λ file. IsPartlyRecovered b file) (λ file now. refused.left isnt b file (c.in-Ok.ensures.told ∙ is) now));
         },
         refl,
       ),
