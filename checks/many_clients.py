@@ -223,12 +223,16 @@ def many_leaving(folder, up):
         port, end, kept = free_port(), threading.Event(), []
         gateway = start(folder, port, up, workers, "--idle", "1000", "--endless")
         before = times(port, 400)
-        leaving = threading.Thread(target=keep_last, args=(port, end, kept))
+        leaving = threading.Thread(target=keep_last, args=(port, end, kept), daemon=True)
         leaving.start()
         time.sleep(4)
         beside, until = [], time.time() + 6
-        while time.time() < until:
-            beside += times(port, 20)
+        try:
+            while time.time() < until:
+                beside += times(port, 20)
+        except (OSError, EOFError) as fault:
+            say(f"{workers} workers: a request isn't answered: {fault}", False)
+            beside.append(60)
         more = 1000 * (statistics.median(beside) - statistics.median(before))
         say(f"{workers} workers, beside {LEAVING} more a second that don't close after their last reply, {len(beside)} requests: {told(beside)}; {more:+.2f} ms at the median", more <= 5)
         with connect(port) as client:
