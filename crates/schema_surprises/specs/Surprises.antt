@@ -89,6 +89,13 @@ has_inherited_weight s n = not (is_some (own_weight (field_at s n))) && is_some 
 
 -- ---- sizes that are handed down
 
+-- its `sizedFields` name some
+abbrev pub hands_some : WeightsData → ℕ → Bool
+hands_some w n = not (is_empty (field_in w n).size.sized)
+
+abbrev pub handing_fields : SchemaData → WeightsData → List ℕ
+handing_fields s w = filter (hands_some w) (field_numbers s)
+
 -- By its `sizedFields` a field hands a size that it declares down to lists of this name.
 abbrev pub hands_size : SchemaData → WeightsData → List ℕ → ℕ → Bool
 hands_size s w name n = is_named (field_in w n).size.sized name && (not (declares_none s w n) && not (declares_none_unsliced s w n))
@@ -105,20 +112,16 @@ abbrev pub hands_as : Bool → SchemaData → WeightsData → List ℕ → ℕ �
 hands_as true s w name n = hands_size s w name n
 hands_as false s w name n = not (hands_size s w name n)
 
--- a field that leads there, and hands such a size down, or doesn't
+-- a way there: a field that leads there, and hands such a size down, or doesn't
 abbrev pub is_way : Bool → SchemaData → WeightsData → ℕ → List ℕ → ℕ → Bool
-is_way hands s w of name n = hands_as hands s w name n && leads_to s of n
-
--- there is one
-abbrev pub some_way : Bool → SchemaData → WeightsData → ℕ → List ℕ → Bool
-some_way hands s w of name = list_any (is_way hands s w of name) (field_numbers s)
+is_way hands s w of name n = leads_to s of n && hands_as hands s w name n
 
 abbrev pub is_root : SchemaData → ℕ → Bool
 is_root s of = is_number (root_of s false) of || is_number (root_of s true) of
 
 -- On each way to it a list of this name in this type is handed a size: no operation begins in its type, and each field that leads there hands one down.
 abbrev pub is_handed_in : SchemaData → WeightsData → ℕ → List ℕ → Bool
-is_handed_in s w of name = some_way true s w of name && (not (is_root s of) && not (some_way false s w of name))
+is_handed_in s w of name = list_any (is_way true s w of name) (handing_fields s w) && (not (is_root s of) && not (list_any (is_way false s w of name) (field_numbers s)))
 
 abbrev pub is_handed : SchemaData → WeightsData → ℕ → Bool
 is_handed s w n = is_handed_in s w (field_at s n).owner (field_at s n).name

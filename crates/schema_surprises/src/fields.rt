@@ -1,16 +1,18 @@
 //! Which fields surprise.
 
-ghost use Rattle.std.specs.Prelude.{◌≡◌, IfOk, [], map, option_map};
+ghost use Rattle.std.specs.Prelude.{◌≡◌, IfOk, true, false, [], map, option_map};
+ghost use Rattle.std.specs.List.{list_any};
 ghost use Rattle.schema_model.specs.SchemaData.{field_at};
 ghost use Rattle.schema_model.specs.SchemaViews.{schema_data};
-ghost use Rattle.schema_model.specs.Entries.{maybe_size};
+ghost use Rattle.schema_model.specs.Entries.{maybe_size, field_number};
 ghost use Rattle.schema_model.specs.Numbers.{type_number};
 ghost use Rattle.input_values.specs.inputs.Definitions.{input_data};
 ghost use Rattle.input_values.specs.inputs.Shapes.{shape_tree};
 ghost use Rattle.cost_directives.specs.Weighing.{type_inside};
 ghost use Rattle.cost_directives.specs.DeclaredSizes.{is_value};
 ghost use Rattle.cost_directives.specs.WeightViews.{weights_data};
-ghost use Rattle.schema_surprises.specs.Surprises.{requires_one, is_sliced, is_named, slices_by_default, defaults_among, defaults_of, is_undeclared, has_usual_size, declares_none, declares_none_unsliced, is_unsized, is_unsliced, must_be_sliced, has_inherited_weight, hands_size, is_of_object, leads_to, hands_as, some_way, is_number, is_root, is_handed_in, is_handed, surprises_at, is_told, places_of};
+ghost use Rattle.cost_directives.specs.Weights.{field_numbers};
+ghost use Rattle.schema_surprises.specs.Surprises.{requires_one, is_sliced, is_named, slices_by_default, defaults_among, defaults_of, is_undeclared, has_usual_size, declares_none, declares_none_unsliced, is_unsized, is_unsliced, must_be_sliced, has_inherited_weight, hands_size, is_of_object, leads_to, hands_as, is_way, hands_some, handing_fields, is_number, is_root, is_handed_in, is_handed, surprises_at, is_told, places_of};
 
 use crate::surprise::Surprise;
 use cost_directives::{
@@ -195,9 +197,24 @@ fn hands_as(
     }
 }
 
-// Whether some field leads to objects of a type, and hands a size down to lists of this name, or doesn't. That is asked first: few fields hand one down.
-fn some_way(
+fn is_way(
     hands: bool,
+    schema: &Schema,
+    weights: &Weights,
+    none: &Args,
+    of: TypeId,
+    name: &str,
+    field: FieldId,
+) -> bool
+    requires empty { none.now.list.items ≡ [] }
+    ensures { result ≡ is_way hands (schema_data schema.now) (weights_data weights.now) of.number name.now field.number }
+{
+    leads_to(schema, of, field) && hands_as(hands, schema, weights, none, name, field)
+}
+
+// Whether one of these fields leads to objects of a type, and hands a size down to lists of this name.
+fn some_hands(
+    fields: &[FieldId],
     schema: &Schema,
     weights: &Weights,
     none: &Args,
@@ -205,12 +222,24 @@ fn some_way(
     name: &str,
 ) -> bool
     requires empty { none.now.list.items ≡ [] }
-    ensures { result ≡ some_way hands (schema_data schema.now) (weights_data weights.now) of.number name.now }
+    ensures { result ≡ list_any (is_way true (schema_data schema.now) (weights_data weights.now) of.number name.now) (map field_number fields.now) }
+{
+    'fields: for field in fields {
+        if is_way(true, schema, weights, none, of, name, *field) {
+            return true;
+        }
+    }
+    false
+}
+
+// Whether some field leads to objects of a type, and hands no size down to lists of this name.
+fn some_lacks(schema: &Schema, weights: &Weights, none: &Args, of: TypeId, name: &str) -> bool
+    requires empty { none.now.list.items ≡ [] }
+    ensures { result ≡ list_any (is_way false (schema_data schema.now) (weights_data weights.now) of.number name.now) (field_numbers (schema_data schema.now)) }
 {
     let (_, fields) = schema.counts();
     for number in 0..fields {
-        let field = FieldId { number };
-        if hands_as(hands, schema, weights, none, name, field) && leads_to(schema, of, field) {
+        if is_way(false, schema, weights, none, of, name, FieldId { number }) {
             return true;
         }
     }
@@ -232,43 +261,62 @@ fn is_root(schema: &Schema, of: TypeId) -> bool
     is_number(schema.root(false), of) || is_number(schema.root(true), of)
 }
 
-// On each way to it a list of this name in this type is handed a size.
-fn is_handed_in(schema: &Schema, weights: &Weights, none: &Args, of: TypeId, name: &str) -> bool
+// On each way to it a list of this name in this type is handed a size. These are the fields that hand some down.
+fn is_handed_in(
+    handing: &[FieldId],
+    schema: &Schema,
+    weights: &Weights,
+    none: &Args,
+    of: TypeId,
+    name: &str,
+) -> bool
+    requires handing { map field_number handing.now ≡ handing_fields (schema_data schema.now) (weights_data weights.now) }
     requires empty { none.now.list.items ≡ [] }
     ensures { result ≡ is_handed_in (schema_data schema.now) (weights_data weights.now) of.number name.now }
 {
-    some_way(true, schema, weights, none, of, name)
+    some_hands(handing, schema, weights, none, of, name)
         && !is_root(schema, of)
-        && !some_way(false, schema, weights, none, of, name)
+        && !some_lacks(schema, weights, none, of, name)
 }
 
-fn is_handed(schema: &Schema, weights: &Weights, none: &Args, field: FieldId) -> bool
-    requires empty { none.now.list.items ≡ [] }
-    ensures { result ≡ is_handed (schema_data schema.now) (weights_data weights.now) field.number }
-{
-    let (of, name) = (schema.owner(field), schema.field_name(field));
-    is_handed_in(schema, weights, none, of, name.as_str())
-}
-
-fn surprises_at(
-    surprise: Surprise,
+fn is_handed(
+    handing: &[FieldId],
     schema: &Schema,
     weights: &Weights,
     none: &Args,
     field: FieldId,
 ) -> bool
+    requires handing { map field_number handing.now ≡ handing_fields (schema_data schema.now) (weights_data weights.now) }
+    requires empty { none.now.list.items ≡ [] }
+    ensures { result ≡ is_handed (schema_data schema.now) (weights_data weights.now) field.number }
+{
+    let (of, name) = (schema.owner(field), schema.field_name(field));
+    is_handed_in(handing, schema, weights, none, of, name.as_str())
+}
+
+fn surprises_at(
+    surprise: Surprise,
+    handing: &[FieldId],
+    schema: &Schema,
+    weights: &Weights,
+    none: &Args,
+    field: FieldId,
+) -> bool
+    requires handing { map field_number handing.now ≡ handing_fields (schema_data schema.now) (weights_data weights.now) }
     requires empty { none.now.list.items ≡ [] }
     ensures { result ≡ surprises_at surprise (schema_data schema.now) (weights_data weights.now) field.number }
 {
     match surprise {
         Surprise::Unsized => {
-            is_unsized(schema, weights, none, field) && !is_handed(schema, weights, none, field)
+            is_unsized(schema, weights, none, field)
+                && !is_handed(handing, schema, weights, none, field)
         }
         Surprise::Unsliced => {
-            is_unsliced(schema, weights, none, field) && !is_handed(schema, weights, none, field)
+            is_unsliced(schema, weights, none, field)
+                && !is_handed(handing, schema, weights, none, field)
         }
         Surprise::MustSlice => {
-            must_be_sliced(schema, field) && !is_handed(schema, weights, none, field)
+            must_be_sliced(schema, field) && !is_handed(handing, schema, weights, none, field)
         }
         Surprise::Inherited => has_inherited_weight(schema, field),
     }
@@ -276,15 +324,42 @@ fn surprises_at(
 
 fn is_told(
     surprise: Surprise,
+    handing: &[FieldId],
     schema: &Schema,
     weights: &Weights,
     none: &Args,
     field: FieldId,
 ) -> bool
+    requires handing { map field_number handing.now ≡ handing_fields (schema_data schema.now) (weights_data weights.now) }
     requires empty { none.now.list.items ≡ [] }
     ensures { result ≡ is_told surprise (schema_data schema.now) (weights_data weights.now) field.number }
 {
-    is_of_object(schema, field) && surprises_at(surprise, schema, weights, none, field)
+    is_of_object(schema, field) && surprises_at(surprise, handing, schema, weights, none, field)
+}
+
+fn hands_some(weights: &Weights, field: FieldId) -> bool
+    ensures { result ≡ hands_some (weights_data weights.now) field.number }
+{
+    !weights.sized_fields(field).is_empty()
+}
+
+// The fields that hand sizes down.
+fn handing_fields(
+    alloc: Global,
+    schema: &Schema,
+    weights: &Weights,
+) -> Result<Vec<FieldId>, AllocError>
+    ensures { IfOk result (λ fields. map field_number fields.items ≡ handing_fields (schema_data schema.now) (weights_data weights.now)) }
+{
+    let mut handing = Vec::new(alloc);
+    let (_, fields) = schema.counts();
+    for number in 0..fields {
+        let field = FieldId { number };
+        if hands_some(weights, field) {
+            handing.push(field)?;
+        }
+    }
+    Ok(handing)
 }
 
 /// The places of the fields of object types that have a surprise, in the order of the text.
@@ -299,11 +374,12 @@ pub fn places_of(
     let none = Args {
         list: Vec::new(alloc),
     };
+    let handing = handing_fields(alloc, schema, weights)?;
     let mut places = Vec::new(alloc);
     let (_, fields) = schema.counts();
     for number in 0..fields {
         let field = FieldId { number };
-        if is_told(surprise, schema, weights, &none, field) {
+        if is_told(surprise, &handing, schema, weights, &none, field) {
             places.push(field_place(alloc, schema, field)?)?;
         }
     }
