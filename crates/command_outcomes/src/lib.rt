@@ -25,7 +25,7 @@ pub use limits::{
 pub use local_introspection::{Counted, Facts, Local, LocalFault, count, local_text, write};
 pub use outcome::{
     DISK_FAILED, DONE, DOOR_FAILED, FILE_FAILED, NO_MEMORY, NOT_RESPONSE, Outcome, REFUSED,
-    SIZE_BROKEN, STREAM_FAILED, USAGE,
+    SIZE_BROKEN, STREAM_FAILED, USAGE, each_status_has_its_number,
 };
 pub use schema_texts::refused_schema;
 pub use text_laws::refusals_of_files_are_one_line;

@@ -1,5 +1,7 @@
 //! What a command can come to, and the statuses that the program ends with.
 
+ghost use Rattle.std.specs.Prelude.{◌≡◌};
+
 use gql_base::Text;
 
 /// The status of a command whose output was written whole.
@@ -45,3 +47,10 @@ pub enum Outcome {
     /// There was no memory.
     Memory,
 }
+
+/// The numbers of the statuses. This function does nothing: its contract is the law.
+pub fn each_status_has_its_number()
+    ensures of_a_command { (DONE ≡ 0) × (REFUSED ≡ 1) × (USAGE ≡ 2) × (FILE_FAILED ≡ 3) × (STREAM_FAILED ≡ 4) × (NO_MEMORY ≡ 5) }
+    ensures of_a_reply { (SIZE_BROKEN ≡ 6) × (NOT_RESPONSE ≡ 7) }
+    ensures of_a_gateway { (DOOR_FAILED ≡ 8) × (DISK_FAILED ≡ 9) }
+{}

@@ -5,7 +5,7 @@ use Rattle.outside.specs.Faults.{Rose}
 use Rattle.outside.specs.Contents.{AppendsFront}
 use Rattle.outside.specs.declared.sink.Sink.{Ghosts}
 use Rattle.account_commands.specs.PassedOn.{Outcome, Done, Refused, FileFailed, Faulty, Audited, Served, NotStarted, Usage, Memory, DONE, REFUSED, USAGE, FILE_FAILED, STREAM_FAILED, NO_MEMORY, DOOR_FAILED, line, file_text}
-use Rattle.gateway_run.specs.declared.finish.TheConstants.{USAGE_TEXT, DOOR_TEXT}
+use Rattle.gateway_run.specs.Texts.{usage_text, door_text}
 
 -- What a stream tells of a call: what was written on it and the count of its faults, before and after.
 pub record StreamTold : Type 0 where
@@ -49,7 +49,7 @@ Mentions text status result stream = (result ≡ status) × (Gains stream text �
 -- The closing lines were written whole, and then, where a door failed, the line that says so; or a stream failed amid its own.
 abbrev pub EndsServed : List ℕ → Bool → ℕ → StreamTold → StreamTold → Type 0
 EndsServed lines false result out err = Writes (line lines) DONE result out × IsKept err
-EndsServed lines true result out err = (Gains out (line lines) × Writes (line DOOR_TEXT.now) DOOR_FAILED result err)
+EndsServed lines true result out err = (Gains out (line lines) × Writes (line door_text) DOOR_FAILED result err)
     ⊎ ((result ≡ STREAM_FAILED) × FailsAmid out (line lines) × IsKept err)
 
 -- the status of an audit: whether all passed
@@ -65,6 +65,6 @@ Ends (FileFailed name) result out err = IsKept out × Mentions (line (file_text 
 Ends (Faulty status text) result out err = IsKept out × Writes (line text) status result err
 Ends (Audited lines passed) result out err = Writes (line lines.items) (audit_status passed) result out × IsKept err
 Ends (Served lines failed) result out err = EndsServed lines.items failed result out err
-Ends NotStarted result out err = IsKept out × Writes (line DOOR_TEXT.now) DOOR_FAILED result err
-Ends Usage result out err = IsKept out × Mentions (line USAGE_TEXT.now) USAGE result err
+Ends NotStarted result out err = IsKept out × Writes (line door_text) DOOR_FAILED result err
+Ends Usage result out err = IsKept out × Mentions (line usage_text) USAGE result err
 Ends Memory result out err = (result ≡ NO_MEMORY) × IsKept out × IsKept err

@@ -1,3 +1,4 @@
+pub mod Texts
 pub mod Endings
 pub mod ServeFiles
 pub mod Serve

@@ -12,7 +12,7 @@ use Rattle.command_words.specs.declared.command.WordsFault.{WordsFault}
 use Rattle.command_words.specs.declared.command.WordsFault.TheVariants.{Usage as NoCommand, Memory as NoMemory}
 use Rattle.account_commands.specs.PassedOn.{Outcome, Done, Refused, Faulty, Audited, Served, NotStarted, Usage, Memory, line, file_text, FilesTold, files_told, NoFileFailed, IsDone, CheckCameTo}
 use Rattle.command_words.specs.Words.{Asks, IsNoCommand}
-use Rattle.gateway_run.specs.declared.finish.TheConstants.{USAGE_TEXT, VERSION_TEXT, DOOR_TEXT}
+use Rattle.gateway_run.specs.Texts.{usage_text, version_text, door_text}
 use Rattle.outside.specs.Faults.{Rose}
 use Rattle.outside.specs.declared.files.Files.{Ghosts}
 use Rattle.gateway_run.specs.Endings.{StreamTold, Gains, IsKept, HasFailed, FailsAmid, Ends}
@@ -31,8 +31,8 @@ use Rattle.account_commands.specs.Migrate.{MigrateCameTo}
 
 -- What a command that serves nothing came to. One that names no file reads none.
 abbrev pub AnswerCameTo : Command → FilesTold → Outcome → Type 0
-AnswerCameTo Help files outcome = IsDone USAGE_TEXT.now outcome × NoFileFailed files
-AnswerCameTo Version files outcome = IsDone VERSION_TEXT.now outcome × NoFileFailed files
+AnswerCameTo Help files outcome = IsDone usage_text outcome × NoFileFailed files
+AnswerCameTo Version files outcome = IsDone version_text outcome × NoFileFailed files
 AnswerCameTo (Check schema) files outcome = CheckCameTo schema files outcome
 AnswerCameTo (Price asked) files outcome = PriceCameTo asked files outcome
 AnswerCameTo (Explain asked) files outcome = ExplainCameTo asked files outcome
@@ -154,7 +154,7 @@ PrintsFault words status files outside out err = (text : List ℕ) × IsCommandO
 -- No doors were started, and just the line that says so was written; or doors were served, one failed, and just the closing lines
 -- and that line were written.
 abbrev pub TellsDoor : List (List ℕ) → FilesTold → OutsideCall → StreamTold → StreamTold → Type 0
-TellsDoor words files outside out err = Gains err (line DOOR_TEXT.now)
+TellsDoor words files outside out err = Gains err (line door_text)
     × ((IsCommandOf words files outside NotStarted × IsKept out)
     ⊎ ((lines : Vec ℕ Global) × IsCommandOf words files outside (Served lines true) × Gains out (line lines.items)))
 

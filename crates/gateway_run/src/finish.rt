@@ -5,6 +5,7 @@ ghost use Rattle.std.specs.Io.KnownBytes.{Appends};
 ghost use Rattle.outside.specs.Faults.{Rose};
 ghost use Rattle.outside.specs.Contents.{AppendsFront};
 ghost use Rattle.account_commands.specs.PassedOn.{line, file_text};
+ghost use Rattle.gateway_run.specs.Texts.{usage_text, version_text, door_text};
 ghost use Rattle.gateway_run.specs.Endings.{stream_told, Writes, Mentions, EndsServed, audit_status, Ends};
 
 use account_commands::{
@@ -14,7 +15,11 @@ use gql_base::Text;
 use outside::{Sink, WriteFault, write_whole};
 
 /// How the program is used.
-pub const USAGE_TEXT: &[u8] = b"usage: tellcrock check SCHEMA
+#[tactic(auto, unfolding(crate::specs::Texts::usage_text))]
+pub(crate) fn usage_text() -> &'static [u8]
+    ensures { result.now ≡ usage_text }
+{
+    b"usage: tellcrock check SCHEMA
   prints how many types and fields a schema has, or which test it doesn't pass
 usage: tellcrock price SCHEMA DOCUMENT [--variables FILE] [--operation NAME] [--unsized N]
   prints the greatest type cost and the greatest field cost that a response can have
@@ -41,13 +46,22 @@ usage: tellcrock exercise N
 usage: tellcrock migrate CLIENTS
   prints a client file in the newest version of its format
 usage: tellcrock --help
-usage: tellcrock --version";
+usage: tellcrock --version"
+}
 
 /// The program and its version.
-pub const VERSION_TEXT: &[u8] = b"tellcrock 1.0";
+pub(crate) fn version_text() -> &'static [u8]
+    ensures { result.now ≡ version_text }
+{
+    b"tellcrock 1.0"
+}
 
-/// What is said of doors that were not started, or of which one failed.
-pub const DOOR_TEXT: &[u8] = b"door";
+// What is said of doors that were not started, or of which one failed.
+fn door_text() -> &'static [u8]
+    ensures { result.now ≡ door_text }
+{
+    b"door"
+}
 
 // Writes a text and its line end.
 fn write_line<K: Sink>(to: &mut K, text: &[u8]) -> Result<(), WriteFault>
@@ -91,9 +105,9 @@ fn mention_file<E: Sink>(err: &mut E, name: &[u8]) -> u8
 
 // Says how the program is used. The status stays where the stream fails.
 fn mention_usage<E: Sink>(err: &mut E) -> u8
-    ensures { Mentions (line USAGE_TEXT.now) USAGE result (stream_told E.Sink err.old err.new) }
+    ensures { Mentions (line usage_text) USAGE result (stream_told E.Sink err.old err.new) }
 {
-    match write_line(err, USAGE_TEXT) {
+    match write_line(err, usage_text()) {
         Ok(()) | Err(WriteFault) => USAGE,
     }
 }
@@ -114,7 +128,7 @@ fn write_served<K: Sink, E: Sink>(lines: &[u8], failed: bool, out: &mut K, err: 
         return write_or_fail(out, lines, DONE);
     }
     match write_line(out, lines) {
-        Ok(()) => write_or_fail(err, DOOR_TEXT, DOOR_FAILED),
+        Ok(()) => write_or_fail(err, door_text(), DOOR_FAILED),
         Err(WriteFault) => STREAM_FAILED,
     }
 }
@@ -133,7 +147,7 @@ pub fn finish<K: Sink, E: Sink>(outcome: Outcome, out: &mut K, err: &mut E) -> u
             write_or_fail(out, lines.as_slice(), audit_status(passed))
         }
         Outcome::Served { lines, failed } => write_served(lines.as_slice(), failed, out, err),
-        Outcome::NotStarted => write_or_fail(err, DOOR_TEXT, DOOR_FAILED),
+        Outcome::NotStarted => write_or_fail(err, door_text(), DOOR_FAILED),
         Outcome::Usage => mention_usage(err),
         Outcome::Memory => NO_MEMORY,
     }

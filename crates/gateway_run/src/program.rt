@@ -7,7 +7,7 @@ ghost use Rattle.gateway_run.specs.Endings.{stream_told, Ends};
 ghost use Rattle.gateway_run.specs.Serve.{doors_call, disks_call, outside_call};
 ghost use Rattle.gateway_run.specs.Program.{files_call, no_command, CommandCameTo, ComeTo, Runs};
 
-use crate::finish::{USAGE_TEXT, VERSION_TEXT, finish};
+use crate::finish::{finish, usage_text, version_text};
 use crate::serving::serve;
 use account_commands::{Outcome, check, exercise, migrate, replay};
 use command_words::{Command, WordsFault, command_of};
@@ -48,8 +48,8 @@ fn outcome_of<Rt: Threads + Wait + Sync, F: Files, D: Doors, J: Disks>(
         (outside_call (doors_call D.Doors doors.old doors.new) (disks_call J.Disks disks.old disks.new)) result }
 {
     match command {
-        Command::Help => done(alloc, USAGE_TEXT),
-        Command::Version => done(alloc, VERSION_TEXT),
+        Command::Help => done(alloc, usage_text()),
+        Command::Version => done(alloc, version_text()),
         Command::Check { schema } => check(alloc, schema, files),
         Command::Price { asked } => price(alloc, &asked, files),
         Command::Explain { asked } => explain(alloc, &asked, files),

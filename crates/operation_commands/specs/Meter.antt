@@ -18,7 +18,7 @@ use Rattle.operation_commands.specs.declared.asked.AskedTexts.{AskedTexts}
 use Rattle.operation_commands.specs.declared.asking.Inputs.{Inputs}
 use Rattle.command_outcomes.specs.declared.outcome.Outcome.{Outcome}
 use Rattle.command_outcomes.specs.declared.outcome.Outcome.TheVariants.{Memory}
-use Rattle.command_outcomes.specs.declared.outcome.TheConstants.{SIZE_BROKEN, NOT_RESPONSE, NO_MEMORY}
+use Rattle.command_outcomes.specs.Statuses.{SIZE_BROKEN, NOT_RESPONSE, NO_MEMORY}
 use Rattle.operation_commands.specs.ReplyTexts.{meter_text}
 use Rattle.command_outcomes.specs.Texts.{too_large_text}
 use Rattle.command_outcomes.specs.Reading.{IsRead}
