@@ -183,7 +183,7 @@ module _ (IsName : List ℕ → Type 0) (files : FilesTold) where
 
   price_answer : (asked : Asked) (texts : AskedTexts) (outcome : Outcome) → PriceOf asked texts outcome → IsAnswer IsName files outcome
   price_answer asked texts outcome (inl memory) = memory_answer outcome memory
-  price_answer asked texts outcome (inr (inl done)) = done_answer _ outcome done.2
+  price_answer asked texts outcome (inr (inl done)) = done_answer _ outcome done.3
   price_answer asked texts outcome (inr (inr refused)) = refused_answer _ outcome refused.2
 
   explain_answer : (asked : Asked) (texts : AskedTexts) (outcome : Outcome) → ExplainOf asked texts outcome → IsAnswer IsName files outcome
@@ -209,7 +209,7 @@ module _ (IsName : List ℕ → Type 0) (files : FilesTold) where
 
   audit_answer : (asked : AskedAudit) (schema : List ℕ) (contents : List (List ℕ)) (outcome : Outcome) → AuditOf asked schema contents outcome → IsAnswer IsName files outcome
   audit_answer asked schema contents outcome (inl memory) = memory_answer outcome memory
-  audit_answer asked schema contents outcome (inr (inl audited)) = audited_answer _ _ outcome audited.2
+  audit_answer asked schema contents outcome (inr (inl audited)) = audited_answer _ _ outcome audited.3
   audit_answer asked schema contents outcome (inr (inr refused)) = refused_answer _ outcome refused.2
 
   introspect_answer : (asked : Asked) (texts : AskedTexts) (outcome : Outcome) → IntrospectOf asked texts outcome → IsAnswer IsName files outcome

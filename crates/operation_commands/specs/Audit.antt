@@ -6,6 +6,8 @@ use Rattle.gql_base.specs.printing.OneLine.{shown_in_line}
 use Rattle.cost_num.specs.declared.Cost.{Cost}
 use Rattle.cost_num.specs.CostText.{cost_text}
 use Rattle.static_cost.specs.CostBound.{IsWithin}
+use Rattle.schema_model.specs.declared.schema.Schema.{Schema}
+use Rattle.cost_directives.specs.declared.weights.Weights.{Weights}
 use Rattle.document_reader.specs.declared.trees.Document.{Document}
 use Rattle.document_reader.specs.declared.trees.Definition.{Definition}
 use Rattle.document_reader.specs.declared.trees.Definition.TheVariants.{Op, Frag}
@@ -190,10 +192,16 @@ all_pass most fs = list_all (λ f. passes most f.verdict) fs
 abbrev pub IsAuditOf : Option Cost → List Finding → Outcome → Type 0
 IsAuditOf most findings outcome = IsAudited (audit_text findings) (all_pass most findings) outcome
 
--- By the schema's text and the bytes of the documents: the audit is done, or the schema is refused, or there was no memory.
+-- The text is a schema with good weights, where lists that declare no size have this one.
+abbrev pub IsSchemaWith : List ℕ → ℕ → Type 0
+IsSchemaWith text undeclared = (schema : Schema) × (weights : Weights) × HoldsWith text undeclared schema weights
+
+-- By the schema's text and the bytes of the documents: the schema is a good one and the audit is done, or it is refused, or there was
+-- no memory.
 abbrev pub AuditOf : AskedAudit → List ℕ → List (List ℕ) → Outcome → Type 0
 AuditOf audit schema contents outcome = (outcome ≡ Memory)
-    ⊎ ((findings : List Finding) × AreFound audit schema audit.documents.items contents findings × IsAuditOf audit.most findings outcome)
+    ⊎ (IsSchemaWith schema audit.undeclared
+    × ((findings : List Finding) × AreFound audit schema audit.documents.items contents findings × IsAuditOf audit.most findings outcome))
     ⊎ ((refusal : SchemaRefusal) × IsUnchecked schema refusal × IsRefusedAs (schema_refusal_text audit.schema refusal) outcome)
 
 -- These bytes were read of the files of these names.

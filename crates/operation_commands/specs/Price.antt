@@ -2,6 +2,7 @@
 use Rattle.std.specs.Prelude.{◌≡◌, ◌⊎◌}
 use Rattle.cost_num.specs.declared.Cost.{Cost}
 use Rattle.cost_num.specs.CostText.{cost_text}
+use Rattle.static_cost.specs.CostBound.{IsWithin}
 use Rattle.plan_table.specs.declared.table.Plan.{Plan}
 use Rattle.command_words.specs.declared.command.Asked.{Asked}
 use Rattle.acceptance.specs.Requests.{RequestData}
@@ -47,10 +48,10 @@ IsPriceRefusal asked texts refusal.NotLocal = ⊥
 abbrev pub IsPriceRefused : Asked → AskedTexts → Outcome → Type 0
 IsPriceRefused asked texts outcome = (r : OwnRefusal) × IsPriceRefusal asked texts r × IsRefusedAs (own_text asked r) outcome
 
--- By the texts: the price is the output, or the operation is refused, or there was no memory.
+-- By the texts: the price is within the cap and is the output, or the operation is refused, or there was no memory.
 abbrev pub PriceOf : Asked → AskedTexts → Outcome → Type 0
 PriceOf asked texts outcome = (outcome ≡ Memory)
-    ⊎ ((cost : Cost) × HasPrice asked texts cost × IsDone (cost_text cost) outcome)
+    ⊎ ((cost : Cost) × HasPrice asked texts cost × IsWithin cost × IsDone (cost_text cost) outcome)
     ⊎ IsPriceRefused asked texts outcome
 
 -- The files hold no texts; or they do, and came to that, and none failed.

@@ -1,5 +1,5 @@
 use Rattle.std.proofs.Common.{inl, inr, map, sym, subst}
-use Rattle.command_outcomes.specs.Check.{IfUnchecked, IsUnchecked}
+use Rattle.command_outcomes.specs.Check.{IfUnchecked, IsUnchecked, HoldsWith}
 use Rattle.operation_commands.specs.Audit.{ArePricesWithin, AreFound, IsAuditOf}
 use Rattle.operation_commands.proofs.AuditWalks.{bytes_of}
 use Rattle.operation_commands.proofs.AuditedPrices.{all_within}
@@ -20,7 +20,9 @@ pub returns-in-Ok-find_in_all : goal.returns-in-Ok-find_in_all
 returns-in-Ok-find_in_all c =
     let audit = c.args.asked.now in
     let findings = c.in-Ok-find_in_all.findings.items in
+    let held = subst (λ text. HoldsWith text audit.undeclared c.in-Ok.weighed.schema c.in-Ok.weighed.weights) c.as_str.ensures c.in-Ok.ensures.held in
     inr (inl (
+      (c.in-Ok.weighed.schema, c.in-Ok.weighed.weights, held),
       findings,
       subst (λ names. AreFound audit c.args.schema names (map bytes_of c.args.contents.now) findings) c.deref.ensures.value c.in-Ok-find_in_all.ensures.found,
       subst (λ fs. IsAuditOf audit.most fs c.audited.result) c.deref-in-Ok-find_in_all.ensures.value c.audited.ensures,
