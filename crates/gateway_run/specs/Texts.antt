@@ -24,7 +24,7 @@ usage_text =
     ++ codes "  prints what a reply cost, and the answer for its client\n"
     ++ codes "usage: tellcrock replay SCHEMA CLIENTS SCRIPT [--trusted FILE [--trusted-only]] [--unsized N]\n"
     ++ codes "  prints what becomes of each request of a script, and of the clients' accounts\n"
-    ++ codes "usage: tellcrock serve SCHEMA CLIENTS --listen ADDR --upstream ADDR [--target PATH] [--workers N] [--connections N | --endless] [--idle N] [--stop FILE] [--journal FILE] [--trusted FILE [--trusted-only]] [--pass NAME].. [--hints] [--unsized N]\n"
+    ++ codes "usage: tellcrock serve SCHEMA CLIENTS --listen ADDR --upstream ADDR [--target PATH] [--workers N] [--connections N | --endless] [--idle N] [--stop FILE] [--journal FILE] [--trusted FILE [--trusted-only]] [--pass NAME].. [--hints] [--most-answer BYTES] [--unsized N]\n"
     ++ codes "  serves clients over HTTP within their budgets, and forwards what they cover; prints the accounts at the end\n"
     ++ codes "usage: tellcrock exercise N\n"
     ++ codes "  prints a summary of a replay of N requests of one client\n"
