@@ -96,7 +96,8 @@ fn found_for<'g>(
     }
 }
 
-/// Examines a body: what is promised for it or answered, or why it is unfit. All memory that a beginning needs is taken here.
+/// Examines a body: what is promised for it or answered, or why it is unfit. All memory that a beginning needs is taken here, but that of
+/// the text of the gateway's own answer.
 ///
 /// It asks that the key is this client's: for whoever has none no body is looked at.
 pub(crate) fn examine<'g>(

@@ -11,8 +11,8 @@ use Rattle.gateway_core.proofs.PaidAnswers.{paid, told_paid, is_given}
 use Rattle.gateway_core.proofs.LostAccounts.{on_err, rose_since, lost_settling}
 use Rattle.gateway_core.proofs.beginning.pay.Goals as goal
 
-pub returns-in_ok-settle-in-Granted-clause-calls : goal.returns-in_ok-settle-in-Granted-clause-calls
-returns-in_ok-settle-in-Granted-clause-calls g c =
+pub returns-in-Granted-clause-calls : goal.returns-in-Granted-clause-calls
+returns-in-Granted-clause-calls g c =
     let book = c.args.ledger.now in
     let middle = c.reserve.new.self in
     let new = c.settle.new.self in
@@ -26,8 +26,8 @@ returns-in_ok-settle-in-Granted-clause-calls g c =
     (paid (g.L.Ledger.gains book middle) (g.L.Ledger.gains middle new) (g.L.Ledger.gains book new) (λ these those. g.met.L.Ledger.gains_then book middle new these those)
     c.args.client asked window cost ticket is.0 is.2 (ap (λ s. c.args.moment / s) c.from.ensures) one c.in_ok-settle-in-Granted.ensures.call)
 
-pub returns-in_ok-settle-in-Granted-clause-given : goal.returns-in_ok-settle-in-Granted-clause-given
-returns-in_ok-settle-in-Granted-clause-given g c =
+pub returns-in-Granted-clause-given : goal.returns-in-Granted-clause-given
+returns-in-Granted-clause-given g c =
     is_given (answer_counted c.args.counted) c.args.counted.cost (record { finished = c.written-finished.result; window = c.in-Granted.ticket.window; seq = c.in-Granted.ticket.seq })
     c.requires.capped c.written-finished.ensures.written c.written-finished.ensures.bound c.written-finished.ensures.charged
 
