@@ -58,6 +58,15 @@ class Kept:
             return None
         return reply.status if reply else "the end"
 
+    def can_send(self, size=1):
+        """Whether the connection is still there once so many bytes were sent, and a few more."""
+        with contextlib.suppress(OSError):
+            for count in (size, 1, 1):
+                self.stream.sendall(bytes(count))
+                time.sleep(SHORT / 6)
+            return True
+        return False
+
     def close(self):
         self.stream.close()
 
@@ -243,6 +252,28 @@ def idle_order(runs):
     expect([it.ask() for it in clients[1:]] == [200, 200], "the clients that were idle for less are let go")
 
 
+def idle_leaving(runs):
+    """Where three may stay, whose last reply is oldest is let go first, before two that are idle; and what the newest still sends is dropped up to 64 kB."""
+    gateway = runs.start("--workers", "1", "--idle", "3")
+    clients = [Kept(gateway) for _ in range(2)]
+    expect([it.ask() for it in clients] == [200, 200], "a client gets no reply")
+    others = []
+    for _ in range(4):
+        others.append(Kept(gateway))
+        others[-1].stream.sendall(request("reader", PLAIN))
+        expect(others[-1].reads() == 200, "a client gets no last reply")
+        if len(others) == 3:
+            time.sleep(SHORT)
+            expect([it.ask() for it in clients] == [200, 200], "clients that are idle are let go for others who had their last reply")
+            expect([it.can_send() for it in others] == [False, False, True], "beside two idle clients it isn't just the last one that may still send")
+    expect(others[-1].can_send(60_000), "a client can't send 60 kB behind its last reply")
+    others[-1].can_send(10_000)
+    ended = time.monotonic() + 1
+    while others[-1].can_send() and time.monotonic() < ended:
+        pass
+    expect(time.monotonic() < ended, "a client can send more than 64 kB behind its last reply")
+
+
 def stop(runs):
     """The file ends it with its closing lines and status 8, whether clients take turns or not; one of that name that isn't named doesn't."""
     for number, words in enumerate(((), ("--idle", "8"), ("--journal", "ending"))):
@@ -263,7 +294,7 @@ def stop(runs):
 
 OPTIONS = {
     "--listen": listen, "--upstream": upstream, "--target": target, "--unsized": unsized, "--pass": passed, "--hints": hints, "--trusted and --trusted-only": trusted,
-    "--journal": journal, "--workers": workers, "--connections": connections, "--endless": endless, "--idle": idle, "the number of --idle": idle_number, "its order": idle_order, "--stop": stop,
+    "--journal": journal, "--workers": workers, "--connections": connections, "--endless": endless, "--idle": idle, "the number of --idle": idle_number, "its order": idle_order, "leave there": idle_leaving, "--stop": stop,
 }
 
 

@@ -71,13 +71,13 @@ def sends(*pieces, ends=None):
 
 
 def told(*pieces, message, at):
-    """A client that sends these pieces, each so long after it called, and is told then, and not before, that its request is bad."""
+    """A client that sends these pieces, each so long after it called, and is told then, and not before, that its request is bad; and then meets the end."""
 
     def look(port):
         client = Client(port)
         threading.Thread(target=lambda: [client.send_at(*it) for it in pieces], daemon=True).start()
         reply, passed = client.reply(), client.passed()
-        holds = reply and reply.status == 400 and message in reply.body and at - EARLY <= passed <= at + LATE
+        holds = reply and reply.status == 400 and message in reply.body and at - EARLY <= passed <= at + LATE and client.stream.recv(1) == b""
         return "" if holds else f"{reply and (reply.status, reply.body)} after {passed:.1f} s, and not {message} after {at} s"
 
     return look
