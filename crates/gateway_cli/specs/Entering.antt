@@ -48,10 +48,10 @@ WantsMemory (Err Memory) = Unit {0}
 WantsMemory (Err Usage) = ⊥
 
 -- Words were run over such doors, of which none was started, and over files and disks that tell what these tell.
-pub record RunsOver {F D Door S K W C J E : Type 0} (files : FilesTell F) (doors : DoorsTell D Door S K W C) (disks : DisksTell J E) (AreSuch : D → Type 0) (words : List (List ℕ)) (status : ℕ) (out err : StreamTold) : Type 0 where
+pub record RunsOver {F D Door S K W C J E : Type 0} (files : FilesTell F) (doors : DoorsTell D Door S K W C) (disks : DisksTell J E) (AreSuch : List (List ℕ) → D → Type 0) (words : List (List ℕ)) (status : ℕ) (out err : StreamTold) : Type 0 where
   pub doors_before : D
   pub doors_now : D
-  pub such : AreSuch doors_before
+  pub such : AreSuch words doors_before
   pub idle : doors.running doors_before ≡ 0
   pub files_before : F
   pub files_now : F
@@ -60,5 +60,5 @@ pub record RunsOver {F D Door S K W C J E : Type 0} (files : FilesTell F) (doors
   pub runs : Runs words status (files_call files files_before files_now) (outside_call (doors_call doors doors_before doors_now) (disks_call disks disks_before disks_now)) out err
 
 -- Words were so run, or there was no memory for what they are run over.
-abbrev pub ComesToEnd : {F D Door S K W C J E : Type 0} → FilesTell F → DoorsTell D Door S K W C → DisksTell J E → (D → Type 0) → List (List ℕ) → ℕ → StreamTold → StreamTold → Type 0
+abbrev pub ComesToEnd : {F D Door S K W C J E : Type 0} → FilesTell F → DoorsTell D Door S K W C → DisksTell J E → (List (List ℕ) → D → Type 0) → List (List ℕ) → ℕ → StreamTold → StreamTold → Type 0
 ComesToEnd files doors disks AreSuch words status out err = RunsOver files doors disks AreSuch words status out err ⊎ Ends (no_command Memory) status out err

@@ -64,7 +64,7 @@ fn end_words<Rt: Threads + Wait + Sync, K: Sink, E: Sink>(
     err: &mut E,
 ) -> ExitCode
     ensures ends { ComesToEnd ⟦<StdFiles<HostRuntime> as Files>⟧ ⟦<TcpDoors<HostRuntime> as Doors>⟧ ⟦<StdDisks<HostRuntime> as Disks>⟧
-        (λ doors. AreDoorsFor words.now doors.waiting (option_map string_bytes doors.stop_file) (as_nanos doors.patience)) words.now (exit_status result)
+        (λ texts doors. AreDoorsFor texts doors.waiting (option_map string_bytes doors.stop_file) (as_nanos doors.patience)) words.now (exit_status result)
         (stream_told K.Sink out.old out.new) (stream_told E.Sink err.old err.new) }
     ensures known { exit_status result ≤ DISK_FAILED }
 {
@@ -99,7 +99,7 @@ pub(crate) fn end<Rt: Threads + Wait + Sync, K: Sink, E: Sink>(
     err: &mut E,
 ) -> ExitCode
     ensures ran { IfOk words (λ words. ComesToEnd ⟦<StdFiles<HostRuntime> as Files>⟧ ⟦<TcpDoors<HostRuntime> as Doors>⟧ ⟦<StdDisks<HostRuntime> as Disks>⟧
-        (λ doors. AreDoorsFor words.items doors.waiting (option_map string_bytes doors.stop_file) (as_nanos doors.patience)) words.items (exit_status result)
+        (λ texts doors. AreDoorsFor texts doors.waiting (option_map string_bytes doors.stop_file) (as_nanos doors.patience)) words.items (exit_status result)
         (stream_told K.Sink out.old out.new) (stream_told E.Sink err.old err.new)) }
     ensures unread { IfErr words (λ fault. Ends (no_command fault) (exit_status result) (stream_told K.Sink out.old out.new)
         (stream_told E.Sink err.old err.new)) }

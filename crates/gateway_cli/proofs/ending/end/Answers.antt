@@ -1,0 +1,6 @@
+use Rattle.std.proofs.Common.{subst}
+use Rattle.gateway_cli.specs.Entering.{ComesToEnd}
+use Rattle.gateway_cli.proofs.ending.end.Goals as goal
+
+pub returns-in-Ok-clause-ran : goal.returns-in-Ok-clause-ran
+returns-in-Ok-clause-ran g c = subst (λ texts. ComesToEnd _ _ _ _ texts _ _ _) c.deref.ensures.value c.end_words.ensures.ends
