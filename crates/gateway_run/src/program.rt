@@ -3,6 +3,7 @@
 ghost use Rattle.std.specs.Prelude.{◌≡◌};
 ghost use Rattle.command_words.specs.Words.{ServesWithinLimits};
 ghost use Rattle.account_commands.specs.PassedOn.{IsDone};
+ghost use Rattle.gateway_run.specs.Texts.{usage_text, version_text};
 ghost use Rattle.gateway_run.specs.Endings.{stream_told, Ends};
 ghost use Rattle.gateway_run.specs.Serve.{doors_call, disks_call, outside_call};
 ghost use Rattle.gateway_run.specs.Program.{files_call, no_command, CommandCameTo, ComeTo, Runs};
@@ -32,6 +33,20 @@ fn done(alloc: Global, output: &[u8]) -> Outcome
     }
 }
 
+// The outcome of who asks how the program is used.
+fn told_usage(alloc: Global) -> Outcome
+    ensures { IsDone usage_text result }
+{
+    done(alloc, usage_text())
+}
+
+// The outcome of who asks which version it is.
+fn told_version(alloc: Global) -> Outcome
+    ensures { IsDone version_text result }
+{
+    done(alloc, version_text())
+}
+
 // Does a command, and gives what it came to.
 fn outcome_of<Rt: Threads + Wait + Sync, F: Files, D: Doors, J: Disks>(
     alloc: Global,
@@ -48,8 +63,8 @@ fn outcome_of<Rt: Threads + Wait + Sync, F: Files, D: Doors, J: Disks>(
         (outside_call (doors_call D.Doors doors.old doors.new) (disks_call J.Disks disks.old disks.new)) result }
 {
     match command {
-        Command::Help => done(alloc, usage_text()),
-        Command::Version => done(alloc, version_text()),
+        Command::Help => told_usage(alloc),
+        Command::Version => told_version(alloc),
         Command::Check { schema } => check(alloc, schema, files),
         Command::Price { asked } => price(alloc, &asked, files),
         Command::Explain { asked } => explain(alloc, &asked, files),
