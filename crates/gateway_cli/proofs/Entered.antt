@@ -1,5 +1,5 @@
 -- Doors for what words came to are doors for the words.
-use Rattle.std.proofs.Common.{◌≡◌, inl, inr, ℕ, List, Option, Result, Ok, Err, IfOk, refl, sym, subst}
+use Rattle.std.proofs.Common.{◌≡◌, inl, inr, ℕ, List, Option, Result, Ok, Err, IfOk, refl}
 use Rattle.command_words.specs.declared.command.Command.{Command}
 use Rattle.command_words.specs.declared.command.WordsFault.{WordsFault}
 use Rattle.command_words.specs.declared.command.WordsFault.TheVariants.{Usage, Memory}
@@ -11,7 +11,3 @@ pub entered : (words : List (List ℕ)) (command : Result Command WordsFault) (w
 entered words (Ok command) waiting stop asks none by = inl (command, asks, by.0, by.1)
 entered words (Err Usage) waiting stop asks none by = inr (none refl, by.0, by.1)
 entered words (Err Memory) waiting stop asks none by = absurd by
-
--- what holds of the value of a result holds where it is that value
-pub if_ok : {A B : Type 0} (r : Result A B) (x : A) (P : A → Type 0) → r ≡ Ok x → P x → IfOk r P
-if_ok r x P is holds = subst (λ r. IfOk r P) (sym is) holds

@@ -1,6 +1,6 @@
 //! What the process ends with.
 
-ghost use Rattle.std.specs.Prelude.{◌≡◌, ◌≤◌, IfOk, IfErr, option_map, string_bytes};
+ghost use Rattle.std.specs.Prelude.{◌≡◌, ◌≤◌, option_map, string_bytes};
 ghost use Rattle.std.specs.Duration.{as_nanos};
 ghost use Rattle.std.specs.Process.{exit_status};
 ghost use Rattle.gateway_run.specs.Endings.{stream_told, Ends};
@@ -21,8 +21,8 @@ use std::process::ExitCode;
 use std::sync::Wait;
 use std::thread::Threads;
 
-// Ends without a command, since its words could not be had: with the status of that fault, and what was written of it.
-fn end_for<K: Sink, E: Sink>(fault: WordsFault, out: &mut K, err: &mut E) -> ExitCode
+/// Ends without a command, since its words could not be had: with the status of that fault, and what was written of it.
+pub(crate) fn end_for<K: Sink, E: Sink>(fault: WordsFault, out: &mut K, err: &mut E) -> ExitCode
     ensures ends { Ends (no_command fault) (exit_status result) (stream_told K.Sink out.old out.new)
         (stream_told E.Sink err.old err.new) }
     ensures known { exit_status result ≤ DISK_FAILED }
@@ -54,8 +54,9 @@ fn end_run<Rt: Threads + Wait + Sync, F: Files, J: Disks, K: Sink, E: Sink>(
     ExitCode::from(run(rt, alloc, words, files, doors, disks, out, err))
 }
 
-// Does what words ask for, over the system's files and disks and over doors that are made for these words.
-fn end_words<Rt: Threads + Wait + Sync, K: Sink, E: Sink>(
+/// Ends with the status of what words ask for. What they are run over is made here, over the system: its files and disks, and doors for
+/// these words. Its workers are threads of `rt`.
+pub(crate) fn end<Rt: Threads + Wait + Sync, K: Sink, E: Sink>(
     rt: &Rt,
     system: &HostRuntime,
     alloc: Global,
@@ -84,29 +85,6 @@ fn end_words<Rt: Threads + Wait + Sync, K: Sink, E: Sink>(
         Ok(mut doors) => end_run(
             rt, alloc, words, &mut files, &mut doors, &mut disks, out, err,
         ),
-        Err(fault) => end_for(fault, out, err),
-    }
-}
-
-/// Ends with the status of what the words ask for, or of why they could not be had. What the words are run over is made here, over
-/// the system: its files and disks, and doors for these words. Its workers are threads of `rt`.
-pub(crate) fn end<Rt: Threads + Wait + Sync, K: Sink, E: Sink>(
-    rt: &Rt,
-    system: &HostRuntime,
-    alloc: Global,
-    words: Result<Vec<Text>, WordsFault>,
-    out: &mut K,
-    err: &mut E,
-) -> ExitCode
-    ensures ran { IfOk words (λ words. ComesToEnd ⟦<StdFiles<HostRuntime> as Files>⟧ ⟦<TcpDoors<HostRuntime> as Doors>⟧ ⟦<StdDisks<HostRuntime> as Disks>⟧
-        (λ texts doors. AreDoorsFor texts doors.waiting (option_map string_bytes doors.stop_file) (as_nanos doors.patience)) words.items (exit_status result)
-        (stream_told K.Sink out.old out.new) (stream_told E.Sink err.old err.new)) }
-    ensures unread { IfErr words (λ fault. Ends (no_command fault) (exit_status result) (stream_told K.Sink out.old out.new)
-        (stream_told E.Sink err.old err.new)) }
-    ensures known { exit_status result ≤ DISK_FAILED }
-{
-    match words {
-        Ok(words) => end_words(rt, system, alloc, &words, out, err),
         Err(fault) => end_for(fault, out, err),
     }
 }

@@ -5,7 +5,7 @@ mod ending;
 mod entering;
 mod words;
 
-use ending::end;
+use ending::{end, end_for};
 pub use gateway_run::run;
 use outside::StdSink;
 use std::env;
@@ -16,6 +16,8 @@ fn main(rt: HostRuntime) -> ExitCode {
     let alloc = rt.alloc();
     let mut out = StdSink::new(rt.stdout());
     let mut err = StdSink::new(rt.stderr());
-    let words = words_of(alloc, env::args(&rt));
-    end(&rt, &rt, alloc, words, &mut out, &mut err)
+    match words_of(alloc, env::args(&rt)) {
+        Ok(words) => end(&rt, &rt, alloc, &words, &mut out, &mut err),
+        Err(fault) => end_for(fault, &mut out, &mut err),
+    }
 }
