@@ -209,7 +209,7 @@ module _ (IsName : List ℕ → Type 0) (files : FilesTold) where
 
   audit_answer : (asked : AskedAudit) (schema : List ℕ) (contents : List (List ℕ)) (outcome : Outcome) → AuditOf asked schema contents outcome → IsAnswer IsName files outcome
   audit_answer asked schema contents outcome (inl memory) = memory_answer outcome memory
-  audit_answer asked schema contents outcome (inr (inl audited)) = audited_answer _ _ outcome audited.3
+  audit_answer asked schema contents outcome (inr (inl audited)) = audited_answer _ _ outcome audited.1.2
   audit_answer asked schema contents outcome (inr (inr refused)) = refused_answer _ outcome refused.2
 
   introspect_answer : (asked : Asked) (texts : AskedTexts) (outcome : Outcome) → IntrospectOf asked texts outcome → IsAnswer IsName files outcome
