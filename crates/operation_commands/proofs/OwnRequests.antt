@@ -2,6 +2,7 @@
 use Rattle.std.proofs.Common.{◌≡◌, ◌≢◌, ◌∙◌, sym, inr, ℕ, List, Some, Result, Ok, Err, subst}
 use Rattle.std.specs.Prelude.{IfOk, IfErr}
 use Rattle.acceptance.specs.Requests.{RequestData}
+use Rattle.cost_num.specs.declared.Cost.{Cost}
 use Rattle.operation_class.specs.declared.classes.Class.{Class}
 use Rattle.operation_class.specs.declared.classes.Class.TheVariants as class
 use Rattle.operation_class.specs.Classes.{class_at}
@@ -16,7 +17,7 @@ use Rattle.operation_commands.specs.declared.own_answers.OwnFault.TheVariants.{R
 use Rattle.operation_commands.specs.declared.own_answers.OwnRefusal.TheVariants as refusal
 use Rattle.operation_commands.specs.Asked.{HoldInputs, request_in}
 use Rattle.command_outcomes.specs.Known.{AreKnownOf}
-use Rattle.operation_commands.specs.OwnAnswers.{IsOwn, IsNotOwn, TellsLocal, IfOwnRefused}
+use Rattle.operation_commands.specs.OwnAnswers.{IsOwn, IsOwnCost, CostsAt, IsNotOwn, TellsLocal, IfOwnRefused}
 use Rattle.operation_commands.specs.Price.{IsUnpricedAs, IsPriceRefusal}
 use Rattle.operation_commands.specs.Introspect.{IsUnansweredOf, IsIntrospectRefusal}
 
@@ -28,14 +29,20 @@ module _ (text : List ℕ) (r : RequestData) (facts : Facts) (known : AreKnownOf
     not_upstream : class_at r.document place ≢ class.Upstream
     not_upstream e = let f : ◌≡◌ {A = Class} class.Local class.Upstream = sym picked.1 ∙ e in cc f
 
-    pub answered_own : (answer : Local) → IsAnsweredWith (asked_at facts r place) answer → IsOwn text r (Some answer)
-    answered_own answer is = (facts, known, (place, picked.0, not_upstream, is))
+    pub answered_own : (result : Result Local OwnFault) → IfOk result (IsAnsweredWith (asked_at facts r place)) → IfOk result (λ answer. IsOwn text r (Some answer))
+    answered_own (Ok answer) is = (facts, known, (place, picked.0, not_upstream, is))
+    answered_own (Err fault) is = tt
 
-    pub refused_own : (fault : OwnFault) → TellsLocal (asked_at facts r place) fault → IfOwnRefused fault (IsNotOwn text r)
-    refused_own (Refused (refusal.Asked q)) told = absurd told
-    refused_own (Refused (refusal.NotAnswered fault)) told = (told.0, (facts, known, (place, picked.0, not_upstream, told.1)))
-    refused_own (Refused refusal.NotLocal) told = absurd told
-    refused_own Memory told = tt
+    pub costs_own : (result : Result Cost OwnFault) → IfOk result (CostsAt (asked_at facts r place)) → IfOk result (λ cost. IsOwnCost text r (Some cost))
+    costs_own (Ok cost) (answer, is, same) = (answer, (facts, known, (place, picked.0, not_upstream, is)), same)
+    costs_own (Err fault) is = tt
+
+    pub refused_own : {T : Type 0} (result : Result T OwnFault) → IfErr result (TellsLocal (asked_at facts r place)) → IfErr result (λ fault. IfOwnRefused fault (IsNotOwn text r))
+    refused_own (Ok answer) told = tt
+    refused_own (Err (Refused (refusal.Asked q))) told = absurd told
+    refused_own (Err (Refused (refusal.NotAnswered fault))) told = (told.0, (facts, known, (place, picked.0, not_upstream, told.1)))
+    refused_own (Err (Refused refusal.NotLocal)) told = absurd told
+    refused_own (Err Memory) told = tt
 
 -- ---- what a request comes to, its texts come to
 

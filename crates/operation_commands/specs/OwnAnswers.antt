@@ -5,7 +5,7 @@ use Rattle.acceptance.specs.Requests.{RequestData}
 use Rattle.cost_num.specs.declared.Cost.{Cost}
 use Rattle.operation_class.specs.declared.classes.Class.TheVariants.{Local as LocalClass}
 use Rattle.operation_class.specs.Routes.{GoesUpstream, IsPicked}
-use Rattle.command_outcomes.specs.PassedOn.{Memory as NoLocalMemory, Local, LocalRequest, IsRefusedFor, local_text, IsAnsweredHere, IsRefusedHere}
+use Rattle.command_outcomes.specs.PassedOn.{Memory as NoLocalMemory, Local, LocalRequest, IsAnsweredWith, IsRefusedFor, local_text, IsAnsweredHere, IsRefusedHere}
 use Rattle.command_words.specs.declared.command.Asked.{Asked}
 use Rattle.command_outcomes.specs.Known.{AreKnownOf}
 use Rattle.operation_commands.specs.declared.asking.AskedFault.{AskedFault}
@@ -38,6 +38,10 @@ IsOwnCost text r (Some cost) = (answer : Local) × IsAnsweredHere (AreKnownOf te
 abbrev pub IsCostWithin : Option Cost → Type 0
 IsCostWithin None = Unit {0}
 IsCostWithin (Some cost) = IsWithin cost
+
+-- It is answered at this cost.
+abbrev pub CostsAt : LocalRequest → Cost → Type 0
+CostsAt r cost = (answer : Local) × IsAnsweredWith r answer × (answer.cost ≡ cost)
 
 -- why it isn't answered
 abbrev pub IsNotOwn : List ℕ → RequestData → OwnRefusal → Type 0

@@ -9,7 +9,7 @@ ghost use Rattle.operation_class.specs.Routes.{IsPicked, IsRoute};
 ghost use Rattle.command_outcomes.specs.PassedOn.{IsAnsweredWith, answer_counted, asked_at};
 ghost use Rattle.command_outcomes.specs.Reading.{IsText};
 ghost use Rattle.command_outcomes.specs.Outcomes.{IsRefusedAs};
-ghost use Rattle.operation_commands.specs.OwnAnswers.{IsPlaced, IsOwn, IsOwnWithin, IsOwnCost, IsCostWithin, IsNotOwn, TellsLocal, IfOwnRefused, IsAskedFault, own_text};
+ghost use Rattle.operation_commands.specs.OwnAnswers.{IsPlaced, IsOwn, IsOwnWithin, IsOwnCost, IsCostWithin, CostsAt, IsNotOwn, TellsLocal, IfOwnRefused, IsAskedFault, own_text};
 
 use crate::asked::AskedTexts;
 use crate::asking::{AskedFault, AskedRefusal, refused_asked};
@@ -78,6 +78,41 @@ fn counted_at<'f>(
     }
 }
 
+// What the answer to an operation costs that stands at this place, or why there is none.
+fn cost_at(alloc: Global, facts: &Facts, request: &Request, place: usize) -> Result<Cost, OwnFault>
+    requires local { class_at (request_data request.now).document place ≡ LocalClass }
+    ensures answered { IfOk result (CostsAt (asked_at facts.now (request_data request.now) place)) }
+    ensures within { IfOk result IsWithin }
+    ensures refused { IfErr result (TellsLocal (asked_at facts.now (request_data request.now) place)) }
+{
+    match counted_at(alloc, facts, request, place) {
+        Ok(counted) => Ok(counted.cost),
+        Err(fault) => Err(fault),
+    }
+}
+
+// What is answered of an operation that stands at this place, or why it isn't.
+fn answer_at(
+    alloc: Global,
+    facts: &Facts,
+    request: &Request,
+    place: usize,
+) -> Result<Local, OwnFault>
+    requires local { class_at (request_data request.now).document place ≡ LocalClass }
+    ensures answered { IfOk result (IsAnsweredWith (asked_at facts.now (request_data request.now) place)) }
+    ensures within { IfOk result (λ answer. IsWithin answer.cost) }
+    ensures refused { IfErr result (TellsLocal (asked_at facts.now (request_data request.now) place)) }
+{
+    let counted = match counted_at(alloc, facts, request, place) {
+        Ok(counted) => counted,
+        Err(fault) => return Err(fault),
+    };
+    match write(alloc, &counted) {
+        Ok(answer) => Ok(answer),
+        Err(AllocError) => Err(OwnFault::Memory),
+    }
+}
+
 // What the answer to an operation of this schema costs that stands at this place, or why there is none.
 fn local_cost(
     alloc: Global,
@@ -91,12 +126,9 @@ fn local_cost(
     ensures within { IfOk result IsWithin }
     ensures refused { IfErr result (λ fault. IfOwnRefused fault (IsNotOwn schema.now (request_data request.now))) }
 {
-    let Ok(facts) = known_of(alloc, schema) else {
-        return Err(OwnFault::Memory);
-    };
-    match counted_at(alloc, &facts, request, place) {
-        Ok(counted) => Ok(counted.cost),
-        Err(fault) => Err(fault),
+    match known_of(alloc, schema) {
+        Ok(facts) => cost_at(alloc, &facts, request, place),
+        Err(AllocError) => Err(OwnFault::Memory),
     }
 }
 
@@ -113,15 +145,9 @@ fn local_answer(
     ensures within { IfOk result (λ answer. IsWithin answer.cost) }
     ensures refused { IfErr result (λ fault. IfOwnRefused fault (IsNotOwn schema.now (request_data request.now))) }
 {
-    let Ok(facts) = known_of(alloc, schema) else {
-        return Err(OwnFault::Memory);
-    };
-    match counted_at(alloc, &facts, request, place) {
-        Ok(counted) => match write(alloc, &counted) {
-            Ok(answer) => Ok(answer),
-            Err(AllocError) => Err(OwnFault::Memory),
-        },
-        Err(fault) => Err(fault),
+    match known_of(alloc, schema) {
+        Ok(facts) => answer_at(alloc, &facts, request, place),
+        Err(AllocError) => Err(OwnFault::Memory),
     }
 }
 

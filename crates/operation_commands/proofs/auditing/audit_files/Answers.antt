@@ -23,7 +23,9 @@ returns-in-Ok-find_in_all c =
     let held = subst (λ text. HoldsWith text audit.undeclared c.in-Ok.weighed.schema c.in-Ok.weighed.weights) c.as_str.ensures c.in-Ok.ensures.held in
     inr (inl (
       (c.in-Ok.weighed.schema, c.in-Ok.weighed.weights, held),
-      findings,
-      subst (λ names. AreFound audit c.args.schema names (map bytes_of c.args.contents.now) findings) c.deref.ensures.value c.in-Ok-find_in_all.ensures.found,
-      subst (λ fs. IsAuditOf audit.most fs c.audited.result) c.deref-in-Ok-find_in_all.ensures.value c.audited.ensures,
+      (
+        findings,
+        subst (λ names. AreFound audit c.args.schema names (map bytes_of c.args.contents.now) findings) c.deref.ensures.value c.in-Ok-find_in_all.ensures.found,
+        subst (λ fs. IsAuditOf audit.most fs c.audited.result) c.deref-in-Ok-find_in_all.ensures.value c.audited.ensures,
+      ),
     ))

@@ -1,15 +1,11 @@
-use Rattle.std.proofs.Common.{Some, subst, sym}
 use Rattle.acceptance.specs.Requests.{request_data}
-use Rattle.command_outcomes.specs.PassedOn.{answer_counted}
-use Rattle.operation_commands.specs.OwnAnswers.{IsOwn}
 use Rattle.operation_commands.proofs.OwnRequests.{answered_own, refused_own}
 use Rattle.operation_commands.proofs.own_answers.local_answer.Goals as goal
 
-pub returns-in-Ok-write-clause-own : goal.returns-in-Ok-write-clause-own
-returns-in-Ok-write-clause-own c =
-    subst (λ a. IsOwn c.args.schema.now (request_data c.args.request.now) (Some a)) (sym c.in-Ok-write.ensures)
-    (answered_own c.args.schema.now (request_data c.args.request.now) c.in-Ok.facts c.in-Ok.ensures c.args.place c.requires.picked (answer_counted c.in-Ok-counted_at.counted) c.in-Ok-counted_at.ensures.answered)
+pub returns-in-Ok-clause-own : goal.returns-in-Ok-clause-own
+returns-in-Ok-clause-own c =
+    answered_own c.args.schema.now (request_data c.args.request.now) c.in-Ok.facts c.in-Ok.ensures c.args.place c.requires.picked c.answer_at.result c.answer_at.ensures.answered
 
-pub returns-in-Err-counted_at-clause-refused : goal.returns-in-Err-counted_at-clause-refused
-returns-in-Err-counted_at-clause-refused c =
-    refused_own c.args.schema.now (request_data c.args.request.now) c.in-Ok.facts c.in-Ok.ensures c.args.place c.requires.picked c.in-Err-counted_at.fault c.in-Err-counted_at.ensures.refused
+pub returns-in-Ok-clause-refused : goal.returns-in-Ok-clause-refused
+returns-in-Ok-clause-refused c =
+    refused_own c.args.schema.now (request_data c.args.request.now) c.in-Ok.facts c.in-Ok.ensures c.args.place c.requires.picked c.answer_at.result c.answer_at.ensures.refused

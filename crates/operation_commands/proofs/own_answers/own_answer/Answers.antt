@@ -4,5 +4,4 @@ use Rattle.operation_commands.specs.OwnAnswers.{IsOwn}
 use Rattle.operation_commands.proofs.own_answers.own_answer.Goals as goal
 
 pub returns-in-Ok-clause-own : goal.returns-in-Ok-clause-own
-returns-in-Ok-clause-own c =
-    subst (λ text. IsOwn text (request_data c.args.request.now) (Some c.in-Ok.answer)) c.as_str-in-Ok-Local.ensures c.in-Ok.ensures.own
+returns-in-Ok-clause-own c = subst (λ text. IsOwn text (request_data c.args.request.now) (Some c.in-Ok.answer)) c.as_str.ensures c.in-Ok.ensures.own
