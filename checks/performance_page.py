@@ -51,9 +51,14 @@ SERVERS = {"Tellcrock 1": "Tellcrock, 1 worker", "Tellcrock 4": "Tellcrock, 4 wo
 PLOTTED = {"Tellcrock 1": 0, "Tellcrock 4": 1, "Tellcrock 16": 2, "nginx 1": 0, "nginx 4": 1, "nginx 16": 2, "nginx 4, connections kept": 3}
 
 
+def answered(runs):
+    """The runs in which somebody was answered: a server that waits for its upstream may still be at the requests of the run before. All where there is none."""
+    return [run for run in runs if run["count"]] or runs
+
+
 def served_lines(found):
     """A line for each that was measured: nginx's are dashed."""
-    return [Line(SERVERS[name], [(int(at), middle([run["rate"] for run in runs])) for at, runs in found[name].items()], colour, name.startswith("nginx")) for name, colour in PLOTTED.items() if name in found]
+    return [Line(SERVERS[name], [(int(at), middle([run["rate"] for run in answered(runs)])) for at, runs in found[name].items()], colour, name.startswith("nginx")) for name, colour in PLOTTED.items() if name in found]
 
 
 def serving_plot(found):
@@ -70,7 +75,7 @@ def served_table(found):
     rows = []
     for at in next(iter(found.values())):
         for name in (it for it in SERVERS if it in found):
-            runs = found[name][at]
+            runs = answered(found[name][at])
             rates = [it["rate"] for it in runs]
             rows.append([at, SERVERS[name], f"{middle(rates):,.0f}", f"{min(rates):,.0f} to {max(rates):,.0f}", *(f"{middle([it[own] for it in runs]):.2f}" for own in ("half", "most"))])
     return table(["connections", "served by", "requests a second", "in single runs", "half within, ms", "99 of 100 within, ms"], rows)
@@ -145,8 +150,10 @@ def about(part):
             + ("; a short trial, whose figures say little" if part["quick"] else ""))
 
 
-def compared(part):
-    return "; ".join(f"{name} ({it})" for name, it in part["machine"]["versions"].items() if name != "Tellcrock")
+def compared(measures):
+    """What Tellcrock was compared with in any part, in the version that was measured last there."""
+    versions = {name: it for part in measures.values() for name, it in part["machine"]["versions"].items()}
+    return "; ".join(f"{name} ({it})" for name, it in versions.items() if name != "Tellcrock")
 
 
 PAGE = """# Performance
@@ -226,7 +233,8 @@ WAITING = """
 ![Requests a second by connections, before an upstream of 50 ms](figures/waiting.svg)
 
 Measured {about_waiting}. The upstream is two processes in Python that answer each request 50 milliseconds after it. A worker of Tellcrock waits for the reply, so a worker has at most 20 requests a
-second, whatever waits; nginx has as many requests under way as there are connections.
+second, whatever waits; nginx has as many requests under way as there are connections. Runs in which nobody was answered, since the workers were still at the requests of the run before, are left out: one
+worker has 256 of them for 13 seconds, a run takes two.
 
 {waiting}
 
@@ -249,5 +257,5 @@ def write(measures, docs):
     if set(PARTS) - {"waiting"} <= set(measures):
         words["section_waiting"] = WAITING.format(**words) if "waiting" in measures else ""
         with open(os.path.join(docs, "performance.md"), "w") as file:
-            file.write(PAGE.format(compared=compared(measures["serving"]), **words))
+            file.write(PAGE.format(compared=compared(measures), **words))
         print(f"{docs}/performance.md is written")
