@@ -1,0 +1,2 @@
+-- When work is counted.
+pub mod Counted
