@@ -37,6 +37,7 @@ use crate::rules::variable_place::VariablePlace;
 use crate::rules::variable_type::VariableType;
 use crate::site_rule::first_broken;
 use crate::sites::{Site, sites_of};
+use counted_work::Work;
 use document_reader::{Definition, Document, Fragment, Operation};
 use gql_base::{Indexed, index_owned};
 use input_values::TypeId;
@@ -86,6 +87,7 @@ impl<'a> Checked<'a> {
 /// What the rules on parts of an operation look things up in.
 #[derive(Clone, Copy)]
 struct Names<'c, 'a> {
+    work: Work<'c>,
     schema: &'c Schema,
     fragments: &'c Indexed<Defined<'a>>,
     met: &'c [Met],
@@ -99,12 +101,17 @@ fn breach_of_fragments(
 ) -> Result<Option<(Rule, usize)>, AllocError>
     ensures { IfOk result (λ b. b ≡ first_breach (rules_of_fragments (schema_named names.now) (fragments_named names.now) (met_named names.now)) (map site_data sites.now)) }
 {
+    names.work.take(sites.len())?;
     let fragments = names.fragments;
     if let Some(at) = first_broken(alloc, &UnknownFragment { fragments }, sites)? {
         return Ok(Some((Rule::UnknownFragment, at)));
     }
-    let met = names.met;
-    if let Some(at) = first_broken(alloc, &FragmentCycle { fragments, met }, sites)? {
+    let cycle = FragmentCycle {
+        fragments,
+        met: names.met,
+        work: names.work,
+    };
+    if let Some(at) = first_broken(alloc, &cycle, sites)? {
         return Ok(Some((Rule::FragmentCycle, at)));
     }
     let schema = names.schema;
@@ -116,11 +123,13 @@ fn breach_of_fragments(
 
 fn breach_of_directives(
     alloc: Global,
+    work: Work<'_>,
     schema: &Schema,
     sites: &[Site<'_>],
 ) -> Result<Option<(Rule, usize)>, AllocError>
     ensures { IfOk result (λ b. b ≡ first_breach (rules_of_directives (schema_data schema.now)) (map site_data sites.now)) }
 {
+    work.take(sites.len())?;
     if let Some(at) = first_broken(alloc, &UnknownDirective { schema }, sites)? {
         return Ok(Some((Rule::UnknownDirective, at)));
     }
@@ -135,11 +144,13 @@ fn breach_of_directives(
 
 fn breach_of_fields(
     alloc: Global,
+    work: Work<'_>,
     schema: &Schema,
     sites: &[Site<'_>],
 ) -> Result<Option<(Rule, usize)>, AllocError>
     ensures { IfOk result (λ b. b ≡ first_breach (rules_of_fields (schema_data schema.now)) (map site_data sites.now)) }
 {
+    work.take(sites.len())?;
     if let Some(at) = first_broken(alloc, &Introspection { schema }, sites)? {
         return Ok(Some((Rule::Introspection, at)));
     }
@@ -162,6 +173,8 @@ fn breach_of_variables(
 ) -> Result<Option<(Rule, usize)>, AllocError>
     ensures { IfOk result (λ b. b ≡ first_breach (rules_of_variables (schema_data names.now.schema.now) (map declared_tree names.now.variables.now.items.items)) (map site_data sites.now)) }
 {
+    let work = names.work;
+    work.take(sites.len())?;
     if let Some(at) = first_broken(alloc, &RepeatedVariable, sites)? {
         return Ok(Some((Rule::RepeatedVariable, at)));
     }
@@ -170,7 +183,7 @@ fn breach_of_variables(
         return Ok(Some((Rule::VariableType, at)));
     }
     let variables = names.variables;
-    if let Some(at) = first_broken(alloc, &UndefinedVariable { variables }, sites)? {
+    if let Some(at) = first_broken(alloc, &UndefinedVariable { variables, work }, sites)? {
         return Ok(Some((Rule::UndefinedVariable, at)));
     }
     Ok(None)
@@ -183,6 +196,8 @@ fn breach_of_arguments(
 ) -> Result<Option<(Rule, usize)>, AllocError>
     ensures { IfOk result (λ b. b ≡ first_breach (rules_of_arguments (schema_data names.now.schema.now) (map declared_tree names.now.variables.now.items.items)) (map site_data sites.now)) }
 {
+    let work = names.work;
+    work.take(sites.len())?;
     let schema = names.schema;
     if let Some(at) = first_broken(alloc, &UnknownArgument { schema }, sites)? {
         return Ok(Some((Rule::UnknownArgument, at)));
@@ -191,7 +206,12 @@ fn breach_of_arguments(
         return Ok(Some((Rule::RepeatedArgument, at)));
     }
     let variables = names.variables;
-    if let Some(at) = first_broken(alloc, &VariablePlace { schema, variables }, sites)? {
+    let places = VariablePlace {
+        schema,
+        variables,
+        work,
+    };
+    if let Some(at) = first_broken(alloc, &places, sites)? {
         return Ok(Some((Rule::VariablePlace, at)));
     }
     Ok(None)
@@ -208,10 +228,10 @@ fn breach_of_sites(
     if let Some(found) = breach_of_fragments(alloc, names, sites)? {
         return Ok(Some(found));
     }
-    if let Some(found) = breach_of_directives(alloc, names.schema, sites)? {
+    if let Some(found) = breach_of_directives(alloc, names.work, names.schema, sites)? {
         return Ok(Some(found));
     }
-    if let Some(found) = breach_of_fields(alloc, names.schema, sites)? {
+    if let Some(found) = breach_of_fields(alloc, names.work, names.schema, sites)? {
         return Ok(Some(found));
     }
     if let Some(found) = breach_of_variables(alloc, names, sites)? {
@@ -223,6 +243,7 @@ fn breach_of_sites(
 /// The same for an operation whose selections are written on a type.
 fn breach_of_parts<'a>(
     alloc: Global,
+    work: Work<'_>,
     schema: &Schema,
     operation: &'a Operation,
     root: TypeId,
@@ -231,10 +252,12 @@ fn breach_of_parts<'a>(
 ) -> Result<Option<(Rule, usize)>, AllocError>
     ensures { TellsParts (schema_data schema.now) (map defined_data fragments.now.items.items) operation.now (map met_data met.now) root.number result }
 {
+    work.take(operation.variables.len())?;
     let declared = declared_of(alloc, operation.variables.as_slice())?;
     let variables = index_owned(alloc, declared)?;
-    let sites = sites_of(alloc, schema, operation, root, fragments.items(), met)?;
+    let sites = sites_of(alloc, work, schema, operation, root, fragments.items(), met)?;
     let names = Names {
+        work,
         schema,
         fragments,
         met,
@@ -246,13 +269,14 @@ fn breach_of_parts<'a>(
 /// The first broken rule of those on the whole document and on the kind of the operation.
 fn breach_before_parts(
     alloc: Global,
+    work: Work<'_>,
     schema: &Schema,
     definitions: &[Definition],
     operation: &Operation,
 ) -> Result<Option<(Rule, usize)>, AllocError>
     ensures { IfOk result (λ b. b ≡ breach_before_parts (schema_data schema.now) definitions.now operation.now) }
 {
-    if let Some(at) = repeated_name(alloc, definitions)? {
+    if let Some(at) = repeated_name(alloc, work, definitions)? {
         return Ok(Some((Rule::RepeatedName, at)));
     }
     if let Some(at) = lone_anonymous(definitions) {
@@ -270,6 +294,7 @@ fn breach_before_parts(
 /// The check of an operation whose selections are written on a type.
 fn check_parts<'a>(
     alloc: Global,
+    work: Work<'_>,
     schema: &Schema,
     document: &'a Document,
     operation: &'a Operation,
@@ -277,10 +302,18 @@ fn check_parts<'a>(
 ) -> Result<Checked<'a>, RuleFault>
     ensures { PartsAnswer (schema_data schema.now) document.now.definitions.items operation.now root.number result }
 {
-    let defined = defined_in(alloc, document.definitions.as_slice())?;
+    let defined = defined_in(alloc, work, document.definitions.as_slice())?;
     let fragments = index_owned(alloc, defined)?;
-    let met = reach(alloc, &fragments, operation.selections.as_slice())?;
-    match breach_of_parts(alloc, schema, operation, root, &fragments, met.as_slice())? {
+    let met = reach(alloc, work, &fragments, operation.selections.as_slice())?;
+    match breach_of_parts(
+        alloc,
+        work,
+        schema,
+        operation,
+        root,
+        &fragments,
+        met.as_slice(),
+    )? {
         Some((rule, at)) => Err(RuleFault::Broken { rule, at }),
         None => Ok(Checked {
             document,
@@ -294,16 +327,23 @@ fn check_parts<'a>(
 /// The check of an operation.
 fn check_operation<'a>(
     alloc: Global,
+    work: Work<'_>,
     schema: &Schema,
     document: &'a Document,
     operation: &'a Operation,
 ) -> Result<Checked<'a>, RuleFault>
     ensures { AnswersBreach (IsCheckOf (schema_data schema.now) document.now.definitions.items operation.now) result (first_broken (schema_data schema.now) document.now.definitions.items operation.now) }
 {
-    match breach_before_parts(alloc, schema, document.definitions.as_slice(), operation)? {
+    match breach_before_parts(
+        alloc,
+        work,
+        schema,
+        document.definitions.as_slice(),
+        operation,
+    )? {
         Some((rule, at)) => Err(RuleFault::Broken { rule, at }),
         None => match type_of_kind(schema, operation.kind) {
-            Some(root) => check_parts(alloc, schema, document, operation, root),
+            Some(root) => check_parts(alloc, work, schema, document, operation, root),
             None => unreachable!(),
         },
     }
@@ -325,9 +365,10 @@ fn operation_at(definitions: &[Definition], place: usize) -> Option<&Operation>
 /// is broken, with the first place at which it is: in the operation, or else in the fragments in the order in which they
 /// are first met.
 ///
-/// It asks that an operation stands there.
+/// It asks that an operation stands there. Where too few steps are left it fails as for want of memory.
 pub fn check<'a>(
     alloc: Global,
+    work: Work<'_>,
     schema: &Schema,
     document: &'a Document,
     picked: usize,
@@ -337,7 +378,7 @@ pub fn check<'a>(
     ensures checked { IfOk result (IsChecked (schema_data schema.now)) }
 {
     match operation_at(document.definitions.as_slice(), picked) {
-        Some(operation) => check_operation(alloc, schema, document, operation),
+        Some(operation) => check_operation(alloc, work, schema, document, operation),
         None => unreachable!(),
     }
 }

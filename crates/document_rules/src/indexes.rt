@@ -7,6 +7,7 @@ ghost use Rattle.document_rules.specs.Parts.{fragment_data, fragment_name, fragm
 ghost use Rattle.document_rules.specs.Rules.{variable_name};
 ghost use Rattle.document_rules.specs.Views.{declared_tree, defined_data, defined_fragment};
 
+use counted_work::{Work, steps_of_text};
 use document_reader::{Definition, Fragment, VariableDef};
 use gql_base::{Indexed, Named};
 use std::alloc::{AllocError, Global};
@@ -56,13 +57,16 @@ pub fn declared_of<'a>(
 /// The fragments of a document, in their order.
 pub fn defined_in<'a>(
     alloc: Global,
+    work: Work<'_>,
     definitions: &'a [Definition],
 ) -> Result<Vec<Defined<'a>>, AllocError>
     ensures { IfOk result (λ defined. map defined_fragment defined.items ≡ fragments_of definitions.now) }
 {
+    work.take(definitions.len())?;
     let mut defined = Vec::new(alloc);
     for definition in definitions {
         if let Definition::Frag(fragment) = definition {
+            work.take(steps_of_text(fragment.name.text.as_str().len()))?;
             defined.push(Defined { fragment })?;
         }
     }

@@ -2,6 +2,7 @@
 #![tactic(auto)]
 
 mod checking;
+mod counting;
 mod indexes;
 mod laws;
 pub mod lookups;

@@ -7,6 +7,7 @@ ghost use Rattle.document_rules.specs.Steps.{to_come, AreSeen, KeepsToCome, Ente
 ghost use Rattle.document_rules.specs.Views.{defined_data, defined_fragment, met_data, spread_data};
 
 use crate::indexes::{Defined, fragment_number, fragment_of};
+use counted_work::{Work, steps_of_text};
 use document_reader::{Fragment, Selection};
 use gql_base::Indexed;
 use std::alloc::{AllocError, Global};
@@ -29,20 +30,23 @@ pub struct Spread<'a> {
 /// The spreads of selections, so that the first of them stands last.
 #[cycle(spreads)]
 fn add_spreads<'a>(
+    work: Work<'_>,
     selections: &'a [Selection],
     within: Option<usize>,
     into: &mut Vec<Spread<'a>>,
 ) -> Result<(), AllocError>
     ensures { OnOk result (to_come into.new.items ≡ spreads_within within (set_tree selections.now) ++ to_come into.old.items) }
 {
+    work.take(selections.len())?;
     for at in (0..selections.len()).rev() {
-        add_spreads_of(&selections[at], within, into)?;
+        add_spreads_of(work, &selections[at], within, into)?;
     }
     Ok(())
 }
 
 #[cycle(spreads)]
 fn add_spreads_of<'a>(
+    work: Work<'_>,
     selection: &'a Selection,
     within: Option<usize>,
     into: &mut Vec<Spread<'a>>,
@@ -50,7 +54,7 @@ fn add_spreads_of<'a>(
     ensures { OnOk result (to_come into.new.items ≡ spreads_within_one within (selection_tree selection.now) ++ to_come into.old.items) }
 {
     match selection {
-        Selection::Field(field) => add_spreads(field.selections.as_slice(), within, into),
+        Selection::Field(field) => add_spreads(work, field.selections.as_slice(), within, into),
         Selection::Spread { name, .. } => {
             into.push(Spread {
                 name: name.text.as_str(),
@@ -58,7 +62,12 @@ fn add_spreads_of<'a>(
             })?;
             Ok(())
         }
-        Selection::Inline { selections, .. } => add_spreads(selections.as_slice(), within, into),
+        Selection::Inline { selections, .. } => add_spreads(
+            work,
+            selections.as_slice(),
+            within,
+            into,
+        ),
     }
 }
 
@@ -82,6 +91,7 @@ fn mark(marks: &mut Vec<bool>, at: usize)
 
 /// A fragment that wasn't met is met, and its spreads are to be looked at before the others.
 fn enter<'a>(
+    work: Work<'_>,
     fragments: &Indexed<Defined<'a>>,
     one: Met,
     met: &mut Vec<Met>,
@@ -100,13 +110,14 @@ fn enter<'a>(
     met.push(one)?;
     mark(seen, one.number);
     match fragment_of(fragments.items(), one.number) {
-        Some(fragment) => add_spreads(fragment.selections.as_slice(), Some(place), spreads),
+        Some(fragment) => add_spreads(work, fragment.selections.as_slice(), Some(place), spreads),
         None => Ok(()),
     }
 }
 
 /// The walk comes to a fragment, which it enters where it wasn't met.
 fn come_to<'a>(
+    work: Work<'_>,
     fragments: &Indexed<Defined<'a>>,
     one: Met,
     met: &mut Vec<Met>,
@@ -122,11 +133,12 @@ fn come_to<'a>(
     if seen[one.number] {
         return Ok(());
     }
-    enter(fragments, one, met, seen, spreads)
+    enter(work, fragments, one, met, seen, spreads)
 }
 
 /// One step of the walk: a spread is passed over, or its fragment is entered.
 fn look_at<'a>(
+    work: Work<'_>,
     fragments: &Indexed<Defined<'a>>,
     spread: Spread<'a>,
     met: &mut Vec<Met>,
@@ -138,13 +150,14 @@ fn look_at<'a>(
     ensures left { OnOk result (KeepsToCome fragments.now.items.items seen.old.items spreads.old.items seen.new.items spreads.new.items) }
     ensures goes { OnOk result (FollowsSpread fragments.now.items.items met.old.items spread.entry spreads.old.items met.new.items spreads.new.items) }
 {
+    work.take(steps_of_text(spread.name.len()))?;
     match fragment_number(fragments, spread.name) {
         Some(number) => {
             let one = Met {
                 number,
                 within: spread.within,
             };
-            come_to(fragments, one, met, seen, spreads)
+            come_to(work, fragments, one, met, seen, spreads)
         }
         None => Ok(()),
     }
@@ -153,6 +166,7 @@ fn look_at<'a>(
 /// The fragments that selections reach, in the order in which they are first met. It fails for want of memory alone.
 pub fn reach<'a>(
     alloc: Global,
+    work: Work<'_>,
     fragments: &Indexed<Defined<'a>>,
     below: &'a [Selection],
 ) -> Result<Vec<Met>, AllocError>
@@ -161,9 +175,9 @@ pub fn reach<'a>(
     let mut met = Vec::new(alloc);
     let mut seen = blanks(alloc, fragments.items().len())?;
     let mut spreads = Vec::new(alloc);
-    add_spreads(below, None, &mut spreads)?;
+    add_spreads(work, below, None, &mut spreads)?;
     while let Some(spread) = spreads.pop() {
-        look_at(fragments, spread, &mut met, &mut seen, &mut spreads)?;
+        look_at(work, fragments, spread, &mut met, &mut seen, &mut spreads)?;
     }
     Ok(met)
 }

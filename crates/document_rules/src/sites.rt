@@ -9,9 +9,11 @@ ghost use Rattle.document_rules.specs.Sites.{variable_site, sites_in, sites_in_o
 ghost use Rattle.document_rules.specs.Parts.{fragment_data};
 ghost use Rattle.document_rules.specs.Views.{site_data, met_data, defined_data};
 
+use crate::counting::count_parts;
 use crate::indexes::{Defined, fragment_of};
 use crate::lookups::{Meaning, below_field, below_inline, composite_named, meaning_on};
 use crate::met::Met;
+use counted_work::Work;
 use document_reader::{Field, Fragment, Operation, Selection, VariableDef};
 use gql_base::{Directive, Name};
 use input_values::TypeId;
@@ -203,6 +205,7 @@ fn add_fragments<'a>(
 /// want of memory alone.
 pub fn sites_of<'a>(
     alloc: Global,
+    work: Work<'_>,
     schema: &Schema,
     operation: &'a Operation,
     root: TypeId,
@@ -214,5 +217,6 @@ pub fn sites_of<'a>(
     let mut sites = Vec::new(alloc);
     add_operation(schema, operation, root, &mut sites)?;
     add_fragments(schema, defined, met, &mut sites)?;
+    count_parts(work, sites.as_slice())?;
     Ok(sites)
 }

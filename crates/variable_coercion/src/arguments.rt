@@ -15,6 +15,7 @@ ghost use Rattle.variable_coercion.specs.Calls.{AnswersRefusal, AreSomeOf, PutsA
 use crate::faults::ArgFault;
 use crate::values::{VALUE_LIMIT, ValueFault, coerced_literal};
 use crate::variables::Variables;
+use counted_work::Work;
 use gql_base::{Argument, NameIndex, Text, Value, index_of};
 use input_values::places::is_nullable;
 use input_values::{Coerced, InputDef, Scope, copy_value, is_nothing};
@@ -28,6 +29,7 @@ use std::alloc::{AllocError, Global};
 /// isn't known doesn't matter.
 pub fn coerce_arguments(
     alloc: Global,
+    work: Work<'_>,
     schema: &Schema,
     of: FieldId,
     written: &[Argument],
@@ -35,8 +37,9 @@ pub fn coerce_arguments(
 ) -> Result<Args, ArgFault>
     ensures { AnswersRefusal args_data argument_told result (arguments_answer (schema_data schema.now) of.number written.now (environment variables.now)) }
 {
+    work.take(written.len())?;
     let index = index_of(alloc, written)?;
-    all_arguments(alloc, schema, schema.arguments(of), &index, variables)
+    all_arguments(alloc, work, schema, schema.arguments(of), &index, variables)
 }
 
 /// So many arguments without a value.
@@ -65,6 +68,7 @@ fn put_argument(list: &mut Vec<Arg>, place: usize, argument: Arg)
 /// Coerces the argument at a place, and puts it there.
 fn coerce_at(
     alloc: Global,
+    work: Work<'_>,
     schema: &Schema,
     inputs: &[InputDef],
     written: &NameIndex<'_, Argument>,
@@ -76,7 +80,7 @@ fn coerce_at(
     ensures put { (args : List ArgData) → defined_answer (schema_data schema.now) (map input_data inputs.now) written.now.items.now (environment variables.now) ≡ Ok args → length list.old.items ≡ length inputs.now → PutsAt (map arg_data list.old.items) (map arg_data list.new.items) args place result }
 {
     match inputs.get(place) {
-        Some(input) => match coerce_argument(alloc, schema, input, written, variables) {
+        Some(input) => match coerce_argument(alloc, work, schema, input, written, variables) {
             Ok(argument) => {
                 put_argument(list, place, argument);
                 Ok(())
@@ -90,6 +94,7 @@ fn coerce_at(
 /// Of the arguments that a field defines those at some places, beside others without a value, where all of them are coerced.
 pub fn coerce_arguments_at(
     alloc: Global,
+    work: Work<'_>,
     schema: &Schema,
     of: FieldId,
     written: &[Argument],
@@ -98,9 +103,11 @@ pub fn coerce_arguments_at(
 ) -> Result<Args, ArgFault>
     ensures { (args : List ArgData) → arguments_answer (schema_data schema.now) of.number written.now (environment variables.now) ≡ Ok args → AreSomeOf places.now args result }
 {
+    work.take(written.len())?;
     let index = index_of(alloc, written)?;
     arguments_at(
         alloc,
+        work,
         schema,
         schema.arguments(of),
         &index,
@@ -111,6 +118,7 @@ pub fn coerce_arguments_at(
 
 fn arguments_at(
     alloc: Global,
+    work: Work<'_>,
     schema: &Schema,
     inputs: &[InputDef],
     written: &NameIndex<'_, Argument>,
@@ -119,9 +127,13 @@ fn arguments_at(
 ) -> Result<Args, ArgFault>
     ensures { (args : List ArgData) → defined_answer (schema_data schema.now) (map input_data inputs.now) written.now.items.now (environment variables.now) ≡ Ok args → AreSomeOf places.now args result }
 {
+    work.take(inputs.len())?;
+    work.take(places.len())?;
     let mut list = no_arguments(alloc, inputs.len())?;
     'places: for place in places {
-        match coerce_at(alloc, schema, inputs, written, *place, variables, &mut list) {
+        match coerce_at(
+            alloc, work, schema, inputs, written, *place, variables, &mut list,
+        ) {
             Ok(()) => {}
             Err(fault) => return Err(fault),
         }
@@ -132,6 +144,7 @@ fn arguments_at(
 /// The arguments that are defined, in their order, up to the first that is refused.
 fn all_arguments(
     alloc: Global,
+    work: Work<'_>,
     schema: &Schema,
     inputs: &[InputDef],
     written: &NameIndex<'_, Argument>,
@@ -139,9 +152,10 @@ fn all_arguments(
 ) -> Result<Args, ArgFault>
     ensures { AnswersRefusal args_data argument_told result (defined_answer (schema_data schema.now) (map input_data inputs.now) written.now.items.now (environment variables.now)) }
 {
+    work.take(inputs.len())?;
     let mut list = Vec::new(alloc);
     'inputs: for input in inputs {
-        match coerce_argument(alloc, schema, input, written, variables) {
+        match coerce_argument(alloc, work, schema, input, written, variables) {
             Ok(argument) => list.push(argument)?,
             Err(fault) => return Err(fault),
         }
@@ -152,6 +166,7 @@ fn all_arguments(
 /// One argument.
 fn coerce_argument(
     alloc: Global,
+    work: Work<'_>,
     schema: &Schema,
     input: &InputDef,
     written: &NameIndex<'_, Argument>,
@@ -160,14 +175,15 @@ fn coerce_argument(
     ensures { AnswersArgument result (argument_answer (schema_forms schema.now) (input_data input.now) (argument_given (environment variables.now) written.now.items.now input.now.name)) }
 {
     match written.first_named(input.name.as_str()) {
-        Some(argument) => written_argument(alloc, schema, input, &argument.value, variables),
-        None => unsupplied_argument(alloc, input),
+        Some(argument) => written_argument(alloc, work, schema, input, &argument.value, variables),
+        None => unsupplied_argument(alloc, work, input),
     }
 }
 
 /// An argument that is written.
 fn written_argument(
     alloc: Global,
+    work: Work<'_>,
     schema: &Schema,
     input: &InputDef,
     value: &Value,
@@ -179,16 +195,18 @@ fn written_argument(
         types: schema,
         variables: &variables.values,
         limit: VALUE_LIMIT,
+        work,
     };
     if is_nothing(&scope, value) {
-        return unsupplied_argument(alloc, input);
+        return unsupplied_argument(alloc, work, input);
     }
-    supplied_argument(alloc, schema, input, value, variables)
+    supplied_argument(alloc, work, schema, input, value, variables)
 }
 
 /// An argument that is supplied.
 fn supplied_argument(
     alloc: Global,
+    work: Work<'_>,
     schema: &Schema,
     input: &InputDef,
     value: &Value,
@@ -196,7 +214,7 @@ fn supplied_argument(
 ) -> Result<Arg, ArgFault>
     ensures { AnswersArgument result (supplied_answer (schema_forms schema.now) (input_data input.now) (literal_given (environment variables.now) (value_tree value.now))) }
 {
-    let value = coerced_literal(alloc, schema, &variables.values, &input.shape, value);
+    let value = coerced_literal(alloc, work, schema, &variables.values, &input.shape, value);
     match told(alloc, input.name.as_str(), value) {
         Ok(value) => Ok(Arg {
             value,
@@ -207,10 +225,10 @@ fn supplied_argument(
 }
 
 /// An argument that isn't supplied.
-fn unsupplied_argument(alloc: Global, input: &InputDef) -> Result<Arg, ArgFault>
+fn unsupplied_argument(alloc: Global, work: Work<'_>, input: &InputDef) -> Result<Arg, ArgFault>
     ensures { AnswersArgument result (unsupplied_answer (input_data input.now)) }
 {
-    match default_or_none(alloc, input) {
+    match default_or_none(alloc, work, input) {
         Ok(value) => Ok(Arg {
             value,
             supplied: false,
@@ -220,11 +238,15 @@ fn unsupplied_argument(alloc: Global, input: &InputDef) -> Result<Arg, ArgFault>
 }
 
 /// The default of an argument, or none where it may be absent.
-fn default_or_none(alloc: Global, input: &InputDef) -> Result<Option<Coerced>, ArgFault>
+fn default_or_none(
+    alloc: Global,
+    work: Work<'_>,
+    input: &InputDef,
+) -> Result<Option<Coerced>, ArgFault>
     ensures { AnswersRefusal value_data argument_told result (default_or_none (input_data input.now) (input_data input.now).default) }
 {
     match &input.default {
-        Some(default) => Ok(Some(copy_value(alloc, default)?)),
+        Some(default) => Ok(Some(copy_value(alloc, work, default)?)),
         None => no_value(alloc, input.name.as_str(), is_nullable(&input.shape)),
     }
 }

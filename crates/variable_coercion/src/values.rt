@@ -15,6 +15,7 @@ ghost use Rattle.variable_coercion.specs.Refusals.{fitting, value_limit};
 ghost use Rattle.variable_coercion.specs.Calls.{IsTold, AnswersValue, unfit_told};
 
 use crate::json::walk::coerce_json;
+use counted_work::Work;
 use gql_base::{Indexed, Text, Value as Literal, index_owned};
 use input_values::{Coerced, CoercionFault, Scope, Shape, VariableValue, coerce_literal};
 use schema_model::Schema;
@@ -48,6 +49,7 @@ impl From<AllocError> for ValueFault {
 /// What JSON comes to at a place of this shape.
 pub(crate) fn coerced_json(
     alloc: Global,
+    work: Work<'_>,
     schema: &Schema,
     shape: &Shape,
     json: &Value,
@@ -59,6 +61,7 @@ pub(crate) fn coerced_json(
         types: schema,
         variables: &variables,
         limit: VALUE_LIMIT,
+        work,
     };
     let mut count = 0;
     let walked = coerce_json(alloc, &scope, shape, json, &mut count);
@@ -68,6 +71,7 @@ pub(crate) fn coerced_json(
 /// What a literal comes to at a place of this shape, beside the values of variables.
 pub(crate) fn coerced_literal(
     alloc: Global,
+    work: Work<'_>,
     schema: &Schema,
     variables: &Indexed<VariableValue>,
     shape: &Shape,
@@ -79,6 +83,7 @@ pub(crate) fn coerced_literal(
         types: schema,
         variables,
         limit: VALUE_LIMIT,
+        work,
     };
     let mut count = 0;
     let walked = coerce_literal(alloc, &scope, shape, literal, &mut count);
@@ -88,6 +93,7 @@ pub(crate) fn coerced_literal(
 /// What a literal without variables comes to at a place of this shape.
 pub(crate) fn coerced_default(
     alloc: Global,
+    work: Work<'_>,
     schema: &Schema,
     shape: &Shape,
     literal: &Literal,
@@ -95,7 +101,7 @@ pub(crate) fn coerced_default(
     ensures { AnswersValue result (fitting (coerced (schema_forms schema.now) (literal_given no_variables (value_tree literal.now)) (shape_tree shape.now))) }
 {
     let none = index_owned(alloc, Vec::new(alloc))?;
-    coerced_literal(alloc, schema, &none, shape, literal)
+    coerced_literal(alloc, work, schema, &none, shape, literal)
 }
 
 /// What was coerced, where it isn't too large.

@@ -15,6 +15,7 @@ ghost use Rattle.variable_coercion.specs.Calls.{AnswersRefusal, unfit_told, vari
 use crate::faults::CoerceFault;
 use crate::shapes::shape_in;
 use crate::values::{ValueFault, coerced_default, coerced_json};
+use counted_work::{Work, steps_of_text};
 use document_reader::{Operation, VariableDef};
 use gql_base::{Indexed, Text, Value as Literal, index_owned};
 use input_values::places::is_nullable;
@@ -56,16 +57,17 @@ impl Variables {
 /// JSON, by the names without the `$`; what is no object gives nothing. Names that aren't declared don't matter.
 ///
 /// It asks that the types of the variables are input types of the schema. At a type that the schema doesn't have no value
-/// but null coerces.
+/// but null coerces. It fails as for want of memory where too few steps are left.
 pub fn coerce_variables(
     alloc: Global,
+    work: Work<'_>,
     schema: &Schema,
     of: &Operation,
     given: &Value,
 ) -> Result<Variables, CoerceFault>
     ensures { AnswersRefusal variables_data variable_told result (variables_answer (schema_data schema.now) of.now.variables.items (view given.now)) }
 {
-    let values = all_values(alloc, schema, of.variables.as_slice(), given)?;
+    let values = all_values(alloc, work, schema, of.variables.as_slice(), given)?;
     Ok(Variables {
         values: index_owned(alloc, values)?,
     })
@@ -74,15 +76,17 @@ pub fn coerce_variables(
 /// The variables in their order, up to the first that is refused.
 fn all_values(
     alloc: Global,
+    work: Work<'_>,
     schema: &Schema,
     variables: &[VariableDef],
     given: &Value,
 ) -> Result<Vec<VariableValue>, CoerceFault>
     ensures { AnswersRefusal (λ vs. map variable_data vs.items) variable_told result (variables_answer (schema_data schema.now) variables.now (view given.now)) }
 {
+    work.take(variables.len())?;
     let mut values = Vec::new(alloc);
     'variables: for variable in variables {
-        match coerce_variable(alloc, schema, variable, given) {
+        match coerce_variable(alloc, work, schema, variable, given) {
             Ok(value) => values.push(value)?,
             Err(fault) => return Err(fault),
         }
@@ -93,15 +97,18 @@ fn all_values(
 /// One variable.
 fn coerce_variable(
     alloc: Global,
+    work: Work<'_>,
     schema: &Schema,
     variable: &VariableDef,
     given: &Value,
 ) -> Result<VariableValue, CoerceFault>
     ensures { AnswersRefusal variable_data variable_told result (variable_answer (schema_forms schema.now) (view given.now) (declared_of (schema_data schema.now) variable.now)) }
 {
+    work.take(steps_of_text(variable.name.text.as_str().len()))?;
     let name = Text::copy_of(alloc, variable.name.text.as_str())?;
     match coerce_value(
         alloc,
+        work,
         schema,
         variable,
         given.get(variable.name.text.as_str()),
@@ -114,6 +121,7 @@ fn coerce_variable(
 /// The value of a variable: what is given for it, or else its default.
 fn coerce_value(
     alloc: Global,
+    work: Work<'_>,
     schema: &Schema,
     variable: &VariableDef,
     given: Option<&Value>,
@@ -123,12 +131,12 @@ fn coerce_value(
     let shape = shape_in(alloc, schema, true, &variable.of)?;
     match given {
         Some(json) => {
-            let value = coerced_json(alloc, schema, &shape, json);
+            let value = coerced_json(alloc, work, schema, &shape, json);
             told(alloc, variable.name.text.as_str(), value)
         }
         None => {
             let name = variable.name.text.as_str();
-            default_value(alloc, schema, name, &shape, &variable.default)
+            default_value(alloc, work, schema, name, &shape, &variable.default)
         }
     }
 }
@@ -136,6 +144,7 @@ fn coerce_value(
 /// The default of a variable of this name and shape, or none.
 fn default_value(
     alloc: Global,
+    work: Work<'_>,
     schema: &Schema,
     name: &str,
     shape: &Shape,
@@ -144,7 +153,10 @@ fn default_value(
     ensures { AnswersRefusal value_data variable_told result (default_answer (schema_forms schema.now) name.now (shape_tree shape.now) (maybe_value default.now)) }
 {
     match default {
-        Some(literal) => told(alloc, name, coerced_default(alloc, schema, shape, literal)),
+        Some(literal) => {
+            let value = coerced_default(alloc, work, schema, shape, literal);
+            told(alloc, name, value)
+        },
         None => no_value(alloc, name, is_nullable(shape)),
     }
 }

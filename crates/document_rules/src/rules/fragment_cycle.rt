@@ -10,6 +10,7 @@ use crate::indexes::{Defined, fragment_number};
 use crate::met::Met;
 use crate::site_rule::{SiteRule, fault_where};
 use crate::sites::Site;
+use counted_work::Work;
 use gql_base::Indexed;
 use std::alloc::{AllocError, Global};
 
@@ -24,11 +25,12 @@ fn met_there(met: &[Met], within: Option<usize>) -> Option<Met>
 }
 
 /// Whether the walk is inside of the fragment of a number, where it is in the one at a place.
-fn is_inside_of(met: &[Met], within: Option<usize>, number: usize) -> bool
+fn is_inside_of(work: Work<'_>, met: &[Met], within: Option<usize>, number: usize) -> bool
     ensures { result ≡ list_any (nat_eq number) (inside_at (map met_data met.now) within) }
 {
     let mut at = within;
     for _step in 0..met.len() {
+        work.count(1);
         let Some(one) = met_there(met, at) else {
             return false;
         };
@@ -40,11 +42,11 @@ fn is_inside_of(met: &[Met], within: Option<usize>, number: usize) -> bool
     false
 }
 
-fn is_inside(met: &[Met], within: Option<usize>, number: Option<usize>) -> bool
+fn is_inside(work: Work<'_>, met: &[Met], within: Option<usize>, number: Option<usize>) -> bool
     ensures { result ≡ is_inside (inside_at (map met_data met.now) within) number }
 {
     match number {
-        Some(number) => is_inside_of(met, within, number),
+        Some(number) => is_inside_of(work, met, within, number),
         None => false,
     }
 }
@@ -54,6 +56,7 @@ fn is_inside(met: &[Met], within: Option<usize>, number: Option<usize>) -> bool
 pub struct FragmentCycle<'c, 'a> {
     pub fragments: &'c Indexed<Defined<'a>>,
     pub met: &'c [Met],
+    pub work: Work<'c>,
 }
 
 impl<'c, 'a> SiteRule for FragmentCycle<'c, 'a> {
@@ -67,7 +70,8 @@ impl<'c, 'a> SiteRule for FragmentCycle<'c, 'a> {
         match site {
             Site::Spread { within, name, .. } => {
                 let number = fragment_number(self.fragments, name.text.as_str());
-                Ok(fault_where(is_inside(self.met, within, number), name.at))
+                let inside = is_inside(self.work, self.met, within, number);
+                Ok(fault_where(inside, name.at))
             }
             _ => Ok(None),
         }

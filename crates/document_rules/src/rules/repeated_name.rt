@@ -6,12 +6,14 @@ ghost use Rattle.document_rules.specs.Parts.{operations_of, fragments_of, repeat
 ghost use Rattle.document_rules.specs.Rules.{operation_names, name_of_fragment, earlier, repeated_name};
 ghost use Rattle.document_rules.specs.Views.{seen_name};
 
+use counted_work::{Work, steps_of_text};
 use document_reader::Definition;
 use gql_base::{Name, first_repeated};
 use std::alloc::{AllocError, Global};
 
 fn operation_names<'a>(
     alloc: Global,
+    work: Work<'_>,
     definitions: &'a [Definition],
 ) -> Result<Vec<&'a Name>, AllocError>
     ensures { IfOk result (λ names. map seen_name names.items ≡ operation_names (operations_of definitions.now)) }
@@ -20,6 +22,7 @@ fn operation_names<'a>(
     for definition in definitions {
         if let Definition::Op(operation) = definition {
             if let Some(name) = &operation.name {
+                work.take(steps_of_text(name.text.as_str().len()))?;
                 names.push(name)?;
             }
         }
@@ -29,6 +32,7 @@ fn operation_names<'a>(
 
 fn fragment_names<'a>(
     alloc: Global,
+    work: Work<'_>,
     definitions: &'a [Definition],
 ) -> Result<Vec<&'a Name>, AllocError>
     ensures { IfOk result (λ names. map seen_name names.items ≡ map name_of_fragment (fragments_of definitions.now)) }
@@ -36,6 +40,7 @@ fn fragment_names<'a>(
     let mut names = Vec::new(alloc);
     for definition in definitions {
         if let Definition::Frag(fragment) = definition {
+            work.take(steps_of_text(fragment.name.text.as_str().len()))?;
             names.push(&fragment.name)?;
         }
     }
@@ -63,12 +68,17 @@ fn earlier(one: Option<usize>, other: Option<usize>) -> Option<usize>
 }
 
 /// The offset of the first name of an operation or of a fragment that another one before it has.
-pub fn repeated_name(alloc: Global, definitions: &[Definition]) -> Result<Option<usize>, AllocError>
+pub fn repeated_name(
+    alloc: Global,
+    work: Work<'_>,
+    definitions: &[Definition],
+) -> Result<Option<usize>, AllocError>
     ensures { IfOk result (λ at. at ≡ repeated_name definitions.now) }
 {
-    let operations = operation_names(alloc, definitions)?;
+    work.take(definitions.len())?;
+    let operations = operation_names(alloc, work, definitions)?;
     let operation = repeated_at(alloc, operations.as_slice())?;
-    let fragments = fragment_names(alloc, definitions)?;
+    let fragments = fragment_names(alloc, work, definitions)?;
     let fragment = repeated_at(alloc, fragments.as_slice())?;
     Ok(earlier(operation, fragment))
 }

@@ -21,6 +21,7 @@ use crate::indexes::{Declared, variable_named};
 use crate::lookups::{Inputs, Meaning, input_named};
 use crate::site_rule::{SiteRule, fault_where};
 use crate::sites::Site;
+use counted_work::Work;
 use document_reader::VariableDef;
 use gql_base::{Argument, Directive, Indexed, Name, TypeRef, Value};
 use input_values::places::innermost;
@@ -34,6 +35,7 @@ use std::alloc::{AllocError, Global};
 pub struct VariablePlace<'c, 'a> {
     pub schema: &'c Schema,
     pub variables: &'c Indexed<Declared<'a>>,
+    pub work: Work<'c>,
 }
 
 fn null_fits(never_null: bool, nullable: bool) -> bool
@@ -141,6 +143,7 @@ fn in_value(
 ) -> Option<usize>
     ensures { result ≡ misplaced_among (schema_of rule.now) (variables_of rule.now) (λ s. uses_in s (shape_tree place.now) has_default (value_tree value.now)) }
 {
+    rule.work.count(1);
     match value {
         Value::Var(name) => misplaced(rule, place, has_default, name),
         Value::List(items) => in_list(items.as_slice(), rule, place),

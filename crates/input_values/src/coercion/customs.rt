@@ -6,7 +6,7 @@ ghost use Rattle.gql_base.specs.names.Names.{are_distinct};
 ghost use Rattle.gql_base.specs.parts.Trees.{value_tree};
 ghost use Rattle.input_values.specs.values.Coerced.{coerced_object};
 ghost use Rattle.input_values.specs.coercion.Answers.{mapped};
-ghost use Rattle.input_values.specs.coercion.Given.{given_list, given_object};
+ghost use Rattle.input_values.specs.coercion.Given.{given_string, given_name, given_list, given_object};
 ghost use Rattle.input_values.specs.coercion.Customs.{any_value, any_fields};
 ghost use Rattle.input_values.specs.coercion.Literals.{no_variables, literal_given, literal_items, literal_fields};
 ghost use Rattle.input_values.specs.coercion.Sizes.{items_written, fields_written, names_written};
@@ -17,6 +17,7 @@ use crate::coercion::faults::{CoercionFault, bad_value};
 use crate::coercion::leaves::{boolean, enum_value, integer, null, string};
 use crate::values::coerced::Coerced;
 use crate::values::counting::count_node;
+use counted_work::{Work, steps_of_text};
 use gql_base::{Argument, Value, index_of};
 use std::alloc::{AllocError, Global};
 
@@ -25,28 +26,59 @@ use std::alloc::{AllocError, Global};
 #[tactic(auto, using(crate::proofs::CoercionSteps::Literals::literal_trees))]
 fn any_literal(
     alloc: Global,
+    work: Work<'_>,
     value: &Value,
     limit: u32,
     count: &mut u64,
 ) -> Result<Option<Coerced>, CoercionFault>
     ensures { Coerces limit count.old count.new result (any_value (literal_given no_variables (value_tree value.now))) }
 {
+    work.take(1)?;
     match value {
         Value::Var(_) => Err(bad_value(alloc)),
         Value::Int(number) => integer(*number, limit, count),
-        Value::Str(text) => string(alloc, text.as_str(), limit, count),
+        Value::Str(text) => any_string(alloc, work, text.as_str(), limit, count),
         Value::Bool(truth) => boolean(*truth, limit, count),
         Value::Null => null(limit, count),
-        Value::EnumName(name) => enum_value(alloc, name.text.as_str(), limit, count),
-        Value::List(items) => any_list(alloc, items.as_slice(), limit, count),
-        Value::Object(fields) => any_object(alloc, fields.as_slice(), limit, count),
+        Value::EnumName(name) => any_name(alloc, work, name.text.as_str(), limit, count),
+        Value::List(items) => any_list(alloc, work, items.as_slice(), limit, count),
+        Value::Object(fields) => any_object(alloc, work, fields.as_slice(), limit, count),
     }
+}
+
+/// A string. Its length is counted.
+fn any_string(
+    alloc: Global,
+    work: Work<'_>,
+    text: &str,
+    limit: u32,
+    count: &mut u64,
+) -> Result<Option<Coerced>, CoercionFault>
+    ensures { Coerces limit count.old count.new result (any_value (given_string text.now)) }
+{
+    work.take(steps_of_text(text.len()))?;
+    string(alloc, text, limit, count)
+}
+
+/// A name. Its length is counted.
+fn any_name(
+    alloc: Global,
+    work: Work<'_>,
+    name: &str,
+    limit: u32,
+    count: &mut u64,
+) -> Result<Option<Coerced>, CoercionFault>
+    ensures { Coerces limit count.old count.new result (any_value (given_name name.now)) }
+{
+    work.take(steps_of_text(name.len()))?;
+    enum_value(alloc, name, limit, count)
 }
 
 /// A list of any values.
 #[cycle(any)]
 pub(crate) fn any_list(
     alloc: Global,
+    work: Work<'_>,
     items: &[Value],
     limit: u32,
     count: &mut u64,
@@ -56,7 +88,7 @@ pub(crate) fn any_list(
     count_node(limit, count);
     let mut built = Vec::new(alloc);
     'items: for item in items {
-        let value = any_literal(alloc, item, limit, count)?;
+        let value = any_literal(alloc, work, item, limit, count)?;
         push_item(&mut built, value)?;
     }
     Ok(list_within(built, limit, *count))
@@ -66,14 +98,16 @@ pub(crate) fn any_list(
 #[cycle(any)]
 pub(crate) fn any_object(
     alloc: Global,
+    work: Work<'_>,
     fields: &[Argument],
     limit: u32,
     count: &mut u64,
 ) -> Result<Option<Coerced>, CoercionFault>
     ensures { Coerces limit count.old count.new result (any_value (given_object false (literal_fields no_variables (fields_written fields.now)))) }
 {
+    work.take(fields.len())?;
     if are_distinct(alloc, fields)? {
-        any_fields(alloc, fields, limit, count)
+        any_fields(alloc, work, fields, limit, count)
     } else {
         Err(bad_value(alloc))
     }
@@ -83,6 +117,7 @@ pub(crate) fn any_object(
 #[cycle(any)]
 fn any_fields(
     alloc: Global,
+    work: Work<'_>,
     fields: &[Argument],
     limit: u32,
     count: &mut u64,
@@ -92,7 +127,8 @@ fn any_fields(
     count_node(limit, count);
     let mut built = Vec::new(alloc);
     'fields: for field in fields {
-        match any_literal(alloc, &field.value, limit, count) {
+        work.take(steps_of_text(field.name.text.as_str().len()))?;
+        match any_literal(alloc, work, &field.value, limit, count) {
             Ok(value) => push_field(alloc, &mut built, field.name.text.as_str(), value)?,
             Err(fault) => return Err(fault),
         }

@@ -11,6 +11,7 @@ use crate::values::coerced::Coerced;
 use crate::values::copies::copy_value;
 use crate::values::counting::{count_no_node, count_node, count_nodes, is_null};
 use crate::values::made;
+use counted_work::Work;
 use gql_base::Text;
 use std::alloc::Global;
 
@@ -82,6 +83,7 @@ pub fn enum_value(
 /// A copy of a coerced value. Past the limit the value isn't looked at.
 pub fn copied(
     alloc: Global,
+    work: Work<'_>,
     value: &Coerced,
     limit: u32,
     count: &mut u64,
@@ -92,11 +94,13 @@ pub fn copied(
         count_no_node(limit, count);
         return Ok(None);
     }
+    let before = *count;
     count_nodes(value, limit, count);
+    work.take(count.saturating_sub(before) as usize)?;
     if *count > u64::from(limit) {
         return Ok(None);
     }
-    Ok(Some(copy_value(alloc, value)?))
+    Ok(Some(copy_value(alloc, work, value)?))
 }
 
 /// Null, where it may stand.
@@ -118,6 +122,7 @@ pub fn null_at(
 /// The value of a variable, as it is; null only where it may stand.
 pub fn held_at(
     alloc: Global,
+    work: Work<'_>,
     value: &Coerced,
     nullable: bool,
     limit: u32,
@@ -128,5 +133,5 @@ pub fn held_at(
     if is_null(value) && !nullable {
         return Err(bad_value(alloc));
     }
-    copied(alloc, value, limit, count)
+    copied(alloc, work, value, limit, count)
 }

@@ -28,11 +28,13 @@ use crate::inputs::shape::{Shape, TypeId};
 use crate::inputs::types::{Absence, InputField, InputKind, InputTypes};
 use crate::values::coerced::{Coerced, CoercedField};
 use crate::values::counting::{count_no_node, count_node};
+use counted_work::{Work, steps_of_text};
 use gql_base::{Argument, NameIndex, Named, Value, index_of};
 use std::alloc::{AllocError, Global};
 use std::collections::BTreeMap;
 
-/// A literal at a place of this shape. Past the limit nothing more is built, and the walk goes on for what is refused.
+/// A literal at a place of this shape. Past the limit nothing more is built, and the walk goes on for what is refused. Each literal in it is a step, and so
+/// are the fields of its objects and of their types.
 #[cycle(literals)]
 #[tactic(auto, using(crate::proofs::CoercionSteps::Literals::literal_trees))]
 pub fn coerce_literal<T: InputTypes>(
@@ -44,6 +46,7 @@ pub fn coerce_literal<T: InputTypes>(
 ) -> Result<Option<Coerced>, CoercionFault>
     ensures { Coerces scope.now.limit count.old count.new result (written_value (T.forms scope.now.types.now) scope.now.variables.now.items.items value.now shape.now) }
 {
+    scope.work.take(1)?;
     match value {
         Value::Var(name) => coerce_variable(alloc, scope, shape, name.text.as_str(), count),
         Value::Int(number) => coerce_integer(alloc, scope, shape, *number, count),
@@ -67,7 +70,14 @@ fn coerce_variable<T: InputTypes>(
     ensures { Coerces scope.now.limit count.old count.new result (coerced (T.forms scope.now.types.now) (variable_given (values_of scope.now.variables.now.items.items name.now)) (shape_tree shape.now)) }
 {
     match value_of(scope.variables, name) {
-        Some(value) => held_at(alloc, value, is_nullable(shape), scope.limit, count),
+        Some(value) => held_at(
+            alloc,
+            scope.work,
+            value,
+            is_nullable(shape),
+            scope.limit,
+            count,
+        ),
         None => null_at(alloc, is_nullable(shape), scope.limit, count),
     }
 }
@@ -103,6 +113,7 @@ fn coerce_string<T: InputTypes>(
 ) -> Result<Option<Coerced>, CoercionFault>
     ensures { Coerces scope.now.limit count.old count.new result (coerced (T.forms scope.now.types.now) (given_string text.now) (shape_tree shape.now)) }
 {
+    scope.work.take(steps_of_text(text.len()))?;
     let inner = string_at(
         alloc,
         scope.types,
@@ -145,6 +156,7 @@ fn coerce_name<T: InputTypes>(
 ) -> Result<Option<Coerced>, CoercionFault>
     ensures { Coerces scope.now.limit count.old count.new result (coerced (T.forms scope.now.types.now) (given_name name.now) (shape_tree shape.now)) }
 {
+    scope.work.take(steps_of_text(name.len()))?;
     let inner = name_at(
         alloc,
         scope.types,
@@ -184,7 +196,7 @@ fn custom_list<T: InputTypes>(
     ensures { Coerces scope.now.limit count.old count.new result (custom_at (T.forms scope.now.types.now of.number) (any_value (given_list (literal_items no_variables (items_written items.now))))) }
 {
     match scope.types.kind(of) {
-        InputKind::Custom => any_list(alloc, items, scope.limit, count),
+        InputKind::Custom => any_list(alloc, scope.work, items, scope.limit, count),
         InputKind::Int => Err(bad_value(alloc)),
         InputKind::String => Err(bad_value(alloc)),
         InputKind::Boolean => Err(bad_value(alloc)),
@@ -247,7 +259,7 @@ fn object_at<T: InputTypes>(
 {
     match scope.types.kind(of) {
         InputKind::Object => input_object(alloc, scope, of, fields, count),
-        InputKind::Custom => any_object(alloc, fields, scope.limit, count),
+        InputKind::Custom => any_object(alloc, scope.work, fields, scope.limit, count),
         InputKind::Int => Err(bad_value(alloc)),
         InputKind::String => Err(bad_value(alloc)),
         InputKind::Boolean => Err(bad_value(alloc)),
@@ -268,7 +280,7 @@ fn input_object<T: InputTypes>(
 ) -> Result<Option<Coerced>, CoercionFault>
     ensures { Coerces scope.now.limit count.old count.new result (written_input (T.forms scope.now.types.now) scope.now.variables.now.items.items of.number fields.now) }
 {
-    match wrong_name(alloc, scope.types, of, fields)? {
+    match wrong_name(alloc, scope.work, scope.types, of, fields)? {
         Some(name) => Err(bad_value(alloc).at_key(alloc, name)),
         None => coerce_fields(alloc, scope, of, &index_of(alloc, fields)?, count),
     }
@@ -277,15 +289,18 @@ fn input_object<T: InputTypes>(
 /// The first name that is no field's, or that is written a second time.
 fn wrong_name<'a, T: InputTypes>(
     alloc: Global,
+    work: Work<'_>,
     types: &T,
     of: TypeId,
     fields: &'a [Argument],
 ) -> Result<Option<&'a str>, AllocError>
     ensures { IfOk result (λ name. option_map (λ n. n.now) name ≡ wrong_name false (fields_of (T.forms types.now of.number)) [] (names_written fields.now)) }
 {
+    work.take(fields.len())?;
     let mut seen = BTreeMap::new(alloc);
     for at in 0..fields.len() {
         let name = fields[at].name();
+        work.take(steps_of_text(name.len()))?;
         let before = seen.insert(name, at)?;
         let again = before.is_some();
         let known = types.has_field(of, name);
@@ -307,6 +322,7 @@ fn coerce_fields<T: InputTypes>(
 ) -> Result<Option<Coerced>, CoercionFault>
     ensures { Coerces scope.now.limit count.old count.new result (mapped coerced_object (written_fields (T.forms scope.now.types.now) scope.now.variables.now.items.items of.number given.now.items.now 0)) }
 {
+    scope.work.take(scope.types.field_count(of))?;
     count_node(scope.limit, count);
     let mut built = Vec::new(alloc);
     'inputs: for at in 0..scope.types.field_count(of) {
@@ -353,7 +369,7 @@ fn coerce_field<T: InputTypes>(
 {
     match given.first_named(input.name) {
         Some(field) => written_field(alloc, scope, input, &field.value, count),
-        None => absent_field(alloc, input.absence, scope.limit, count),
+        None => absent_field(alloc, scope.work, input.absence, scope.limit, count),
     }
 }
 
@@ -369,7 +385,7 @@ fn written_field<T: InputTypes>(
     ensures { CoercesField scope.now.limit count.old count.new result (written_as (T.forms scope.now.types.now) scope.now.variables.now.items.items (field_seen input.now) value.now) }
 {
     if is_nothing(scope, value) {
-        return absent_field(alloc, input.absence, scope.limit, count);
+        return absent_field(alloc, scope.work, input.absence, scope.limit, count);
     }
     coerce_literal(alloc, scope, input.shape, value, count)
 }
@@ -394,6 +410,7 @@ pub fn is_nothing<T: InputTypes>(scope: &Scope<'_, T>, value: &Value) -> bool
 /// A field for which nothing is given.
 pub fn absent_field(
     alloc: Global,
+    work: Work<'_>,
     absence: Absence<'_>,
     limit: u32,
     count: &mut u64,
@@ -401,7 +418,7 @@ pub fn absent_field(
     ensures { CoercesField limit count.old count.new result (absent_at (absence_seen absence.entry)) }
 {
     match absence {
-        Absence::Default(default) => copied(alloc, default, limit, count),
+        Absence::Default(default) => copied(alloc, work, default, limit, count),
         Absence::Nothing => {
             count_no_node(limit, count);
             Ok(None)

@@ -7,14 +7,16 @@ ghost use Rattle.input_values.specs.coercion.Literals.{values_of};
 use crate::coercion::variables::VariableValue;
 use crate::inputs::types::InputTypes;
 use crate::values::coerced::Coerced;
+use counted_work::Work;
 use gql_base::Indexed;
 
-/// The types of a schema, the values of variables, and the greatest number of nodes that is built.
+/// The types of a schema, the values of variables, the greatest number of nodes that is built, and the steps that may still be taken.
 #[derive(Clone, Copy)]
 pub struct Scope<'a, T: InputTypes> {
     pub types: &'a T,
     pub variables: &'a Indexed<VariableValue>,
     pub limit: u32,
+    pub work: Work<'a>,
 }
 
 /// The value of a variable, by its name; none where it has no value.

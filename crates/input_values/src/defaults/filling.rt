@@ -16,6 +16,7 @@ use crate::inputs::shape::Shape;
 use crate::inputs::types::InputTypes;
 use crate::values::coerced::Coerced;
 use crate::values::made;
+use counted_work::Work;
 use gql_base::{Value, index_owned};
 use std::alloc::{AllocError, Global};
 use thiserror::Error;
@@ -59,6 +60,7 @@ pub fn coerce_default<T: InputTypes>(
         types,
         variables: &variables,
         limit: DEFAULT_LIMIT,
+        work: Work::free(),
     };
     let mut count = 0;
     match coerce_literal(alloc, &scope, shape, literal, &mut count) {

@@ -2,11 +2,12 @@
 
 ghost use Rattle.std.specs.Prelude.{◌≡◌, true};
 ghost use Rattle.serde_json.specs.View.{view, items_view, members_view};
-ghost use Rattle.input_values.specs.coercion.Given.{given_list, given_object};
+ghost use Rattle.input_values.specs.coercion.Given.{given_text, given_list, given_object};
 ghost use Rattle.input_values.specs.coercion.Customs.{any_value};
 ghost use Rattle.input_values.specs.coercion.Calls.{Coerces};
 ghost use Rattle.variable_coercion.specs.Json.{json_given, json_items, json_members};
 
+use counted_work::{Work, steps_of_text};
 use input_values::building::{list_within, object_within, push_field, push_item};
 use input_values::leaves::{boolean, integer, null, string};
 use input_values::{Coerced, CoercionFault, bad_value, count_node};
@@ -17,12 +18,14 @@ use std::alloc::Global;
 #[cycle(any)]
 fn any_json(
     alloc: Global,
+    work: Work<'_>,
     value: &Value,
     limit: u32,
     count: &mut u64,
 ) -> Result<Option<Coerced>, CoercionFault>
     ensures { Coerces limit count.old count.new result (any_value (json_given (view value.now))) }
 {
+    work.take(1)?;
     match value {
         Value::Null => null(limit, count),
         Value::Bool(truth) => boolean(*truth, limit, count),
@@ -30,16 +33,31 @@ fn any_json(
             Some(whole) => integer(whole, limit, count),
             None => Err(bad_value(alloc)),
         },
-        Value::String(text) => string(alloc, text.as_str(), limit, count),
-        Value::Array(items) => any_array(alloc, items.as_slice(), limit, count),
-        Value::Object(members) => any_members(alloc, members, limit, count),
+        Value::String(text) => any_text(alloc, work, text.as_str(), limit, count),
+        Value::Array(items) => any_array(alloc, work, items.as_slice(), limit, count),
+        Value::Object(members) => any_members(alloc, work, members, limit, count),
     }
+}
+
+/// A string. Its length is counted.
+fn any_text(
+    alloc: Global,
+    work: Work<'_>,
+    text: &str,
+    limit: u32,
+    count: &mut u64,
+) -> Result<Option<Coerced>, CoercionFault>
+    ensures { Coerces limit count.old count.new result (any_value (given_text text.now)) }
+{
+    work.take(steps_of_text(text.len()))?;
+    string(alloc, text, limit, count)
 }
 
 /// A list of any values.
 #[cycle(any)]
 pub(crate) fn any_array(
     alloc: Global,
+    work: Work<'_>,
     items: &[Value],
     limit: u32,
     count: &mut u64,
@@ -49,7 +67,7 @@ pub(crate) fn any_array(
     count_node(limit, count);
     let mut built = Vec::new(alloc);
     'items: for item in items {
-        let value = any_json(alloc, item, limit, count)?;
+        let value = any_json(alloc, work, item, limit, count)?;
         push_item(&mut built, value)?;
     }
     Ok(list_within(built, limit, *count))
@@ -59,6 +77,7 @@ pub(crate) fn any_array(
 #[cycle(any)]
 pub(crate) fn any_members(
     alloc: Global,
+    work: Work<'_>,
     members: &Map<String, Value>,
     limit: u32,
     count: &mut u64,
@@ -68,7 +87,8 @@ pub(crate) fn any_members(
     count_node(limit, count);
     let mut built = Vec::new(alloc);
     'members: for (name, member) in members.iter() {
-        let value = any_json(alloc, member, limit, count)?;
+        work.take(steps_of_text(name.len()))?;
+        let value = any_json(alloc, work, member, limit, count)?;
         push_field(alloc, &mut built, name.as_str(), value)?;
     }
     Ok(object_within(built, limit, *count))

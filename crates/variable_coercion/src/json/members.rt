@@ -5,6 +5,7 @@ ghost use Rattle.serde_json.specs.Find.{get_member};
 ghost use Rattle.serde_json.specs.View.{view, members_view};
 ghost use Rattle.variable_coercion.specs.Members.{unknown_member};
 
+use counted_work::{Work, steps_of_text};
 use input_values::{InputTypes, TypeId};
 use serde_json::{Map, Value};
 
@@ -17,6 +18,7 @@ pub(crate) fn member<'a>(members: &'a Map<String, Value>, name: &str) -> Option<
 
 /// The first name of an object that is no field's.
 pub(crate) fn unknown_name<'a, T: InputTypes>(
+    work: Work<'_>,
     types: &T,
     of: TypeId,
     members: &'a Map<String, Value>,
@@ -24,6 +26,7 @@ pub(crate) fn unknown_name<'a, T: InputTypes>(
     ensures { option_map (λ n. n.now) result ≡ unknown_member (T.forms types.now) (members_view members.now.entries) of.number }
 {
     'names: for (name, _value) in members.iter() {
+        work.count(steps_of_text(name.len()));
         if !types.has_field(of, name.as_str()) {
             return Some(name.as_str());
         }

@@ -18,6 +18,7 @@ ghost use Rattle.variable_coercion.specs.Members.{members_at_type, members_from,
 
 use crate::json::customs::{any_array, any_members};
 use crate::json::members::{member, unknown_name};
+use counted_work::steps_of_text;
 use input_values::building::{list_within, object_within, push_field, push_item};
 use input_values::kinds::{boolean_at, integer_at, text_at};
 use input_values::leaves::null_at;
@@ -40,6 +41,7 @@ pub(crate) fn coerce_json<T: InputTypes>(
 ) -> Result<Option<Coerced>, CoercionFault>
     ensures { Coerces scope.now.limit count.old count.new result (coerced (T.forms scope.now.types.now) (json_given (view value.now)) (shape_tree shape.now)) }
 {
+    scope.work.take(1)?;
     match value {
         Value::Null => null_at(alloc, is_nullable(shape), scope.limit, count),
         Value::Bool(truth) => coerce_boolean(alloc, scope, shape, *truth, count),
@@ -107,6 +109,7 @@ fn coerce_text<T: InputTypes>(
     ensures { Coerces scope.now.limit count.old count.new result (coerced (T.forms scope.now.types.now) (given_text text.now) (shape_tree shape.now)) }
 {
     let of = innermost(shape);
+    scope.work.take(steps_of_text(text.len()))?;
     let inner = text_at(alloc, scope.types, of, text, scope.limit, count);
     wrapped(alloc, shape, inner, scope.limit, count)
 }
@@ -139,7 +142,7 @@ fn custom_array<T: InputTypes>(
     ensures { Coerces scope.now.limit count.old count.new result (custom_at (T.forms scope.now.types.now of.number) (any_value (given_list (json_items (items_view items.now))))) }
 {
     match scope.types.kind(of) {
-        InputKind::Custom => any_array(alloc, items, scope.limit, count),
+        InputKind::Custom => any_array(alloc, scope.work, items, scope.limit, count),
         InputKind::Int => Err(bad_value(alloc)),
         InputKind::String => Err(bad_value(alloc)),
         InputKind::Boolean => Err(bad_value(alloc)),
@@ -202,7 +205,7 @@ fn object_at<T: InputTypes>(
 {
     match scope.types.kind(of) {
         InputKind::Object => input_object(alloc, scope, of, members, count),
-        InputKind::Custom => any_members(alloc, members, scope.limit, count),
+        InputKind::Custom => any_members(alloc, scope.work, members, scope.limit, count),
         InputKind::Int => Err(bad_value(alloc)),
         InputKind::String => Err(bad_value(alloc)),
         InputKind::Boolean => Err(bad_value(alloc)),
@@ -223,7 +226,8 @@ fn input_object<T: InputTypes>(
 ) -> Result<Option<Coerced>, CoercionFault>
     ensures { Coerces scope.now.limit count.old count.new result (members_as_input (T.forms scope.now.types.now) (members_view members.now.entries) of.number) }
 {
-    match unknown_name(scope.types, of, members) {
+    scope.work.take(members.len())?;
+    match unknown_name(scope.work, scope.types, of, members) {
         Some(name) => Err(bad_value(alloc).at_key(alloc, name)),
         None => coerce_fields(alloc, scope, of, members, count),
     }
@@ -240,6 +244,7 @@ fn coerce_fields<T: InputTypes>(
 ) -> Result<Option<Coerced>, CoercionFault>
     ensures { Coerces scope.now.limit count.old count.new result (mapped coerced_object (members_from (T.forms scope.now.types.now) (members_view members.now.entries) of.number 0)) }
 {
+    scope.work.take(scope.types.field_count(of))?;
     count_node(scope.limit, count);
     let mut built = Vec::new(alloc);
     'inputs: for at in 0..scope.types.field_count(of) {
@@ -286,6 +291,6 @@ fn coerce_field<T: InputTypes>(
 {
     match member(members, input.name) {
         Some(value) => coerce_json(alloc, scope, input.shape, value, count),
-        None => absent_field(alloc, input.absence, scope.limit, count),
+        None => absent_field(alloc, scope.work, input.absence, scope.limit, count),
     }
 }
