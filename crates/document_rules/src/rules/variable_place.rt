@@ -21,7 +21,7 @@ use crate::indexes::{Declared, variable_named};
 use crate::lookups::{Inputs, Meaning, input_named};
 use crate::site_rule::{SiteRule, fault_where};
 use crate::sites::Site;
-use counted_work::Work;
+use counted_work::{Work, steps_of_text};
 use document_reader::VariableDef;
 use gql_base::{Argument, Directive, Indexed, Name, TypeRef, Value};
 use input_values::places::innermost;
@@ -200,7 +200,9 @@ fn in_fields(fields: &[Argument], rule: &VariablePlace<'_, '_>, inputs: Inputs) 
 fn in_field(field: &Argument, rule: &VariablePlace<'_, '_>, inputs: Inputs) -> Option<usize>
     ensures { result ≡ misplaced_among (schema_of rule.now) (variables_of rule.now) (λ s. uses_in_field s (input_in s inputs) (named_value field.now)) }
 {
-    match input_named(rule.schema, inputs, field.name.text.as_str()) {
+    let name = field.name.text.as_str();
+    rule.work.count(steps_of_text(name.len()));
+    match input_named(rule.schema, inputs, name) {
         Some(input) => in_value(&field.value, rule, &input.shape, input.default.is_some()),
         None => None,
     }

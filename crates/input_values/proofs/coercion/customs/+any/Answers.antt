@@ -16,8 +16,8 @@ any_list-items-preserved t c =
 
 pub any_fields-fields-preserved : goal.any_fields-fields-preserved
 any_fields-fields-preserved t c =
-    any_field_left c.args.limit c.args.fields.now c.fields.field-index c.field-item.result c.as_str.result.now (map named_tree c.fields.built.items) _ c.args.count.now c.fields.count c.any_literal.new.count c.in-Ok.value _
-    c.fields-test.true c.field-item.is c.as_str.ensures c.fields.invariant c.in-Ok.ensures c.in_ok-push_field-in-Ok.ensures
+    any_field_left c.args.limit c.args.fields.now c.fields.field-index c.field-item.result c.as_str-in-Ok.result.now (map named_tree c.fields.built.items) _ c.args.count.now c.fields.count c.any_literal.new.count c.in-Ok.value _
+    c.fields-test.true c.field-item.is c.as_str-in-Ok.ensures c.fields.invariant c.in-Ok.ensures c.in_ok-push_field-in-Ok.ensures
 
 pub any_fields-returns-in-Err : goal.any_fields-returns-in-Err
 any_fields-returns-in-Err t c =

@@ -18,4 +18,4 @@ copy_value-returns-in_ok-try_clone-in-Shared t c =
 pub copy_field-returns : goal.copy_field-returns
 copy_field-returns t c =
     field_made c.in_ok-name.name c.in_ok-value.value
-    ∙ (ap (λ n. (n, coerced_tree c.in_ok-value.value)) (c.in_ok-name.ensures ∙ c.as_str.ensures) ∙ (ap (λ v. (c.args.field.now.name, v)) c.in_ok-value.ensures ∙ sym (field_opened c.args.field.now)))
+    ∙ (ap (λ n. (n, coerced_tree c.in_ok-value.value)) c.in_ok-name.ensures ∙ (ap (λ v. (c.args.field.now.name, v)) c.in_ok-value.ensures ∙ sym (field_opened c.args.field.now)))
