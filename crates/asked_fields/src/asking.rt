@@ -11,6 +11,7 @@ ghost use Rattle.asked_fields.specs.Asking.{frame, AsksType, AsksGroups, AsksGro
 use crate::asked::AskedNode;
 use crate::lookups::{argument_of, key_of, name_of, type_below};
 use collected_fields::{Collected, Collector, Group};
+use counted_work::steps_of_text;
 use gql_base::{Indexed, Named, Text};
 use input_values::TypeId;
 use std::alloc::{AllocError, Global};
@@ -50,6 +51,7 @@ fn ask_groups<'a, N: Named + Drop>(
     ensures ready { IsReady collector.old → IsReady collector.new }
     ensures asked { IfOk result (λ nodes. IsReady collector.old → AsksGroups (place_of_name N.name_of names.now.items.items) collector.old levels of.number groups.now nodes.items) }
 {
+    collector.planning().work.take(groups.len())?;
     let mut nodes = Vec::new(alloc);
     'groups: for group in groups {
         ask_group(alloc, names, collector, of, group, levels, &mut nodes)?;
@@ -101,6 +103,8 @@ fn ask_node<'a, N: Named + Drop>(
     ensures asked { IfOk result (λ node. IsReady collector.old → AsksNode (place_of_name N.name_of names.now.items.items) collector.old levels of.number first.now below.now node) }
 {
     let planning = collector.planning();
+    planning.work.take(steps_of_text(key_of(first).len()))?;
+    planning.work.take(steps_of_text(name_of(first).len()))?;
     let key = Text::copy_of(alloc, key_of(first))?;
     let name = Text::copy_of(alloc, name_of(first))?;
     let argument = argument_of(alloc, names, &planning, of, first)?;

@@ -62,7 +62,14 @@ fn arguments_of(
     ensures { IfOk result (λ args. args_data args ≡ if_coerced (coerced_in (setting_of_planning planning.now) of.number (collected_field field.now))) }
 {
     let written = field.field.arguments.as_slice();
-    let found = coerce_arguments(alloc, planning.schema, of, written, planning.variables);
+    let found = coerce_arguments(
+        alloc,
+        planning.work,
+        planning.schema,
+        of,
+        written,
+        planning.variables,
+    );
     unless_refused(alloc, found)
 }
 
@@ -80,7 +87,7 @@ pub fn argument_of<N: Named + Drop>(
     match meaning_on(planning.schema, Some(of), name_of(field)) {
         Meaning::Known(known) => {
             let args = arguments_of(alloc, planning, known, field)?;
-            Ok(argument_kept(names, &args))
+            Ok(argument_kept(planning.work, names, &args))
         }
         Meaning::NoPosition | Meaning::NoSuchField | Meaning::NameOfType => Ok(Argument {
             is_true: false,

@@ -12,6 +12,7 @@ use crate::asked::AskedNode;
 use crate::asking::ask_type;
 use collected_fields::{Collector, Planning};
 use cost_directives::Weights;
+use counted_work::Work;
 use document_rules::Checked;
 use gql_base::{Indexed, Named};
 use schema_model::Schema;
@@ -20,12 +21,13 @@ use variable_coercion::Variables;
 
 /// What an operation that was checked asks, node by node, with what is kept of the arguments of each node beside some names. The nodes
 /// are those of its plan where it is planned well and objects of one type may stand at each place. Of a field with an argument that is refused
-/// nothing is kept. It fails for want of memory alone.
+/// nothing is kept. It fails for want of memory or of steps alone.
 ///
 /// It asks that the operation breaks no rule of this schema. The weights are to be the schema's, and the variables those
 /// of the operation, coerced by the schema.
 pub fn ask<N: Named + Drop>(
     alloc: Global,
+    work: Work<'_>,
     names: &Indexed<N>,
     schema: &Schema,
     weights: &Weights,
@@ -40,6 +42,7 @@ pub fn ask<N: Named + Drop>(
         weights,
         variables,
         fragments: checked.fragments(),
+        work,
     };
     let root = checked.root();
     let selections = checked.operation().selections.as_slice();

@@ -8,6 +8,7 @@ ghost use Rattle.collected_fields.specs.Views.{collected_field, written_field, a
 use crate::collected::Collected;
 use crate::lookups::asks;
 use crate::steps::key_of;
+use counted_work::{Work, steps_of_text};
 use distinct_selections::alike_arguments;
 use document_reader::Field;
 use schema_model::Schema;
@@ -41,12 +42,13 @@ fn same_name(field: &Field, other: &Field) -> bool
 
 /// Whether two fields have one response key, one name, and arguments that are written alike, and both ask for the names of types or
 /// neither. Most that differ do so by their hashes.
-fn looks_like(schema: &Schema, field: &Collected<'_>, other: &Collected<'_>) -> bool
+fn looks_like(schema: &Schema, work: Work<'_>, field: &Collected<'_>, other: &Collected<'_>) -> bool
     ensures { IsTrue result → LooksLike (schema_data schema.now) (collected_field field.now) (collected_field other.now) }
 {
     if field.written != other.written {
         return false;
     }
+    work.count(1 + steps_of_text(key_of(field.field).len()));
     if !same_key(field.field, other.field) {
         return false;
     }
@@ -58,16 +60,22 @@ fn looks_like(schema: &Schema, field: &Collected<'_>, other: &Collected<'_>) -> 
     }
     let arguments = field.field.arguments.as_slice();
     let others = other.field.arguments.as_slice();
-    alike_arguments(arguments, others)
+    alike_arguments(work, arguments, others)
 }
 
 /// Whether one of the first fields is like this one.
-fn has_like(schema: &Schema, fields: &[Collected<'_>], field: &Collected<'_>) -> bool
+fn has_like(
+    schema: &Schema,
+    work: Work<'_>,
+    fields: &[Collected<'_>],
+    field: &Collected<'_>,
+) -> bool
     ensures { IsTrue result → HasLike (LooksLike (schema_data schema.now)) (map collected_field fields.now) (collected_field field.now) }
 {
     let mut at = 0;
     while at < fields.len() && at < MANY {
-        if looks_like(schema, field, &fields[at]) {
+        work.count(1);
+        if looks_like(schema, work, field, &fields[at]) {
             return true;
         }
         at += 1;
@@ -79,13 +87,15 @@ fn has_like(schema: &Schema, fields: &[Collected<'_>], field: &Collected<'_>) ->
 pub fn unlike_fields<'a>(
     alloc: Global,
     schema: &Schema,
+    work: Work<'_>,
     fields: &[Collected<'a>],
 ) -> Result<Vec<Collected<'a>>, AllocError>
     ensures { IfOk result (λ unlike. AreLike (schema_data schema.now) (map collected_field fields.now) (map collected_field unlike.items)) }
 {
     let mut unlike = Vec::new(alloc);
     for field in fields {
-        if !has_like(schema, unlike.as_slice(), field) {
+        work.take(1)?;
+        if !has_like(schema, work, unlike.as_slice(), field) {
             unlike.push(*field)?;
         }
     }

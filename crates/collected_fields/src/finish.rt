@@ -10,6 +10,7 @@ ghost use Rattle.collected_fields.specs.Lists.{HasMore, Finishes, AllFinish, May
 use crate::alike::unlike_fields;
 use crate::collected::{Collected, Group};
 use crate::joins::{FEW, Joins};
+use counted_work::Work;
 use schema_model::Schema;
 use std::alloc::{AllocError, Global};
 
@@ -28,6 +29,7 @@ fn numbers_below(alloc: Global, fields: &[Collected<'_>]) -> Result<Vec<usize>, 
 fn finish_one<'a>(
     alloc: Global,
     schema: &Schema,
+    work: Work<'_>,
     fields: &[Collected<'a>],
     joins: &mut Joins,
 ) -> Result<Group<'a>, AllocError>
@@ -35,9 +37,9 @@ fn finish_one<'a>(
     ensures more { HasMore joins.old joins.new }
     ensures finishes { IfOk result (λ group. Finishes (schema_data schema.now) joins.old joins.new (map numbered fields.now) group) }
 {
-    let unlike = unlike_fields(alloc, schema, fields)?;
+    let unlike = unlike_fields(alloc, schema, work, fields)?;
     let numbers = numbers_below(alloc, fields)?;
-    let below = joins.few(alloc, numbers)?;
+    let below = joins.few(alloc, work, numbers)?;
     Ok(Group {
         fields: unlike,
         below,
@@ -48,6 +50,7 @@ fn finish_one<'a>(
 pub fn finish<'a>(
     alloc: Global,
     schema: &Schema,
+    work: Work<'_>,
     fields: &[Vec<Collected<'a>>],
     joins: &mut Joins,
 ) -> Result<Vec<Group<'a>>, AllocError>
@@ -57,7 +60,7 @@ pub fn finish<'a>(
 {
     let mut groups = Vec::new(alloc);
     for of_key in fields {
-        let group = finish_one(alloc, schema, of_key.as_slice(), joins)?;
+        let group = finish_one(alloc, schema, work, of_key.as_slice(), joins)?;
         groups.push(group)?;
     }
     Ok(groups)
@@ -90,6 +93,7 @@ fn with_number<'a>(
 fn shortened<'a>(
     alloc: Global,
     schema: &Schema,
+    work: Work<'_>,
     fields: &[Collected<'a>],
     joins: &mut Joins,
 ) -> Result<Option<Vec<Collected<'a>>>, AllocError>
@@ -100,9 +104,9 @@ fn shortened<'a>(
     if fields.len() < FEW {
         return Ok(Some(copied(alloc, fields)?));
     }
-    let unlike = unlike_fields(alloc, schema, fields)?;
+    let unlike = unlike_fields(alloc, schema, work, fields)?;
     let numbers = numbers_below(alloc, fields)?;
-    match joins.one(alloc, numbers.as_slice())? {
+    match joins.one(alloc, work, numbers.as_slice())? {
         Some(number) => Ok(Some(with_number(alloc, unlike.as_slice(), number, joins.count)?)),
         None => Ok(None),
     }
@@ -131,6 +135,7 @@ fn append<'a>(fields: &mut Vec<Collected<'a>>, more: &[Collected<'a>]) -> Result
 pub fn shortened_by_key<'a>(
     alloc: Global,
     schema: &Schema,
+    work: Work<'_>,
     fields: &[Vec<Collected<'a>>],
     most: usize,
     joins: &mut Joins,
@@ -141,7 +146,7 @@ pub fn shortened_by_key<'a>(
 {
     let mut all = Vec::new(alloc);
     for of_key in fields {
-        match shortened(alloc, schema, of_key.as_slice(), joins)? {
+        match shortened(alloc, schema, work, of_key.as_slice(), joins)? {
             Some(made) => append(&mut all, made.as_slice())?,
             None => return Ok(None),
         }

@@ -3,67 +3,72 @@
 
 use crate::planning::Planning;
 use crate::steps::key_of;
+use counted_work::{Work, steps_of_text};
 use document_reader::Selection;
 use gql_base::{Argument, Value};
 use std::hash::{DefaultHasher, Hasher};
 
-fn put_text(kind: u8, text: &str, into: &mut DefaultHasher) {
+fn put_text(work: Work<'_>, kind: u8, text: &str, into: &mut DefaultHasher) {
+    work.count(steps_of_text(text.len()));
     into.write_u8(kind);
     into.write_usize(text.len());
     into.write(text.as_bytes());
 }
 
 #[cycle(hashes)]
-fn put_value(value: &Value, into: &mut DefaultHasher) {
+fn put_value(work: Work<'_>, value: &Value, into: &mut DefaultHasher) {
+    work.count(1);
     match value {
-        Value::Var(name) => put_text(1, name.text.as_str(), into),
+        Value::Var(name) => put_text(work, 1, name.text.as_str(), into),
         Value::Int(number) => {
             into.write_u8(2);
             into.write_i128(*number);
         }
-        Value::Str(text) => put_text(3, text.as_str(), into),
+        Value::Str(text) => put_text(work, 3, text.as_str(), into),
         Value::Bool(truth) => into.write_u8(if *truth { 4 } else { 5 }),
         Value::Null => into.write_u8(6),
-        Value::EnumName(name) => put_text(7, name.text.as_str(), into),
-        Value::List(items) => put_items(items.as_slice(), into),
-        Value::Object(fields) => put_arguments(fields.as_slice(), into),
+        Value::EnumName(name) => put_text(work, 7, name.text.as_str(), into),
+        Value::List(items) => put_items(work, items.as_slice(), into),
+        Value::Object(fields) => put_arguments(work, fields.as_slice(), into),
     }
 }
 
 #[cycle(hashes)]
-fn put_items(items: &[Value], into: &mut DefaultHasher) {
+fn put_items(work: Work<'_>, items: &[Value], into: &mut DefaultHasher) {
     into.write_usize(items.len());
     'items: for item in items {
-        put_value(item, into);
+        put_value(work, item, into);
     }
 }
 
 #[cycle(hashes)]
-fn put_arguments(arguments: &[Argument], into: &mut DefaultHasher) {
+fn put_arguments(work: Work<'_>, arguments: &[Argument], into: &mut DefaultHasher) {
+    work.count(arguments.len());
     into.write_usize(arguments.len());
     'arguments: for argument in arguments {
-        put_text(8, argument.name.text.as_str(), into);
-        put_value(&argument.value, into);
+        put_text(work, 8, argument.name.text.as_str(), into);
+        put_value(work, &argument.value, into);
     }
 }
 
 #[cycle(begins)]
-fn put_selection(selection: &Selection, into: &mut DefaultHasher) {
+fn put_selection(work: Work<'_>, selection: &Selection, into: &mut DefaultHasher) {
+    work.count(1);
     match selection {
         Selection::Field(field) => {
-            put_text(9, key_of(field), into);
-            put_arguments(field.arguments.as_slice(), into);
-            put_selections(field.selections.as_slice(), into);
+            put_text(work, 9, key_of(field), into);
+            put_arguments(work, field.arguments.as_slice(), into);
+            put_selections(work, field.selections.as_slice(), into);
         }
-        Selection::Spread { name, .. } => put_text(10, name.text.as_str(), into),
-        Selection::Inline { selections, .. } => put_selections(selections.as_slice(), into),
+        Selection::Spread { name, .. } => put_text(work, 10, name.text.as_str(), into),
+        Selection::Inline { selections, .. } => put_selections(work, selections.as_slice(), into),
     }
 }
 
 #[cycle(begins)]
-fn put_selections(selections: &[Selection], into: &mut DefaultHasher) {
+fn put_selections(work: Work<'_>, selections: &[Selection], into: &mut DefaultHasher) {
     'selections: for selection in selections {
-        put_selection(selection, into);
+        put_selection(work, selection, into);
     }
 }
 
@@ -72,16 +77,17 @@ fn put_selections(selections: &[Selection], into: &mut DefaultHasher) {
 /// to something else.
 pub(crate) fn begun_with(planning: &Planning<'_>, selections: &[Selection]) -> DefaultHasher {
     let mut begun = DefaultHasher::new();
-    put_selections(selections, &mut begun);
+    let work = planning.work;
+    put_selections(work, selections, &mut begun);
     for fragment in planning.fragments {
-        put_selections(fragment.selections.as_slice(), &mut begun);
+        put_selections(work, fragment.selections.as_slice(), &mut begun);
     }
     begun
 }
 
 /// The hash of these arguments, by a hasher that is begun.
-pub(crate) fn hash_of(begun: DefaultHasher, arguments: &[Argument]) -> u64 {
+pub(crate) fn hash_of(work: Work<'_>, begun: DefaultHasher, arguments: &[Argument]) -> u64 {
     let mut hasher = begun;
-    put_arguments(arguments, &mut hasher);
+    put_arguments(work, arguments, &mut hasher);
     hasher.finish()
 }

@@ -5,6 +5,7 @@ ghost use Rattle.plan_model.specs.Repeats.{Holds, LeavesOutRepeats};
 ghost use Rattle.collected_fields.specs.Lists.{lists_of_joins, sets_in_joins, IsNumberIn, HasMore, MayStandForList, MayStandForAll, StandFor, AreFor, PutsPiece};
 ghost use Rattle.collected_fields.specs.Joining.{AddsEach};
 
+use counted_work::Work;
 use std::alloc::{AllocError, Global};
 use std::collections::BTreeMap;
 use std::hash::{DefaultHasher, FoldHasher, Hasher};
@@ -249,7 +250,12 @@ impl Joins {
     }
 
     /// One number for the selection sets of these numbers, where there is one or room for one.
-    pub fn one(&mut self, alloc: Global, numbers: &[usize]) -> Result<Option<usize>, AllocError>
+    pub fn one(
+        &mut self,
+        alloc: Global,
+        work: Work<'_>,
+        numbers: &[usize],
+    ) -> Result<Option<usize>, AllocError>
         ensures count { self.new.count ≡ self.old.count }
         ensures more { HasMore self.old self.new }
         ensures one { IfOk result (λ number. MayStandForAll self.old self.new numbers.now number) }
@@ -260,7 +266,10 @@ impl Joins {
         if self.room == 0 {
             return Ok(None);
         }
+        work.take(numbers.len())?;
+        work.take(self.count_all(numbers))?;
         let list = self.flat(alloc, numbers)?;
+        work.take(list.len())?;
         self.number_of(list)
     }
 
@@ -358,7 +367,12 @@ impl Joins {
     }
 
     /// The selection sets of these numbers by few numbers, where there is room.
-    pub fn few(&mut self, alloc: Global, numbers: Vec<usize>) -> Result<Vec<usize>, AllocError>
+    pub fn few(
+        &mut self,
+        alloc: Global,
+        work: Work<'_>,
+        numbers: Vec<usize>,
+    ) -> Result<Vec<usize>, AllocError>
         ensures count { self.new.count ≡ self.old.count }
         ensures more { HasMore self.old self.new }
         ensures few { IfOk result (λ few. StandFor self.old self.new numbers.items few.items) }
@@ -366,8 +380,11 @@ impl Joins {
         if numbers.len() < FEW || self.room == 0 {
             return Ok(numbers);
         }
+        work.take(numbers.len())?;
         let all = self.count_all(numbers.as_slice());
+        work.take(all)?;
         let list = self.flat(alloc, numbers.as_slice())?;
+        work.take(list.len())?;
         if are_few(numbers.len(), all, list.len()) {
             return Ok(numbers);
         }

@@ -5,6 +5,7 @@ ghost use Rattle.collected_fields.specs.KeyHashes.{start_of};
 
 use crate::collected::Collected;
 use crate::steps::key_of;
+use counted_work::{Work, steps_of_text};
 use std::hash::{BuildHasher, DefaultHasher, Hasher};
 
 /// How many bytes of a key are hashed. A document has few keys that are longer, and they are compared.
@@ -52,12 +53,13 @@ pub struct KeyHashing {
 
 impl KeyHashing {
     /// For the keys of these fields.
-    pub(crate) fn of(fields: &[Collected<'_>]) -> KeyHashing {
+    pub(crate) fn of(work: Work<'_>, fields: &[Collected<'_>]) -> KeyHashing {
         let mut begun = StartHasher {
             inner: DefaultHasher::new(),
         };
         for field in fields {
             let key = key_of(field.field);
+            work.count(steps_of_text(key.len()));
             begun.write_usize(key.len());
             begun.write(key.as_bytes());
         }

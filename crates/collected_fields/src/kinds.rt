@@ -12,6 +12,7 @@ ghost use Rattle.collected_fields.specs.Kinds.{AreAlike, AddsCondition, AddsStep
 use crate::reach::is_among;
 use crate::steps::Step;
 use crate::tables::{Entry, SelectionList, Tables};
+use counted_work::Work;
 use input_values::TypeId;
 use schema_model::Schema;
 use std::alloc::{AllocError, Global};
@@ -36,9 +37,10 @@ pub struct Kinds {
 }
 
 /// Adds a condition, where it isn't there.
-fn add(conditions: &mut Vec<TypeId>, on: TypeId) -> Result<(), AllocError>
+fn add(work: Work<'_>, conditions: &mut Vec<TypeId>, on: TypeId) -> Result<(), AllocError>
     ensures { OnOk result (AddsCondition conditions.old.items conditions.new.items on.number) }
 {
+    work.take(conditions.len())?;
     if is_among(on, conditions.as_slice()) {
         return Ok(());
     }
@@ -47,59 +49,78 @@ fn add(conditions: &mut Vec<TypeId>, on: TypeId) -> Result<(), AllocError>
 }
 
 /// Adds the condition of a step, if it has one.
-fn add_step(conditions: &mut Vec<TypeId>, step: &Step<'_>) -> Result<(), AllocError>
+fn add_step(work: Work<'_>, conditions: &mut Vec<TypeId>, step: &Step<'_>) -> Result<(), AllocError>
     ensures { OnOk result (AddsStep conditions.old.items conditions.new.items (step_data step.now)) }
 {
     match step {
         Step::Field(_) => Ok(()),
         Step::Spread(_) => Ok(()),
-        Step::Inline { on, count: _ } => add(conditions, *on),
+        Step::Inline { on, count: _ } => add(work, conditions, *on),
     }
 }
 
 /// Adds the conditions of steps.
-fn add_steps(conditions: &mut Vec<TypeId>, steps: &[Step<'_>]) -> Result<(), AllocError>
+fn add_steps(
+    work: Work<'_>,
+    conditions: &mut Vec<TypeId>,
+    steps: &[Step<'_>],
+) -> Result<(), AllocError>
     ensures { OnOk result (AddsSteps conditions.old.items conditions.new.items (map step_data steps.now)) }
 {
+    work.take(steps.len())?;
     for step in steps {
-        add_step(conditions, step)?;
+        add_step(work, conditions, step)?;
     }
     Ok(())
 }
 
 /// Adds those of a selection set.
-fn add_list(conditions: &mut Vec<TypeId>, list: &SelectionList<'_>) -> Result<(), AllocError>
+fn add_list(
+    work: Work<'_>,
+    conditions: &mut Vec<TypeId>,
+    list: &SelectionList<'_>,
+) -> Result<(), AllocError>
     ensures { OnOk result (AddsSteps conditions.old.items conditions.new.items (list_data list.now).steps) }
 {
-    add_steps(conditions, list.steps.as_slice())
+    add_steps(work, conditions, list.steps.as_slice())
 }
 
 /// Adds those of selection sets.
-fn add_lists(conditions: &mut Vec<TypeId>, lists: &[SelectionList<'_>]) -> Result<(), AllocError>
+fn add_lists(
+    work: Work<'_>,
+    conditions: &mut Vec<TypeId>,
+    lists: &[SelectionList<'_>],
+) -> Result<(), AllocError>
     ensures { OnOk result (AddsLists conditions.old.items conditions.new.items (map list_data lists.now)) }
 {
+    work.take(lists.len())?;
     for list in lists {
-        add_list(conditions, list)?;
+        add_list(work, conditions, list)?;
     }
     Ok(())
 }
 
 /// Adds that of a fragment, where its type is there.
-fn add_entry(conditions: &mut Vec<TypeId>, entry: &Entry) -> Result<(), AllocError>
+fn add_entry(work: Work<'_>, conditions: &mut Vec<TypeId>, entry: &Entry) -> Result<(), AllocError>
     ensures { OnOk result (AddsEntry conditions.old.items conditions.new.items (entry_data entry.now)) }
 {
     match entry.on {
-        Some(on) => add(conditions, on),
+        Some(on) => add(work, conditions, on),
         None => Ok(()),
     }
 }
 
 /// Adds those of fragments.
-fn add_entries(conditions: &mut Vec<TypeId>, entries: &[Entry]) -> Result<(), AllocError>
+fn add_entries(
+    work: Work<'_>,
+    conditions: &mut Vec<TypeId>,
+    entries: &[Entry],
+) -> Result<(), AllocError>
     ensures { OnOk result (AddsEntries conditions.old.items conditions.new.items (map entry_data entries.now)) }
 {
+    work.take(entries.len())?;
     for entry in entries {
-        add_entry(conditions, entry)?;
+        add_entry(work, conditions, entry)?;
     }
     Ok(())
 }
@@ -111,8 +132,9 @@ fn conditions_of(alloc: Global, tables: &Tables<'_>) -> Result<Vec<TypeId>, Allo
     let mut conditions = Vec::new(alloc);
     let lists = tables.lists.as_slice();
     let entries = tables.entries.as_slice();
-    add_lists(&mut conditions, lists)?;
-    add_entries(&mut conditions, entries)?;
+    let work = tables.planning.work;
+    add_lists(work, &mut conditions, lists)?;
+    add_entries(work, &mut conditions, entries)?;
     Ok(conditions)
 }
 
@@ -256,6 +278,11 @@ impl Kinds {
         if !self.may_find(walked) {
             return Ok(of);
         }
+        tables.planning.work.take(self.conditions.len())?;
+        tables
+            .planning
+            .work
+            .take(of.number.saturating_sub(self.stand_ins.len()))?;
         self.find(tables.planning.schema, of)
     }
 }

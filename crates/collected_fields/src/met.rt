@@ -1,5 +1,6 @@
 //! How often numbers were met, and whether they are to be found apart. Nothing but time rests on it.
 
+use counted_work::{Work, steps_of_text};
 use input_values::TypeId;
 use std::alloc::{AllocError, Global};
 
@@ -57,6 +58,7 @@ impl Met {
     pub(crate) fn is_due(
         &mut self,
         alloc: Global,
+        work: Work<'_>,
         number: usize,
         of: TypeId,
     ) -> Result<bool, AllocError> {
@@ -64,14 +66,16 @@ impl Met {
             self.times.push(Vec::new(alloc))?;
         }
         match self.times.get_mut(number) {
-            Some(row) => meet_at(row, of.number, self.credit > 0),
+            Some(row) => meet_at(work, row, of.number, self.credit > 0),
             None => Ok(false),
         }
     }
 }
 
 /// Whether a place was met once before. It is met once more, but for the second time only where that may be.
-fn meet_at(row: &mut Vec<u8>, at: usize, may: bool) -> Result<bool, AllocError> {
+fn meet_at(work: Work<'_>, row: &mut Vec<u8>, at: usize, may: bool) -> Result<bool, AllocError> {
+    work.take(1)?;
+    work.take(steps_of_text(at.saturating_sub(row.len())))?;
     while row.len() <= at {
         row.push(0)?;
     }

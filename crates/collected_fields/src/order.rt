@@ -106,7 +106,10 @@ fn note_fragment(
         None => None,
     };
     match list {
-        Some(list) => spreads.note_all(list.steps.as_slice(), number),
+        Some(list) => {
+            tables.planning.work.take(list.steps.len())?;
+            spreads.note_all(list.steps.as_slice(), number)
+        }
         None => Ok(()),
     }
 }
@@ -115,6 +118,7 @@ fn note_fragment(
 /// out, and those that spread them.
 pub(crate) fn order_of(alloc: Global, tables: &Tables<'_>) -> Result<Vec<usize>, AllocError> {
     let count = tables.entries.as_slice().len();
+    tables.planning.work.take(count)?;
     let mut spreads = Spreads::new(alloc, count)?;
     for number in 0..count {
         note_fragment(tables, number, &mut spreads)?;

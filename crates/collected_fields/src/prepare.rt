@@ -14,8 +14,9 @@ use crate::hashes::hash_of;
 use crate::lookups::below_field;
 use crate::planning::Planning;
 use crate::source::{Reached, Source};
-use crate::steps::{Draft, Step};
+use crate::steps::{Draft, Step, key_of};
 use crate::tables::{Entry, SelectionList, Tables};
+use counted_work::steps_of_text;
 use distinct_selections::is_included;
 use document_reader::{Field, Fragment, Selection};
 use document_rules::lookups::{below_inline, composite_named};
@@ -53,9 +54,11 @@ fn add_selection<'a>(
     ensures parent { draft.new.parent ≡ draft.old.parent }
     ensures adds { OnOk result (AddsTo (source_setting source.now) (selection_tree selection.now) (map list_data lists.old.items) (map list_data lists.new.items) draft.old draft.new) }
 {
+    source.planning.work.take(1)?;
     match selection {
         Selection::Field(field) => add_field(alloc, source, field, lists, draft),
         Selection::Spread { name, directives } => {
+            source.planning.work.take(directives.len())?;
             if is_included(source.planning.variables, directives.as_slice()) {
                 add_spread(source, name.text.as_str(), draft)
             } else {
@@ -67,6 +70,7 @@ fn add_selection<'a>(
             directives,
             selections,
         } => {
+            source.planning.work.take(directives.len())?;
             if is_included(source.planning.variables, directives.as_slice()) {
                 add_inline(alloc, source, on, selections.as_slice(), lists, draft)
             } else {
@@ -87,15 +91,18 @@ fn add_field<'a>(
     ensures parent { draft.new.parent ≡ draft.old.parent }
     ensures adds { OnOk result (AddsTo (source_setting source.now) (field_tree field.now) (map list_data lists.old.items) (map list_data lists.new.items) draft.old draft.new) }
 {
+    let work = source.planning.work;
+    work.take(field.directives.len())?;
     if !is_included(source.planning.variables, field.directives.as_slice()) {
         return Ok(());
     }
+    work.take(steps_of_text(key_of(field).len()))?;
     if draft.repeats(field) {
         return Ok(());
     }
     let parent = below_field(source.planning.schema, draft.parent, field);
     let below = list_below(alloc, source, parent, field.selections.as_slice(), lists)?;
-    let written = hash_of(source.begun, field.arguments.as_slice());
+    let written = hash_of(work, source.begun, field.arguments.as_slice());
     draft.keep(field, below, written)
 }
 
@@ -173,6 +180,7 @@ fn add_inline<'a>(
 {
     let parent = below_inline(source.planning.schema, draft.parent, on);
     let steps = steps_of(alloc, source, parent, selections, lists)?;
+    source.planning.work.take(steps.len())?;
     match on {
         None => draft.append(steps.as_slice()),
         Some(name) => add_condition(source, name, steps.as_slice(), draft),
@@ -245,6 +253,7 @@ fn entries_of<'a>(
     ensures lists { IfOk result (λ _. Grows (source_setting source.now) [] (map list_data lists.new.items)) }
     ensures entries { IfOk result (λ entries. AreEntries (source_setting source.now).schema (map list_data lists.new.items) (map entry_data entries.items) (source_setting source.now).fragments) }
 {
+    source.planning.work.take(source.fragments.items().len())?;
     let mut entries = Vec::new(alloc);
     for reached in source.fragments.items() {
         let entry = add_entry(alloc, source, reached.fragment, lists)?;
@@ -276,6 +285,7 @@ pub fn tables_of<'a>(
     ensures sound { IfOk result (λ made. AreSound (setting_of_planning planning.entry) (map list_data made.0.lists.items) (map entry_data made.0.entries.items)) }
     ensures root { IfOk result (λ made. IsListed (map list_data made.0.lists.items) (Some root.number, set_tree selections.now) made.1) }
 {
+    planning.work.take(planning.fragments.len())?;
     let fragments = index_owned(alloc, reached_of(alloc, planning.fragments)?)?;
     let source = Source {
         planning,

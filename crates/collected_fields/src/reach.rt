@@ -100,6 +100,14 @@ impl Reach {
         }
     }
 
+    /// How many are listed.
+    pub(crate) fn listed(&self) -> usize {
+        match self {
+            Reach::Every => 0,
+            Reach::These(few, _) => few.len(),
+        }
+    }
+
     /// How many steps it takes to add them to others, beside the few that are listed.
     pub(crate) fn steps(&self) -> usize {
         match self {

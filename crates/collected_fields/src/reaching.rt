@@ -161,7 +161,8 @@ fn add_inline(
         room,
         &mut under,
     )?;
-    room.join_where(reach, tables.planning.schema, on, &under)
+    let planning = &tables.planning;
+    room.join_where(planning.work, reach, planning.schema, on, &under)
 }
 
 /// The same of steps, as long as types are told apart.
@@ -180,6 +181,7 @@ fn add_steps(
 {
     let mut at = 0;
     'steps: while at < steps.len() && !reach.is_every() {
+        tables.planning.work.take(1)?;
         let rest = &steps[at + 1..];
         let passed = add_step(alloc, tables, depth, &steps[at], rest, found, room, reach)?;
         at = place_behind(at, passed, steps.len());
@@ -231,7 +233,10 @@ fn add_where(
     }
     find(alloc, tables, depth - 1, set, found, room)?;
     match found.of(set) {
-        Some(other) => room.join_where(reach, tables.planning.schema, on, other),
+        Some(other) => {
+            let planning = &tables.planning;
+            room.join_where(planning.work, reach, planning.schema, on, other)
+        }
         None => {
             reach.widen();
             Ok(())
@@ -314,6 +319,7 @@ fn find_fragments(
 ) -> Result<(), AllocError>
     ensures still { AreReached tables.now found.old → AreReached tables.now found.new }
 {
+    tables.planning.work.take(numbers.len())?;
     for number in numbers {
         find_fragment(alloc, tables, *number, found, room)?;
     }
@@ -356,7 +362,7 @@ fn add_set(
 {
     find(alloc, tables, NESTED, set, found, room)?;
     match found.of(set) {
-        Some(other) => room.join(reach, other),
+        Some(other) => room.join(tables.planning.work, reach, other),
         None => {
             reach.widen();
             Ok(())
@@ -376,6 +382,7 @@ fn add_sets(
     ensures still { AreReached tables.now found.old → AreReached tables.now found.new }
     ensures adds { OnOk result (AreReached tables.now found.old → ReachesSets tables.now reach.old reach.new sets.now) }
 {
+    tables.planning.work.take(sets.len())?;
     for set in sets {
         add_set(alloc, tables, *set, found, room, reach)?;
     }
@@ -430,7 +437,7 @@ fn add_number(
     }
     find_list(alloc, tables, joins, number, all)?;
     match all.lists.of(number) {
-        Some(other) => all.room.join(reach, other),
+        Some(other) => all.room.join(tables.planning.work, reach, other),
         None => {
             reach.widen();
             Ok(())
@@ -451,6 +458,7 @@ pub fn reach_of(
 {
     begin(alloc, tables, all)?;
     let mut reach = Reach::none(alloc);
+    tables.planning.work.take(numbers.len())?;
     for number in numbers {
         add_number(alloc, tables, joins, *number, all, &mut reach)?;
     }

@@ -5,6 +5,7 @@ ghost use Rattle.schema_model.specs.SchemaViews.{schema_data};
 ghost use Rattle.collected_fields.specs.Reached.{reaches, Misses, MissesMore, MissesWhere};
 
 use crate::reach::Reach;
+use counted_work::Work;
 use input_values::TypeId;
 use schema_model::Schema;
 use std::alloc::AllocError;
@@ -40,9 +41,16 @@ impl Room {
     }
 
     /// Adds the types of another, or all where no steps are left for it.
-    pub(crate) fn join(&mut self, reach: &mut Reach, other: &Reach) -> Result<(), AllocError>
+    pub(crate) fn join(
+        &mut self,
+        work: Work<'_>,
+        reach: &mut Reach,
+        other: &Reach,
+    ) -> Result<(), AllocError>
         ensures { OnOk result (MissesMore reach.old reach.new (reaches other.now)) }
     {
+        work.take(1 + other.listed())?;
+        work.take(other.steps())?;
         if !self.takes(other.steps()) {
             reach.widen();
             return Ok(());
@@ -53,6 +61,7 @@ impl Room {
     /// The same with those to which a condition applies.
     pub(crate) fn join_where(
         &mut self,
+        work: Work<'_>,
         reach: &mut Reach,
         schema: &Schema,
         on: TypeId,
@@ -60,11 +69,15 @@ impl Room {
     ) -> Result<(), AllocError>
         ensures { OnOk result (MissesWhere (schema_data schema.now) on.number reach.old reach.new other.now) }
     {
+        work.take(1 + other.listed())?;
+        work.take(other.steps_where(schema, on))?;
         if !self.takes(other.steps_where(schema, on)) {
             reach.widen();
             return Ok(());
         }
-        reach.join_where(schema, on, other)
+        let before = reach.steps();
+        reach.join_where(schema, on, other)?;
+        work.take(reach.steps().saturating_sub(before))
     }
 
     /// Takes all types in the place of many, where no room is left to keep them.

@@ -227,12 +227,14 @@ fn walk_set<'a>(
 ) -> Result<(), AllocError>
     ensures { OnOk result (walk_data walk.new ≡ steps_from tables.now known.now reaches.now of.number depth 0 (list_steps tables.now known.now reaches.now of.number depth set) (walk_data walk.old)) }
 {
+    tables.planning.work.take(1)?;
     if reaches.misses(set, of) {
         walk.count(1);
         return Ok(());
     }
     match tables.lists.get(set) {
         Some(list) => {
+            tables.planning.work.take(list.steps.len())?;
             walk.count(list.steps.len());
             walk_steps(
                 tables,
@@ -262,7 +264,10 @@ fn walk_list<'a>(
     ensures { OnOk result (walk_data walk.new ≡ known_in tables.now known.now reaches.now of.number depth list (list ∷ []) (walk_data walk.old)) }
 {
     match known.of(list, of) {
-        Some(fields) => walk.take(fields),
+        Some(fields) => {
+            tables.planning.work.take(fields.len())?;
+            walk.take(fields)
+        }
         None => walk_set(tables, known, reaches, of, depth, list, walk),
     }
 }
@@ -371,12 +376,16 @@ fn walk_number<'a>(
 ) -> Result<(), AllocError>
     ensures { OnOk result (walk_data walk.new ≡ (if is_missed (found_of lists.now number) of.number then walk_data walk.old else known_in tables.now known.now reaches.now of.number depth number (sets_in_joins joins.now number) (walk_data walk.old))) }
 {
+    tables.planning.work.take(1)?;
     if lists.misses(number, of) {
         walk.count(1);
         return Ok(());
     }
     match known.of(number, of) {
-        Some(fields) => walk.take(fields),
+        Some(fields) => {
+            tables.planning.work.take(fields.len())?;
+            walk.take(fields)
+        }
         None => walk_unknown(tables, joins, known, reaches, of, depth, number, walk),
     }
 }

@@ -9,7 +9,8 @@ ghost use Rattle.plan_model.specs.GivenAlike.{AreGivenAlike};
 ghost use Rattle.plan_model.specs.Shortening.{AreSameNames, IsSameType};
 ghost use Rattle.distinct_selections.specs.Alike.{IsAlike, AreAlike};
 
-use crate::written::{alike_arguments, same_text};
+use crate::written::{alike_arguments, same_text, same_words};
+use counted_work::Work;
 use document_reader::{Field, Selection};
 use gql_base::{Directive, Name};
 
@@ -23,12 +24,12 @@ fn key_of(field: &Field) -> &str
     }
 }
 
-fn same_type(on: &Option<Name>, other: &Option<Name>) -> bool
+fn same_type(work: Work<'_>, on: &Option<Name>, other: &Option<Name>) -> bool
     ensures { IsTrue result → IsSameType (maybe_identifier on.now) (maybe_identifier other.now) }
 {
     match on {
         Some(on) => match other {
-            Some(other) => same_text(&on.text, &other.text),
+            Some(other) => same_text(work, &on.text, &other.text),
             None => false,
         },
         None => match other {
@@ -38,43 +39,52 @@ fn same_type(on: &Option<Name>, other: &Option<Name>) -> bool
     }
 }
 
-/// Whether a selection is written as another one, without directives.
+/// Whether a selection is written as another one, without directives. It isn't said to be where no step is left.
 #[cycle(alike)]
 #[tactic(auto, using(crate::proofs::Opened::selection_parts))]
-pub fn alike(selection: &Selection, other: &Selection) -> bool
+pub fn alike(work: Work<'_>, selection: &Selection, other: &Selection) -> bool
     ensures { IsTrue result → IsAlike (selection_tree selection.now) (selection_tree other.now) }
 {
+    if work.take(1).is_err() {
+        return false;
+    }
     match selection {
-        Selection::Field(field) => alike_field(field, other),
-        Selection::Spread { name, .. } => alike_spread(name, other),
-        Selection::Inline { on, selections, .. } => alike_inline(on, selections.as_slice(), other),
+        Selection::Field(field) => alike_field(work, field, other),
+        Selection::Spread { name, .. } => alike_spread(work, name, other),
+        Selection::Inline { on, selections, .. } => alike_inline(
+            work,
+            on,
+            selections.as_slice(),
+            other,
+        ),
     }
 }
 
 #[cycle(alike)]
 #[tactic(auto, using(crate::proofs::Opened::selection_parts))]
-fn alike_field(field: &Field, selection: &Selection) -> bool
+fn alike_field(work: Work<'_>, field: &Field, selection: &Selection) -> bool
     ensures { IsTrue result → IsAlike (field_tree field.now) (selection_tree selection.now) }
 {
     match selection {
-        Selection::Field(other) => alike_fields(field, other),
+        Selection::Field(other) => alike_fields(work, field, other),
         Selection::Spread { .. } => false,
         Selection::Inline { .. } => false,
     }
 }
 
-fn same_names(field: &Field, other: &Field) -> bool
+fn same_names(work: Work<'_>, field: &Field, other: &Field) -> bool
     ensures { IsTrue result → AreSameNames (names_of field.now.alias field.now.name) (names_of other.now.alias other.now.name) }
 {
-    key_of(field) == key_of(other) && same_text(&field.name.text, &other.name.text)
+    same_words(work, key_of(field), key_of(other))
+        && same_text(work, &field.name.text, &other.name.text)
 }
 
-fn alike_calls(field: &Field, other: &Field) -> bool
+fn alike_calls(work: Work<'_>, field: &Field, other: &Field) -> bool
     ensures names { IsTrue result → AreSameNames (names_of field.now.alias field.now.name) (names_of other.now.alias other.now.name) }
     ensures given { IsTrue result → AreGivenAlike (map named_value field.now.arguments.items) (map named_value other.now.arguments.items) }
 {
-    if same_names(field, other) {
-        alike_arguments(field.arguments.as_slice(), other.arguments.as_slice())
+    if same_names(work, field, other) {
+        alike_arguments(work, field.arguments.as_slice(), other.arguments.as_slice())
     } else {
         false
     }
@@ -82,25 +92,29 @@ fn alike_calls(field: &Field, other: &Field) -> bool
 
 #[cycle(alike)]
 #[tactic(auto, using(crate::proofs::Opened::selection_parts))]
-fn alike_fields(field: &Field, other: &Field) -> bool
+fn alike_fields(work: Work<'_>, field: &Field, other: &Field) -> bool
     ensures { IsTrue result → IsAlike (field_tree field.now) (field_tree other.now) }
 {
-    if other.directives.is_empty() && alike_calls(field, other) {
-        alike_sets(field.selections.as_slice(), other.selections.as_slice())
+    if other.directives.is_empty() && alike_calls(work, field, other) {
+        alike_sets(
+            work,
+            field.selections.as_slice(),
+            other.selections.as_slice(),
+        )
     } else {
         false
     }
 }
 
 #[tactic(auto, using(crate::proofs::Opened::selection_parts))]
-fn alike_spread(name: &Name, selection: &Selection) -> bool
+fn alike_spread(work: Work<'_>, name: &Name, selection: &Selection) -> bool
     ensures { IsTrue result → (directives : List DirectiveTree) → IsAlike (fragment_spread (identifier_of name.now) directives) (selection_tree selection.now) }
 {
     match selection {
         Selection::Spread {
             name: other,
             directives,
-        } => directives.is_empty() && same_text(&name.text, &other.text),
+        } => directives.is_empty() && same_text(work, &name.text, &other.text),
         Selection::Field(_) => false,
         Selection::Inline { .. } => false,
     }
@@ -108,7 +122,12 @@ fn alike_spread(name: &Name, selection: &Selection) -> bool
 
 #[cycle(alike)]
 #[tactic(auto, using(crate::proofs::Opened::selection_parts))]
-fn alike_inline(on: &Option<Name>, selections: &[Selection], selection: &Selection) -> bool
+fn alike_inline(
+    work: Work<'_>,
+    on: &Option<Name>,
+    selections: &[Selection],
+    selection: &Selection,
+) -> bool
     ensures { IsTrue result → (directives : List DirectiveTree) → IsAlike (inline_fragment (maybe_identifier on.now) directives (set_tree selections.now)) (selection_tree selection.now) }
 {
     match selection {
@@ -117,8 +136,8 @@ fn alike_inline(on: &Option<Name>, selections: &[Selection], selection: &Selecti
             directives,
             selections: others,
         } => {
-            if directives.is_empty() && same_type(on, other) {
-                alike_sets(selections, others.as_slice())
+            if directives.is_empty() && same_type(work, on, other) {
+                alike_sets(work, selections, others.as_slice())
             } else {
                 false
             }
@@ -129,12 +148,12 @@ fn alike_inline(on: &Option<Name>, selections: &[Selection], selection: &Selecti
 }
 
 #[cycle(alike)]
-fn alike_sets(selections: &[Selection], others: &[Selection]) -> bool
+fn alike_sets(work: Work<'_>, selections: &[Selection], others: &[Selection]) -> bool
     ensures { IsTrue result → AreAlike (set_tree selections.now) (set_tree others.now) }
 {
     let mut at = 0;
     'set: while at < selections.len() && at < others.len() {
-        if !alike(&selections[at], &others[at]) {
+        if !alike(work, &selections[at], &others[at]) {
             return false;
         }
         at += 1;

@@ -14,6 +14,7 @@ use crate::included::is_included;
 use crate::kept::Kept;
 use crate::numbers::Numbers;
 use crate::stand_ins::StandIns;
+use counted_work::Work;
 use document_reader::{Field, Fragment, Selection};
 use gql_base::Name;
 use std::alloc::{AllocError, Global};
@@ -42,6 +43,7 @@ fn shorten_set<'a>(
 ) -> Result<Shortened, AllocError>
     ensures { AreRight stand_ins.now → IfOk result (λ set. AreShortened (environment stand_ins.now.variables.now) (set_tree selections.now) (set_tree set.selections.items)) }
 {
+    stand_ins.work.take(selections.len())?;
     let mut kept = Kept::new(alloc);
     'set: for selection in selections {
         add_selection(alloc, stand_ins, selection, numbers, &mut kept)?;
@@ -70,6 +72,7 @@ fn add_selection<'a>(
 {
     match selection {
         Selection::Field(field) => {
+            stand_ins.work.take(field.directives.len())?;
             if is_included(stand_ins.variables, field.directives.as_slice()) {
                 add_field(alloc, stand_ins, field, numbers, kept)
             } else {
@@ -77,8 +80,9 @@ fn add_selection<'a>(
             }
         }
         Selection::Spread { name, directives } => {
+            stand_ins.work.take(directives.len())?;
             if is_included(stand_ins.variables, directives.as_slice()) {
-                add_spread(alloc, name, numbers, kept)
+                add_spread(alloc, stand_ins.work, name, numbers, kept)
             } else {
                 Ok(())
             }
@@ -88,6 +92,7 @@ fn add_selection<'a>(
             directives,
             selections,
         } => {
+            stand_ins.work.take(directives.len())?;
             if is_included(stand_ins.variables, directives.as_slice()) {
                 add_inline(alloc, stand_ins, on, selections.as_slice(), numbers, kept)
             } else {
@@ -108,8 +113,8 @@ fn field_with<'a>(
     ensures { AreRight stand_ins.now → IfOk result (λ f. IsFieldWith (environment stand_ins.now.variables.now) field.now (set_tree selections.items) (field_tree f)) }
 {
     Ok(Field {
-        alias: copy_maybe_name(alloc, &field.alias)?,
-        name: copy_name(alloc, &field.name)?,
+        alias: copy_maybe_name(alloc, stand_ins.work, &field.alias)?,
+        name: copy_name(alloc, stand_ins.work, &field.name)?,
         arguments: copy_arguments(alloc, stand_ins, field.arguments.as_slice())?,
         directives: Vec::new(alloc),
         selections,
@@ -130,6 +135,7 @@ fn add_field<'a>(
     let number = numbers.of_field(alloc, stand_ins, field, below.number)?;
     let Shortened { selections, .. } = below;
     kept.keep(
+        stand_ins.work,
         number,
         Selection::Field(field_with(alloc, stand_ins, field, selections)?),
     )
@@ -137,6 +143,7 @@ fn add_field<'a>(
 
 fn add_spread<'a>(
     alloc: Global,
+    work: Work<'_>,
     name: &'a Name,
     numbers: &mut Numbers<'a>,
     kept: &mut Kept,
@@ -145,9 +152,10 @@ fn add_spread<'a>(
 {
     let number = numbers.of_spread(alloc, name)?;
     kept.keep(
+        work,
         number,
         Selection::Spread {
-            name: copy_name(alloc, name)?,
+            name: copy_name(alloc, work, name)?,
             directives: Vec::new(alloc),
         },
     )
@@ -171,9 +179,10 @@ fn add_inline<'a>(
         ..
     } = below;
     kept.keep(
+        stand_ins.work,
         number,
         Selection::Inline {
-            on: copy_maybe_name(alloc, on)?,
+            on: copy_maybe_name(alloc, stand_ins.work, on)?,
             directives: Vec::new(alloc),
             selections: shortened,
         },
@@ -191,8 +200,8 @@ fn shorten_fragment<'a>(
     let below = shorten_set(alloc, stand_ins, fragment.selections.as_slice(), numbers)?;
     let Shortened { selections, .. } = below;
     Ok(Fragment {
-        name: copy_name(alloc, &fragment.name)?,
-        on: copy_name(alloc, &fragment.on)?,
+        name: copy_name(alloc, stand_ins.work, &fragment.name)?,
+        on: copy_name(alloc, stand_ins.work, &fragment.on)?,
         directives: Vec::new(alloc),
         selections,
     })
@@ -206,6 +215,7 @@ fn shorten_fragments<'a>(
 ) -> Result<Vec<Fragment>, AllocError>
     ensures { AreRight stand_ins.now → IfOk result (λ fs. AreShortenedFragments (environment stand_ins.now.variables.now) (map fragment_seen fragments.now) (map fragment_data fs.items)) }
 {
+    stand_ins.work.take(fragments.len())?;
     let mut shortened = Vec::new(alloc);
     for fragment in fragments {
         shortened.push(shorten_fragment(alloc, stand_ins, fragment, numbers)?)?;
@@ -215,9 +225,10 @@ fn shorten_fragments<'a>(
 
 /// The selections of an operation and the fragments that it reaches, without repeats and without what these values of variables
 /// leave out. Of variables that have the same value one stands in the place of all, so that calls that are given them are written alike.
-/// It fails for want of memory alone.
+/// It fails for want of memory or of steps alone.
 pub fn distinct_of<'a>(
     alloc: Global,
+    work: Work<'a>,
     variables: &'a Variables,
     selections: &'a [Selection],
     fragments: &[&'a Fragment],
@@ -225,8 +236,8 @@ pub fn distinct_of<'a>(
     ensures selections { IfOk result (λ d. AreShortened (environment variables.now) (set_tree selections.now) (set_tree d.selections.items)) }
     ensures fragments { IfOk result (λ d. AreShortenedFragments (environment variables.now) (map fragment_seen fragments.now) (map fragment_data d.fragments.items)) }
 {
-    let stand_ins = StandIns::of(alloc, variables)?;
-    let mut numbers = Numbers::new(alloc);
+    let stand_ins = StandIns::of(alloc, work, variables)?;
+    let mut numbers = Numbers::new(alloc, work);
     let shortened = shorten_fragments(alloc, &stand_ins, fragments, &mut numbers)?;
     let set = shorten_set(alloc, &stand_ins, selections, &mut numbers)?;
     let Shortened {

@@ -5,6 +5,7 @@ ghost use Rattle.document_reader.specs.Trees.{selection_tree};
 ghost use Rattle.distinct_selections.specs.Adding.{IsRepeated, KeepsOne};
 
 use crate::alike::alike;
+use counted_work::Work;
 use document_reader::Selection;
 use std::alloc::{AllocError, Global};
 use std::collections::BTreeMap;
@@ -18,11 +19,16 @@ pub struct Kept {
 }
 
 /// Whether the selection at a place is written as this one.
-fn is_alike_at(selections: &[Selection], place: usize, selection: &Selection) -> bool
+fn is_alike_at(
+    work: Work<'_>,
+    selections: &[Selection],
+    place: usize,
+    selection: &Selection,
+) -> bool
     ensures { IsTrue result → IsRepeated (selection_tree selection.now) (map selection_tree selections.now) }
 {
     if place < selections.len() {
-        alike(selection, &selections[place])
+        alike(work, selection, &selections[place])
     } else {
         false
     }
@@ -40,11 +46,11 @@ impl Kept {
     }
 
     /// Whether one of the selections is written as this one of a number. Some of them may not be known.
-    fn repeats(&self, number: usize, selection: &Selection) -> bool
+    fn repeats(&self, work: Work<'_>, number: usize, selection: &Selection) -> bool
         ensures { IsTrue result → IsRepeated (selection_tree selection.now) (map selection_tree self.now.selections.items) }
     {
         match self.places.get(&number).copied() {
-            Some(place) => is_alike_at(self.selections.as_slice(), place, selection),
+            Some(place) => is_alike_at(work, self.selections.as_slice(), place, selection),
             None => false,
         }
     }
@@ -60,10 +66,15 @@ impl Kept {
     }
 
     /// Keeps a selection of a number, where none that is kept is written as it is.
-    pub fn keep(&mut self, number: usize, selection: Selection) -> Result<(), AllocError>
+    pub fn keep(
+        &mut self,
+        work: Work<'_>,
+        number: usize,
+        selection: Selection,
+    ) -> Result<(), AllocError>
         ensures { OnOk result (KeepsOne (selection_tree selection) (map selection_tree self.old.selections.items) (map selection_tree self.new.selections.items)) }
     {
-        if self.repeats(number, &selection) {
+        if self.repeats(work, number, &selection) {
             return Ok(());
         }
         self.push(number, selection)

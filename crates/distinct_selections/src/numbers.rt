@@ -1,10 +1,14 @@
 //! Numbers of what is written alike. They say where to look for a selection that is repeated, and nothing rests on them.
 
 use crate::stand_ins::StandIns;
+use counted_work::{Work, steps_of_text};
 use document_reader::Field;
 use gql_base::{Argument, Name, Value};
 use std::alloc::{AllocError, Global};
 use std::collections::BTreeMap;
+
+/// So many words that are compared are one step.
+const WORDS_IN_A_STEP: usize = 8;
 
 /// The numbers of names, of whole numbers, and of what is written with these and with other numbers.
 #[derive(Drop)]
@@ -12,18 +16,21 @@ pub struct Numbers<'a> {
     names: BTreeMap<&'a str, usize>,
     integers: BTreeMap<i128, usize>,
     words: BTreeMap<Vec<usize>, usize>,
+    work: Work<'a>,
 }
 
 impl<'a> Numbers<'a> {
-    pub(crate) fn new(alloc: Global) -> Numbers<'a> {
+    pub(crate) fn new(alloc: Global, work: Work<'a>) -> Numbers<'a> {
         Numbers {
             names: BTreeMap::new(alloc),
             integers: BTreeMap::new(alloc),
             words: BTreeMap::new(alloc),
+            work,
         }
     }
 
     fn name(&mut self, name: &'a str) -> Result<usize, AllocError> {
+        self.work.take(1 + steps_of_text(name.len()))?;
         match self.names.get(name).copied() {
             Some(number) => Ok(number),
             None => {
@@ -47,6 +54,7 @@ impl<'a> Numbers<'a> {
 
     /// The number of these words.
     pub(crate) fn of_words(&mut self, words: Vec<usize>) -> Result<usize, AllocError> {
+        self.work.take(1 + words.len() / WORDS_IN_A_STEP)?;
         match self.words.get(words.as_slice()).copied() {
             Some(number) => Ok(number),
             None => {
@@ -75,6 +83,7 @@ impl<'a> Numbers<'a> {
         value: &'a Value,
         words: &mut Vec<usize>,
     ) -> Result<(), AllocError> {
+        self.work.take(1)?;
         match value {
             Value::Var(name) => self.put_name(1, stand_ins.name_for(name.text.as_str()), words),
             Value::Int(number) => {

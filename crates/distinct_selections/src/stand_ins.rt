@@ -7,6 +7,7 @@ ghost use Rattle.input_values.specs.values.Coerced.{coerced_tree};
 ghost use Rattle.distinct_selections.specs.SameVariables.{AreRight};
 
 use crate::same_values::same_value;
+use counted_work::{Work, steps_of_text};
 use input_values::{Coerced, CoercedField};
 use std::alloc::{AllocError, Global};
 use std::collections::BTreeMap;
@@ -40,6 +41,8 @@ pub struct StandIns<'a> {
     pub others: Vec<StandIn<'a>>,
     /// By the names of variables, their places among these. Nothing rests on it, since the names are compared.
     places: BTreeMap<&'a str, usize>,
+    /// The steps that are left for what is made by these.
+    pub work: Work<'a>,
 }
 
 /// A hash of a value, and how many nodes were left behind it; none where it has more.
@@ -50,9 +53,16 @@ struct Hashed {
 }
 
 /// Adds a text of some kind to a hash, where so many nodes are left, and gives how many are left then. It isn't read where none are.
-fn hash_text(kind: usize, text: &str, left: usize, hasher: &mut FoldHasher) -> usize {
+fn hash_text(
+    work: Work<'_>,
+    kind: usize,
+    text: &str,
+    left: usize,
+    hasher: &mut FoldHasher,
+) -> usize {
     let after = left.saturating_sub(text.len() / BYTES);
     if after > 0 {
+        work.count(steps_of_text(text.len()));
         hasher.write_usize(kind);
         hasher.write_usize(text.len());
         hasher.write(text.as_bytes());
@@ -60,10 +70,11 @@ fn hash_text(kind: usize, text: &str, left: usize, hasher: &mut FoldHasher) -> u
     after
 }
 
-/// Adds a value to a hash, where so many nodes are left, and gives how many are left then. Each kind of values has a number of its own.
+/// Adds a value to a hash, where so many nodes are left, and gives how many are left then: none where no step is. Each kind of values has a
+/// number of its own.
 #[cycle(hash)]
-fn hash_value(value: &Coerced, left: usize, hasher: &mut FoldHasher) -> usize {
-    if left == 0 {
+fn hash_value(work: Work<'_>, value: &Coerced, left: usize, hasher: &mut FoldHasher) -> usize {
+    if left == 0 || work.take(1).is_err() {
         return 0;
     }
     match value {
@@ -72,18 +83,18 @@ fn hash_value(value: &Coerced, left: usize, hasher: &mut FoldHasher) -> usize {
             hasher.write_usize(2);
             hasher.write_i128(*number);
         }
-        Coerced::Str(text) => return hash_text(3, text.as_str(), left - 1, hasher),
+        Coerced::Str(text) => return hash_text(work, 3, text.as_str(), left - 1, hasher),
         Coerced::Bool(truth) => hasher.write_usize(if *truth { 4 } else { 5 }),
-        Coerced::EnumName(name) => return hash_text(6, name.as_str(), left - 1, hasher),
-        Coerced::List(items) => return hash_items(items.as_slice(), left - 1, hasher),
-        Coerced::Object(fields) => return hash_fields(fields.as_slice(), left - 1, hasher),
-        Coerced::Shared(held) => return hash_value(held, left, hasher),
+        Coerced::EnumName(name) => return hash_text(work, 6, name.as_str(), left - 1, hasher),
+        Coerced::List(items) => return hash_items(work, items.as_slice(), left - 1, hasher),
+        Coerced::Object(fields) => return hash_fields(work, fields.as_slice(), left - 1, hasher),
+        Coerced::Shared(held) => return hash_value(work, held, left, hasher),
     }
     left - 1
 }
 
 #[cycle(hash)]
-fn hash_items(items: &[Coerced], many: usize, hasher: &mut FoldHasher) -> usize {
+fn hash_items(work: Work<'_>, items: &[Coerced], many: usize, hasher: &mut FoldHasher) -> usize {
     hasher.write_usize(7);
     hasher.write_usize(items.len());
     let mut left = many;
@@ -91,13 +102,18 @@ fn hash_items(items: &[Coerced], many: usize, hasher: &mut FoldHasher) -> usize 
         if left == 0 {
             return 0;
         }
-        left = hash_value(item, left, hasher);
+        left = hash_value(work, item, left, hasher);
     }
     left
 }
 
 #[cycle(hash)]
-fn hash_fields(fields: &[CoercedField], many: usize, hasher: &mut FoldHasher) -> usize {
+fn hash_fields(
+    work: Work<'_>,
+    fields: &[CoercedField],
+    many: usize,
+    hasher: &mut FoldHasher,
+) -> usize {
     hasher.write_usize(8);
     hasher.write_usize(fields.len());
     let mut left = many;
@@ -105,17 +121,17 @@ fn hash_fields(fields: &[CoercedField], many: usize, hasher: &mut FoldHasher) ->
         if left == 0 {
             return 0;
         }
-        left = hash_text(9, field.name.as_str(), left, hasher);
-        left = hash_value(&field.value, left, hasher);
+        left = hash_text(work, 9, field.name.as_str(), left, hasher);
+        left = hash_value(work, &field.value, left, hasher);
     }
     left
 }
 
 /// A hash of a variable's value, or of none, where it may have so many nodes.
-fn hash_within(value: Option<&Coerced>, many: usize) -> Hashed {
+fn hash_within(work: Work<'_>, value: Option<&Coerced>, many: usize) -> Hashed {
     let mut hasher = FoldHasher::default();
     let left = match value {
-        Some(value) => hash_value(value, many, &mut hasher),
+        Some(value) => hash_value(work, value, many, &mut hasher),
         None => {
             hasher.write_usize(10);
             many
@@ -128,12 +144,12 @@ fn hash_within(value: Option<&Coerced>, many: usize) -> Hashed {
 }
 
 /// The hash of a variable's value, and how many nodes of great values may still be looked at where so many may.
-fn hash_of(value: Option<&Coerced>, great: usize) -> (Option<u64>, usize) {
-    let few = hash_within(value, MANY);
+fn hash_of(work: Work<'_>, value: Option<&Coerced>, great: usize) -> (Option<u64>, usize) {
+    let few = hash_within(work, value, MANY);
     if few.left > 0 {
         return (Some(few.hash), great);
     }
-    let whole = hash_within(value, great);
+    let whole = hash_within(work, value, great);
     if whole.left > 0 {
         (Some(whole.hash), whole.left)
     } else {
@@ -142,12 +158,12 @@ fn hash_of(value: Option<&Coerced>, great: usize) -> (Option<u64>, usize) {
 }
 
 /// Whether two variables have the same value, or both have none.
-fn have_same(value: Option<&Coerced>, other: Option<&Coerced>) -> bool
+fn have_same(work: Work<'_>, value: Option<&Coerced>, other: Option<&Coerced>) -> bool
     ensures { IsTrue result → option_map (λ v. coerced_tree v.now) value.entry ≡ option_map (λ v. coerced_tree v.now) other.entry }
 {
     match value {
         Some(value) => match other {
-            Some(other) => same_value(value, other),
+            Some(other) => same_value(work, value, other),
             None => false,
         },
         None => other.is_none(),
@@ -162,7 +178,7 @@ impl<'a> StandIns<'a> {
             let place = hash.wrapping_add(turn);
             match firsts.get(&place).copied() {
                 Some(first) => {
-                    if have_same(self.variables.value(first), value) {
+                    if have_same(self.work, self.variables.value(first), value) {
                         return Some(place);
                     }
                 }
@@ -177,7 +193,7 @@ impl<'a> StandIns<'a> {
         ensures { IsTrue result → environment self.now.variables.now other.now ≡ environment self.now.variables.now name.now }
     {
         let variables = self.variables;
-        have_same(variables.value(other), variables.value(name))
+        have_same(self.work, variables.value(other), variables.value(name))
     }
 
     /// Notes a variable that stands in for another one, whose value it has.
@@ -226,7 +242,11 @@ impl<'a> StandIns<'a> {
     }
 
     /// For each variable the first that has its value, as far as they are found.
-    pub fn of(alloc: Global, variables: &'a Variables) -> Result<StandIns<'a>, AllocError>
+    pub fn of(
+        alloc: Global,
+        work: Work<'a>,
+        variables: &'a Variables,
+    ) -> Result<StandIns<'a>, AllocError>
         ensures variables { IfOk result (λ made. made.variables.now ≡ variables.now) }
         ensures right { IfOk result AreRight }
     {
@@ -234,12 +254,14 @@ impl<'a> StandIns<'a> {
             variables,
             others: Vec::new(alloc),
             places: BTreeMap::new(alloc),
+            work,
         };
         let mut firsts = BTreeMap::new(alloc);
         let mut great = GREAT;
         for variable in variables.list() {
             let name = variable.name.as_str();
-            let (hash, left) = hash_of(variables.value(name), great);
+            work.take(1 + steps_of_text(name.len()))?;
+            let (hash, left) = hash_of(work, variables.value(name), great);
             great = left;
             match hash {
                 Some(hash) => made.note(&mut firsts, hash, name)?,
