@@ -21,7 +21,7 @@ use variable_coercion::Variables;
 
 /// What an operation that was checked asks, node by node, with what is kept of the arguments of each node beside some names. The nodes
 /// are those of its plan where it is planned well and objects of one type may stand at each place. Of a field with an argument that is refused
-/// nothing is kept. It fails for want of memory or of steps alone.
+/// nothing is kept. It fails for want of memory alone, or of steps where they are counted.
 ///
 /// It asks that the operation breaks no rule of this schema. The weights are to be the schema's, and the variables those
 /// of the operation, coerced by the schema.

@@ -48,7 +48,7 @@ fn looks_like(schema: &Schema, work: Work<'_>, field: &Collected<'_>, other: &Co
     if field.written != other.written {
         return false;
     }
-    work.count(1 + steps_of_text(key_of(field.field).len()));
+    work.count(steps_of_text(key_of(field.field).len()).saturating_add(1));
     if !same_key(field.field, other.field) {
         return false;
     }

@@ -49,7 +49,7 @@ impl Room {
     ) -> Result<(), AllocError>
         ensures { OnOk result (MissesMore reach.old reach.new (reaches other.now)) }
     {
-        work.take(1 + other.listed())?;
+        work.take(other.listed().saturating_add(1))?;
         work.take(other.steps())?;
         if !self.takes(other.steps()) {
             reach.widen();
@@ -69,7 +69,7 @@ impl Room {
     ) -> Result<(), AllocError>
         ensures { OnOk result (MissesWhere (schema_data schema.now) on.number reach.old reach.new other.now) }
     {
-        work.take(1 + other.listed())?;
+        work.take(other.listed().saturating_add(1))?;
         work.take(other.steps_where(schema, on))?;
         if !self.takes(other.steps_where(schema, on)) {
             reach.widen();

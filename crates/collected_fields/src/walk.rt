@@ -185,6 +185,7 @@ fn walk_step<'a>(
             Ok(0)
         }
         Step::Inline { on, count } => {
+            tables.planning.work.take(1)?;
             if tables.planning.schema.applies(*on, of) {
                 Ok(0)
             } else {
@@ -234,7 +235,6 @@ fn walk_set<'a>(
     }
     match tables.lists.get(set) {
         Some(list) => {
-            tables.planning.work.take(list.steps.len())?;
             walk.count(list.steps.len());
             walk_steps(
                 tables,
@@ -285,6 +285,7 @@ fn walk_fragment<'a>(
 ) -> Result<(), AllocError>
     ensures { OnOk result (walk_data walk.new ≡ enter_in tables.now known.now reaches.now of.number depth number (walk_data walk.old)) }
 {
+    tables.planning.work.take(1)?;
     if depth == 0 {
         return Ok(());
     }

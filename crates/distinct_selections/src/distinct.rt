@@ -225,7 +225,7 @@ fn shorten_fragments<'a>(
 
 /// The selections of an operation and the fragments that it reaches, without repeats and without what these values of variables
 /// leave out. Of variables that have the same value one stands in the place of all, so that calls that are given them are written alike.
-/// It fails for want of memory or of steps alone.
+/// It fails for want of memory alone, or of steps where they are counted.
 pub fn distinct_of<'a>(
     alloc: Global,
     work: Work<'a>,

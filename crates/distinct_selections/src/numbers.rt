@@ -30,7 +30,7 @@ impl<'a> Numbers<'a> {
     }
 
     fn name(&mut self, name: &'a str) -> Result<usize, AllocError> {
-        self.work.take(1 + steps_of_text(name.len()))?;
+        self.work.take(steps_of_text(name.len()).saturating_add(1))?;
         match self.names.get(name).copied() {
             Some(number) => Ok(number),
             None => {

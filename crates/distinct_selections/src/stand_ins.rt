@@ -260,7 +260,7 @@ impl<'a> StandIns<'a> {
         let mut great = GREAT;
         for variable in variables.list() {
             let name = variable.name.as_str();
-            work.take(1 + steps_of_text(name.len()))?;
+            work.take(steps_of_text(name.len()).saturating_add(1))?;
             let (hash, left) = hash_of(work, variables.value(name), great);
             great = left;
             match hash {
