@@ -17,6 +17,7 @@ ghost use Rattle.literal_loads.specs.KnownInputs.{scale_of};
 
 use crate::load::{Load, Sum, cost_at};
 use cost_directives::Weights;
+use counted_work::Work;
 use gql_base::{Indexed, Value};
 use input_values::places::is_nullable;
 use input_values::{Coerced, InputDef, Scope, Shape, VariableValue, coerce_literal, is_nothing};
@@ -30,6 +31,7 @@ pub struct Weighing<'p> {
     pub schema: &'p Schema,
     pub weights: &'p Weights,
     pub variables: &'p Indexed<VariableValue>,
+    pub work: Work<'p>,
 }
 
 /// What literals are weighed by, in a schema with its weights and beside the values of variables.
@@ -37,6 +39,7 @@ pub fn weighing_of<'p>(
     schema: &'p Schema,
     weights: &'p Weights,
     variables: &'p Variables,
+    work: Work<'p>,
 ) -> Weighing<'p>
     ensures schema { (scale_of result).schema ≡ schema_data schema.now }
     ensures weights { (scale_of result).weights ≡ weights_data weights.now }
@@ -46,18 +49,20 @@ pub fn weighing_of<'p>(
         schema,
         weights,
         variables: variables.by_name(),
+        work,
     }
 }
 
 impl<'p> Weighing<'p> {
     /// What literals are coerced beside.
     pub fn scope(&self) -> Scope<'p, Schema>
-        ensures { result ≡ record { types = self.now.schema; variables = self.now.variables; limit = value_limit } }
+        ensures { result ≡ record { types = self.now.schema; variables = self.now.variables; limit = value_limit; work = self.now.work } }
     {
         Scope {
             types: self.schema,
             variables: self.variables,
             limit: VALUE_LIMIT,
+            work: self.work,
         }
     }
 

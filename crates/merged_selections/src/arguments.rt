@@ -22,7 +22,14 @@ pub fn arguments_of(
     ensures { AnswersRefusal args_data argument_told result (coerced_of (setting_of_planning planning.now) of.number (collected_field field.now)) }
 {
     let written = field.field.arguments.as_slice();
-    coerce_arguments(alloc, planning.schema, of, written, planning.variables)
+    coerce_arguments(
+        alloc,
+        planning.work,
+        planning.schema,
+        of,
+        written,
+        planning.variables,
+    )
 }
 
 /// Whether the arguments of some fields differ from those of the call at a place, where one more is looked at. Once some

@@ -19,6 +19,7 @@ use crate::known::Known;
 use crate::stop::fault_of;
 use collected_fields::{Collector, Planning};
 use cost_directives::Weights;
+use counted_work::Work;
 use distinct_selections::distinct_of;
 use document_reader::{Fragment, Selection};
 use document_rules::Checked;
@@ -42,6 +43,7 @@ fn lent(alloc: Global, fragments: &[Fragment]) -> Result<Vec<&Fragment>, AllocEr
 /// The plan of selections that are written on the type `root`, beside fragments.
 fn build_from<'a, 'b>(
     alloc: Global,
+    work: Work<'b>,
     schema: &'a Schema,
     weights: &'a Weights,
     variables: &'b Variables,
@@ -58,6 +60,7 @@ fn build_from<'a, 'b>(
         weights,
         variables,
         fragments,
+        work,
     };
     let (collector, list) = Collector::prepare(alloc, planning, root, selections)?;
     let mut building = Building {
@@ -84,6 +87,7 @@ fn build_from<'a, 'b>(
 /// What is written as something before it, and what is left out, is left out before the nodes are looked at.
 pub fn build_plan<'a>(
     alloc: Global,
+    work: Work<'_>,
     schema: &'a Schema,
     weights: &'a Weights,
     checked: &Checked,
@@ -99,6 +103,7 @@ pub fn build_plan<'a>(
     if are_few(selections, reached) {
         return build_from(
             alloc,
+            work,
             schema,
             weights,
             variables,
@@ -107,10 +112,11 @@ pub fn build_plan<'a>(
             selections,
         );
     }
-    let distinct = distinct_of(alloc, variables, selections, reached)?;
+    let distinct = distinct_of(alloc, work, variables, selections, reached)?;
     let fragments = lent(alloc, distinct.fragments.as_slice())?;
     build_from(
         alloc,
+        work,
         schema,
         weights,
         variables,

@@ -10,6 +10,7 @@ use crate::arguments::arguments_of;
 use crate::lookups::Handed;
 use collected_fields::{Collected, Planning};
 use cost_directives::Size;
+use counted_work::Work;
 use distinct_selections::{alike_arguments, same_arguments};
 use literal_loads::Loads;
 use schema_model::{Args, FieldId};
@@ -42,11 +43,11 @@ fn hands<'a>(planning: &Planning<'a>, of: FieldId, args: &Args) -> Option<Handed
 }
 
 /// Whether a call is of this field, with arguments that are written alike.
-pub fn is_alike(call: &Call<'_>, of: FieldId, field: &Collected<'_>) -> bool
+pub fn is_alike(work: Work<'_>, call: &Call<'_>, of: FieldId, field: &Collected<'_>) -> bool
     ensures { IsTrue result → IsAlike call.now of.number (collected_field field.now) }
 {
     let written = call.field.field.arguments.as_slice();
-    call.of == of && alike_arguments(written, field.field.arguments.as_slice())
+    call.of == of && alike_arguments(work, written, field.field.arguments.as_slice())
 }
 
 /// What the arguments of a field cost, which are built for it.
@@ -136,6 +137,7 @@ fn sizes_of(
     let written = field.field.arguments.as_slice();
     coerce_arguments_at(
         alloc,
+        planning.work,
         planning.schema,
         of,
         written,
@@ -176,7 +178,7 @@ pub fn same_as(
     ensures { ComparesArgs (setting_of_planning planning.now) (args_data args.now) of.number (collected_field field.now) result }
 {
     match arguments_of(alloc, planning, of, field) {
-        Ok(others) => Ok(same_arguments(args, &others)),
+        Ok(others) => Ok(same_arguments(planning.work, args, &others)),
         Err(fault) => Err(fault),
     }
 }

@@ -12,6 +12,7 @@ use crate::hashes::hash_of;
 use crate::held::bytes_of;
 use crate::written::are_more;
 use collected_fields::{Collected, Planning};
+use counted_work::Work;
 use literal_loads::{Loads, no_loads, weighing_of};
 use schema_model::{Args, FieldId};
 use std::alloc::{AllocError, Global};
@@ -63,6 +64,7 @@ pub struct Calls<'a> {
     pub loads: Loads<'a>,
     /// The arguments of the call with which others were compared last.
     pub built: Option<BuiltAt>,
+    work: Work<'a>,
 }
 
 /// How many bytes a call holds, about, if there is one.
@@ -78,7 +80,12 @@ impl<'a> Calls<'a> {
     pub fn new(alloc: Global, planning: &Planning<'a>) -> Calls<'a>
         ensures { AreKept (setting_of_planning planning.now) result }
     {
-        let weighing = weighing_of(planning.schema, planning.weights, planning.variables);
+        let weighing = weighing_of(
+            planning.schema,
+            planning.weights,
+            planning.variables,
+            planning.work,
+        );
         Calls {
             made: Vec::new(alloc),
             equal: Vec::new(alloc),
@@ -89,6 +96,7 @@ impl<'a> Calls<'a> {
             refused: 0,
             loads: no_loads(alloc, weighing),
             built: None,
+            work: planning.work,
         }
     }
 
@@ -97,7 +105,8 @@ impl<'a> Calls<'a> {
         ensures { IsTrue result → IsAlikeAt self.now.made.items at of.number (collected_field field.now) }
     {
         match self.made.get(at) {
-            Some(call) => call.field.written == field.written && is_alike(call, of, field),
+            Some(call) => call.field.written == field.written
+                && is_alike(self.work, call, of, field),
             None => false,
         }
     }

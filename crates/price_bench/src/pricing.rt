@@ -13,6 +13,7 @@ ghost use Rattle.acceptance.specs.Requests.{request_data, IsOfSchema};
 use acceptance::{Request, accept, read};
 use cost_directives::Weights;
 use cost_num::{Cost, cost_bytes};
+use counted_work::Work;
 use document_reader::Document;
 use plan_model::laws::built_schemas_can_be_filled;
 use schema_model::Schema;
@@ -75,6 +76,7 @@ pub fn priced(alloc: Global, schema: &str, document: &str, times: u64) -> Result
         document: &document,
         name: None,
         given: &Value::Null,
+        work: Work::free(),
     };
     let mut bound = price(alloc, &request)?;
     'again: for _ in 1..times {

@@ -1,6 +1,7 @@
 //! What arguments cost as they are written, beside what they cost once they are built; and whether they are seen to come to the same.
 
 use cost_directives::Weights;
+use counted_work::Work;
 use document_reader::{Definition, Field, Operation, Selection, read_document};
 use literal_loads::{no_loads, weighing_of};
 use schema_model::{FieldId, Schema};
@@ -166,11 +167,11 @@ fn both_costs(
     field: &Field,
 ) -> Result<(Option<u64>, Option<u64>), Fail> {
     let written = field.arguments.as_slice();
-    let mut loads = no_loads(alloc, weighing_of(schema, weights, variables));
+    let mut loads = no_loads(alloc, weighing_of(schema, weights, variables, Work::free()));
     // The first time it may tell nothing, where little is written.
     let _ = loads.cost_of(alloc, of, written)?;
     let found = loads.cost_of(alloc, of, written)?;
-    match coerce_arguments(alloc, schema, of, written, variables) {
+    match coerce_arguments(alloc, Work::free(), schema, of, written, variables) {
         Ok(args) => Ok((found, Some(weights.argument_cost(of, &args)))),
         Err(_) => Ok((found, None)),
     }
@@ -201,7 +202,7 @@ fn are_same(
     of: FieldId,
     operation: &Operation,
 ) -> Result<Option<bool>, Fail> {
-    let mut loads = no_loads(alloc, weighing_of(schema, weights, variables));
+    let mut loads = no_loads(alloc, weighing_of(schema, weights, variables, Work::free()));
     match (field_at(operation, 0), field_at(operation, 1)) {
         (Some(one), Some(other)) => {
             let others = other.arguments.as_slice();
@@ -223,7 +224,7 @@ fn arguments_cost_what_they_would_built(rt: HostRuntime) -> Result<(), Fail> {
         let of = schema.field(schema.number_named("Query"), "f");
         assert!(rt; found.is_some() && of.is_some(), "{text}");
         if let (Some(operation), Some(of)) = (found, of) {
-            let variables = coerce_variables(alloc, &schema, operation, &given)?;
+            let variables = coerce_variables(alloc, Work::free(), &schema, operation, &given)?;
             let field = field_at(operation, 0);
             assert!(rt; field.is_some(), "{text}");
             if let Some(field) = field {
@@ -247,7 +248,7 @@ fn arguments_are_seen_to_be_the_same(rt: HostRuntime) -> Result<(), Fail> {
         let of = schema.field(schema.number_named("Query"), "f");
         assert!(rt; found.is_some() && of.is_some(), "{text}");
         if let (Some(operation), Some(of)) = (found, of) {
-            let variables = coerce_variables(alloc, &schema, operation, &given)?;
+            let variables = coerce_variables(alloc, Work::free(), &schema, operation, &given)?;
             let seen = are_same(alloc, &schema, &weights, &variables, of, operation)?;
             assert!(rt; seen == Some(*same), "{text}");
         }
