@@ -99,7 +99,7 @@ fn checked<'r>(alloc: Global, request: &Request<'_, 'r>) -> Result<Checked<'r>, 
         Ok(place) => place,
         Err(fault) => return Err(fault),
     };
-    match check(alloc, request.schema, request.document, place) {
+    match check(alloc, request.work, request.schema, request.document, place) {
         Ok(checked) => Ok(checked),
         Err(fault) => Err(rule_fault(fault)),
     }
@@ -111,7 +111,13 @@ fn valued(alloc: Global, request: &Request, checked: &Checked) -> Result<Variabl
     ensures values { IfOk result (λ vs. AreValues (request_data request.now) checked.now.operation.now (variables_data vs)) }
     ensures refused { IfErr result (λ fault. IfRefused fault (IsRefusedFor (request_data request.now))) }
 {
-    match coerce_variables(alloc, request.schema, checked.operation(), request.given) {
+    match coerce_variables(
+        alloc,
+        request.work,
+        request.schema,
+        checked.operation(),
+        request.given,
+    ) {
         Ok(variables) => Ok(variables),
         Err(fault) => Err(variable_fault(fault)),
     }
@@ -133,7 +139,14 @@ fn planned<'s>(
     ensures refused { IfErr result (λ fault. IfRefused fault (IsRefusedFor (request_data request.now))) }
 {
     what_arguments_see();
-    match build_plan(alloc, request.schema, request.weights, checked, variables) {
+    match build_plan(
+        alloc,
+        request.work,
+        request.schema,
+        request.weights,
+        checked,
+        variables,
+    ) {
         Ok(plan) => Ok(plan),
         Err(fault) => Err(plan_fault(fault)),
     }

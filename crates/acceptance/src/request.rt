@@ -1,6 +1,7 @@
 //! What is asked of a schema.
 
 use cost_directives::Weights;
+use counted_work::Work;
 use document_reader::Document;
 use schema_model::Schema;
 use serde_json::Value;
@@ -16,4 +17,6 @@ pub struct Request<'s, 'r> {
     pub name: Option<&'r str>,
     /// The values that are given for its variables: an object of JSON.
     pub given: &'r Value,
+    /// How many steps its tests may take.
+    pub work: Work<'r>,
 }

@@ -16,6 +16,7 @@ use crate::beginning::Denial;
 use crate::gate::Gate;
 use crate::own_answers::own_answer;
 use crate::promise::{Promise, denied, promised};
+use counted_work::Work;
 use document_reader::Document;
 use local_introspection::{Counted, Request, read, read_values_have_each_key_once};
 use request_bodies::Request as Asked;
@@ -70,6 +71,7 @@ fn request_of<'g, 'r>(gate: &'g Gate, asked: &'r Asked, document: &'r Document) 
         document,
         name,
         given: &asked.variables,
+        work: Work::free(),
     }
 }
 

@@ -44,7 +44,14 @@ fn counted_at<'f>(
     ensures within { IfOk result (λ counted. IsWithin counted.cost) }
     ensures refused { IfErr result (TellsLocal (asked_at facts.now (request_data request.now) place)) }
 {
-    match count(alloc, facts, request.document, place, request.given) {
+    match count(
+        alloc,
+        request.work,
+        facts,
+        request.document,
+        place,
+        request.given,
+    ) {
         Ok(counted) => Ok(counted),
         Err(LocalFault::Memory) => Err(Denial::Memory),
         Err(fault) => Err(Denial::NotLocal(fault)),

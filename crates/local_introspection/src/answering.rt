@@ -23,6 +23,7 @@ use crate::measuring::measure_answer;
 use crate::walk::{Local, write_answer};
 use acceptance::{PlanFault, build_plan};
 use cost_num::Cost;
+use counted_work::Work;
 use document_reader::Document;
 use document_rules::{Checked, RuleFault, check};
 use meta_schema::{AskedNode, a_meta_schema_has_its_form, ask, responses_to_what_is_asked};
@@ -38,6 +39,7 @@ pub(crate) struct Asking<'a, 'd> {
     document: &'d Document,
     place: usize,
     given: &'a Value,
+    work: Work<'a>,
 }
 
 // Which rule is broken.
@@ -87,7 +89,7 @@ fn checked<'d>(alloc: Global, of: &Asking<'_, 'd>) -> Result<Checked<'d>, LocalF
     ensures checked { IfOk result (IsChecked (schema_data of.now.facts.now.meta.schema)) }
     ensures refused { IfErr result (IsRefusedFor (ask_data of.now)) }
 {
-    match check(alloc, &of.facts.meta.schema, of.document, of.place) {
+    match check(alloc, of.work, &of.facts.meta.schema, of.document, of.place) {
         Ok(checked) => Ok(checked),
         Err(fault) => Err(rule_fault(fault)),
     }
@@ -99,7 +101,13 @@ fn valued(alloc: Global, of: &Asking, checked: &Checked) -> Result<Variables, Lo
     ensures values { IfOk result (λ vs. AreValues (ask_data of.now) checked.now.operation.now (variables_data vs)) }
     ensures refused { IfErr result (IsRefusedFor (ask_data of.now)) }
 {
-    match coerce_variables(alloc, &of.facts.meta.schema, checked.operation(), of.given) {
+    match coerce_variables(
+        alloc,
+        of.work,
+        &of.facts.meta.schema,
+        checked.operation(),
+        of.given,
+    ) {
         Ok(variables) => Ok(variables),
         Err(fault) => Err(variable_fault(fault)),
     }
@@ -120,7 +128,14 @@ fn planned<'f>(
 {
     what_arguments_see();
     let meta = &of.facts.meta;
-    match build_plan(alloc, &meta.schema, &meta.weights, checked, variables) {
+    match build_plan(
+        alloc,
+        of.work,
+        &meta.schema,
+        &meta.weights,
+        checked,
+        variables,
+    ) {
         Ok(plan) => Ok(plan),
         Err(fault) => Err(plan_fault(fault)),
     }
@@ -129,6 +144,7 @@ fn planned<'f>(
 // What it asks, node by node.
 fn asked(
     alloc: Global,
+    work: Work<'_>,
     facts: &Facts,
     checked: &Checked,
     variables: &Variables,
@@ -140,6 +156,7 @@ fn asked(
     let meta = &facts.meta;
     ask(
         alloc,
+        work,
         names,
         &meta.schema,
         &meta.weights,
@@ -213,6 +230,7 @@ pub struct Counted<'f> {
 /// It asks that the operation at the place is local. `given` is an object of JSON; what is no object gives no variable a value.
 pub fn count<'f>(
     alloc: Global,
+    work: Work<'_>,
     facts: &'f Facts,
     document: &Document,
     place: usize,
@@ -228,6 +246,7 @@ pub fn count<'f>(
         document,
         place,
         given,
+        work,
     };
     let checked = match checked(alloc, &of) {
         Ok(checked) => checked,
@@ -241,7 +260,7 @@ pub fn count<'f>(
         Ok(plan) => plan,
         Err(fault) => return Err(fault),
     };
-    let nodes = match asked(alloc, facts, &checked, &variables) {
+    let nodes = match asked(alloc, work, facts, &checked, &variables) {
         Ok(nodes) => nodes,
         Err(AllocError) => return Err(LocalFault::Memory),
     };

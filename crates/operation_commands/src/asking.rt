@@ -18,6 +18,7 @@ use command_outcomes::{
     weighed_in,
 };
 use command_words::Asked;
+use counted_work::Work;
 use document_reader::Document;
 use gql_base::Text;
 use serde_json::{Map, Value};
@@ -165,6 +166,7 @@ pub fn request_of<'a>(asked: &'a Asked, inputs: &'a Inputs) -> Request<'a, 'a>
         document: &inputs.document,
         name,
         given: &inputs.given,
+        work: Work::free(),
     }
 }
 

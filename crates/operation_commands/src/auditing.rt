@@ -22,6 +22,7 @@ use command_outcomes::{
     refused_naming, refused_schema, weighed_in,
 };
 use command_words::{Asked, AskedAudit};
+use counted_work::Work;
 use document_reader::{Definition, Document, Operation};
 use gql_base::Text;
 use outside::Files;
@@ -76,6 +77,7 @@ fn request_alone<'a>(of: &Auditing<'a>, asked: &'a Asked, document: &'a Document
         document,
         name,
         given: of.given,
+        work: Work::free(),
     }
 }
 

@@ -71,7 +71,14 @@ fn counted_at<'f>(
     ensures within { IfOk result (λ counted. IsWithin counted.cost) }
     ensures refused { IfErr result (TellsLocal (asked_at facts.now (request_data request.now) place)) }
 {
-    match count(alloc, facts, request.document, place, request.given) {
+    match count(
+        alloc,
+        request.work,
+        facts,
+        request.document,
+        place,
+        request.given,
+    ) {
         Ok(counted) => Ok(counted),
         Err(LocalFault::Memory) => Err(OwnFault::Memory),
         Err(fault) => Err(OwnFault::Refused(OwnRefusal::NotAnswered(fault))),
