@@ -16,7 +16,7 @@ use crate::inputs::{KnownInputs, Owner};
 use crate::loads::Loads;
 use crate::same_values::same_value;
 use crate::weighing::Weighing;
-use crate::written::writes_more;
+use crate::written::{steps_of, writes_more};
 use gql_base::{Argument, NameIndex, Value, index_of};
 use input_values::places::innermost;
 use input_values::{Coerced, InputDef, Shape, TypeId};
@@ -63,7 +63,7 @@ impl<'p> Weighing<'p> {
         ensures { IsTrue result → ComesTo (scale_of self.now) (shape_tree shape.now) literal.now (coerced_tree value.now) }
     {
         match self.built_short(alloc, shape, literal) {
-            Some(built) => same_value(&built, value),
+            Some(built) => same_value(self.work, &built, value),
             None => false,
         }
     }
@@ -85,6 +85,7 @@ impl<'p> Weighing<'p> {
     fn is_default(&self, alloc: Global, input: &InputDef, literal: &Value) -> bool
         ensures { IsTrue result → IsDefault (scale_of self.now) (input_data input.now) literal.now }
     {
+        self.work.count(steps_of(literal));
         if self.is_absent(literal) {
             return true;
         }
@@ -102,6 +103,7 @@ impl<'p> Loads<'p> {
     fn are_same_literals(&self, alloc: Global, shape: &Shape, value: &Value, other: &Value) -> bool
         ensures { AreRight self.now → IsTrue result → AreSame (scale_of self.now.of) (shape_tree shape.now) value.now other.now }
     {
+        self.of.work.count(steps_of(value));
         match value {
             Value::List(items) => match other {
                 Value::List(others) => match shape {
@@ -175,6 +177,8 @@ impl<'p> Loads<'p> {
     ) -> bool
         ensures { AreRight self.now → IsKnown (scale_of self.now.of) known.now → IsTrue result → AreSameInputs (scale_of self.now.of) (placed_in known.now) written.now others.now }
     {
+        self.of.work.count(written.len());
+        self.of.work.count(others.len());
         match index_of(alloc, written) {
             Ok(index) => match index_of(alloc, others) {
                 Ok(among) => {
@@ -283,6 +287,7 @@ impl<'p> Loads<'p> {
         ensures right { AreRight self.old → AreRight self.new }
         ensures same { AreRight self.old → IfOk result (λ same. IsTrue same → AreSameArguments (scale_of self.old.of) of.number written.now others.now) }
     {
+        self.of.work.take(1)?;
         self.learn_inputs(alloc, Owner::OfField(of), written)?;
         match self.known(Owner::OfField(of)) {
             Some(known) => Ok(self.are_same_inputs(alloc, known, written, others)),

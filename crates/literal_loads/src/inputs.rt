@@ -125,6 +125,7 @@ impl<'p> Weighing<'p> {
         if inputs.len() != weights.len() {
             return Ok(None);
         }
+        self.work.take(inputs.len())?;
         let mut placed = Vec::new(alloc);
         for at in 0..inputs.len() {
             if !agree(&inputs[at], &weights[at]) {

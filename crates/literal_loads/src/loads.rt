@@ -13,6 +13,7 @@ use crate::held::{HeldLoad, is_leaf, lists_round};
 use crate::inputs::{KnownInputs, Owner};
 use crate::load::{Load, Sum, both_loads, cost_at, list_of, object_of, with_value};
 use crate::weighing::Weighing;
+use crate::written::{steps_of, steps_of_name};
 use cost_num::CAP;
 use gql_base::{Argument, Value, index_of};
 use input_values::places::{innermost, is_nullable};
@@ -174,6 +175,7 @@ impl<'p> Loads<'p> {
     fn literal_load(&self, alloc: Global, shape: &Shape, value: &Value) -> Option<Load>
         ensures { AreRight self.now → IfSome result (WeighsLiteral (scale_of self.now.of) (shape_tree shape.now) value.now) }
     {
+        self.of.work.count(steps_of(value));
         match value {
             Value::Var(name) => self.variable_load(shape, name.text.as_str()),
             Value::List(items) => match shape {
@@ -237,6 +239,7 @@ impl<'p> Loads<'p> {
     ) -> Option<Sum>
         ensures { AreRight self.now → IsKnown (scale_of self.now.of) known.now → IfSome result (AreWritten (scale_of self.now.of) (placed_in known.now) written.now) }
     {
+        self.of.work.count(written.len());
         if !are_once(alloc, written) {
             return None;
         }
@@ -258,6 +261,7 @@ impl<'p> Loads<'p> {
     ) -> Option<Sum>
         ensures { AreRight self.now → IsKnown (scale_of self.now.of) known.now → IfSome result (TakesOne (scale_of self.now.of) (placed_in known.now) argument.now sum) }
     {
+        self.of.work.count(steps_of_name(argument));
         let placed = known.named(argument.name.text.as_str())?;
         if self.of.is_absent(&argument.value) {
             return Some(sum);

@@ -7,6 +7,7 @@ ghost use Rattle.literal_loads.specs.Walks.{HasWeighed};
 use crate::held::{HeldLoad, is_great, lists_round};
 use crate::inputs::Owner;
 use crate::loads::{Loads, owner_number};
+use crate::written::steps_of;
 use gql_base::{Argument, Value};
 use input_values::places::innermost;
 use input_values::{Shape, value_of};
@@ -76,6 +77,7 @@ impl<'p> Loads<'p> {
         if self.great.len() == variables.len() {
             return Ok(());
         }
+        of.work.take(variables.len())?;
         self.great.clear();
         for variable in variables {
             let great = is_great(variable);
@@ -134,6 +136,7 @@ impl<'p> Loads<'p> {
         ensures of { self.new.of ≡ self.old.of }
         ensures right { AreRight self.old → AreRight self.new }
     {
+        self.of.work.take(steps_of(value))?;
         match value {
             Value::Var(name) => self.hold(name.text.as_str(), shape),
             Value::List(items) => match shape {
@@ -182,6 +185,7 @@ impl<'p> Loads<'p> {
         ensures of { self.new.of ≡ self.old.of }
         ensures right { AreRight self.old → AreRight self.new }
     {
+        self.of.work.take(written.len())?;
         self.know(alloc, owner)?;
         'written: for argument in written {
             self.learn_input(alloc, owner, argument)?;
@@ -251,6 +255,7 @@ impl<'p> Loads<'p> {
         ensures right { AreRight self.old → AreRight self.new }
         ensures cost { AreRight self.old → IfOk result (λ found. IfSome found (HasWeighed (scale_of self.old.of) of.number written.now)) }
     {
+        self.of.work.take(1)?;
         self.measure()?;
         if self.write_little(written) && self.is_first(of)? {
             return Ok(None);

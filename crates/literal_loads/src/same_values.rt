@@ -3,6 +3,7 @@
 ghost use Rattle.std.specs.Prelude.{◌≡◌, map, IsTrue};
 ghost use Rattle.input_values.specs.values.Coerced.{coerced_tree, named_tree};
 
+use counted_work::Work;
 use input_values::{Coerced, CoercedField};
 
 /// Whether two values are the same that are neither lists nor objects; of values that are shared it says no.
@@ -49,17 +50,18 @@ fn opened(value: &Coerced) -> &Coerced
 /// Whether two values are the same.
 #[cycle(same)]
 #[tactic(auto, using(crate::proofs::OpenedTrees::opened_coerced))]
-pub fn same_value(value: &Coerced, other: &Coerced) -> bool
+pub fn same_value(work: Work<'_>, value: &Coerced, other: &Coerced) -> bool
     ensures { IsTrue result → coerced_tree value.now ≡ coerced_tree other.now }
 {
+    work.count(1);
     match value {
-        Coerced::Shared(held) => same_value(held, other),
+        Coerced::Shared(held) => same_value(work, held, other),
         Coerced::List(items) => match opened(other) {
-            Coerced::List(others) => same_items(items.as_slice(), others.as_slice()),
+            Coerced::List(others) => same_items(work, items.as_slice(), others.as_slice()),
             _ => false,
         },
         Coerced::Object(fields) => match opened(other) {
-            Coerced::Object(others) => same_fields(fields.as_slice(), others.as_slice()),
+            Coerced::Object(others) => same_fields(work, fields.as_slice(), others.as_slice()),
             _ => false,
         },
         _ => same_leaf_value(value, opened(other)),
@@ -68,14 +70,14 @@ pub fn same_value(value: &Coerced, other: &Coerced) -> bool
 
 /// Whether as many items are.
 #[cycle(same)]
-fn same_items(items: &[Coerced], others: &[Coerced]) -> bool
+fn same_items(work: Work<'_>, items: &[Coerced], others: &[Coerced]) -> bool
     ensures { IsTrue result → map coerced_tree items.now ≡ map coerced_tree others.now }
 {
     if items.len() != others.len() {
         return false;
     }
     'items: for at in (0..items.len()).rev() {
-        if !same_value(&items[at], &others[at]) {
+        if !same_value(work, &items[at], &others[at]) {
             return false;
         }
     }
@@ -84,14 +86,14 @@ fn same_items(items: &[Coerced], others: &[Coerced]) -> bool
 
 /// Whether as many fields are, in the same order.
 #[cycle(same)]
-fn same_fields(fields: &[CoercedField], others: &[CoercedField]) -> bool
+fn same_fields(work: Work<'_>, fields: &[CoercedField], others: &[CoercedField]) -> bool
     ensures { IsTrue result → map named_tree fields.now ≡ map named_tree others.now }
 {
     if fields.len() != others.len() {
         return false;
     }
     'fields: for at in (0..fields.len()).rev() {
-        if !same_field(&fields[at], &others[at]) {
+        if !same_field(work, &fields[at], &others[at]) {
             return false;
         }
     }
@@ -100,11 +102,11 @@ fn same_fields(fields: &[CoercedField], others: &[CoercedField]) -> bool
 
 /// Whether two fields have one name and the same value.
 #[cycle(same)]
-fn same_field(field: &CoercedField, other: &CoercedField) -> bool
+fn same_field(work: Work<'_>, field: &CoercedField, other: &CoercedField) -> bool
     ensures { IsTrue result → named_tree field.now ≡ named_tree other.now }
 {
     if field.name.as_str() == other.name.as_str() {
-        same_value(&field.value, &other.value)
+        same_value(work, &field.value, &other.value)
     } else {
         false
     }

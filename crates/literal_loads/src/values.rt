@@ -17,6 +17,7 @@ use crate::load::{
 use crate::weighing::Weighing;
 use cost_directives::InputWeight;
 use cost_num::CAP;
+use counted_work::Work;
 use input_values::places::innermost;
 use input_values::{Coerced, CoercedField, Shape, ShapeLevel, count_nodes, shape_level};
 use variable_coercion::VALUE_LIMIT;
@@ -25,11 +26,12 @@ use variable_coercion::VALUE_LIMIT;
 const FEW: usize = 32;
 
 /// How many nodes a value has; none where these are more than a value may have.
-fn nodes_within(value: &Coerced) -> Option<u64>
+fn nodes_within(work: Work<'_>, value: &Coerced) -> Option<u64>
     ensures { IfSome result (λ count. count ≡ nodes (coerced_tree value.now)) }
 {
     let mut count = 0;
     count_nodes(value, VALUE_LIMIT, &mut count);
+    work.count(count as usize);
     if count > u64::from(VALUE_LIMIT) {
         return None;
     }
@@ -37,18 +39,18 @@ fn nodes_within(value: &Coerced) -> Option<u64>
 }
 
 /// A leaf: a list or an object has others below it, in the value of a custom scalar.
-fn leaf_value(value: &Coerced) -> Option<Load>
+fn leaf_value(work: Work<'_>, value: &Coerced) -> Option<Load>
     ensures { IfSome result (IsLeaf (nodes (coerced_tree value.now))) }
 {
-    let nodes = nodes_within(value)?;
+    let nodes = nodes_within(work, value)?;
     Some(leaf_of(nodes))
 }
 
 /// An input object inside of which nothing is paid for.
-fn free_object(value: &Coerced) -> Option<Load>
+fn free_object(work: Work<'_>, value: &Coerced) -> Option<Load>
     ensures { IfSome result (HasInside (nodes (coerced_tree value.now)) 0) }
 {
-    let nodes = nodes_within(value)?;
+    let nodes = nodes_within(work, value)?;
     Some(object_with(nodes, 0))
 }
 
@@ -114,6 +116,7 @@ impl<'p> Weighing<'p> {
         if inputs.len() > most {
             return false;
         }
+        self.work.count(inputs.len());
         for input in inputs {
             if !self.is_free(input) {
                 return false;
@@ -126,7 +129,7 @@ impl<'p> Weighing<'p> {
     fn great_object(&self, value: &Coerced, shape: &Shape) -> Option<Load>
         ensures { IfSome result (HasInside (nodes (coerced_tree value.now)) (value_cost (objects_in (weights_data self.now.weights.now)) (shape_tree shape.now) (Some 0) (coerced_tree value.now))) }
     {
-        let nodes = nodes_within(value)?;
+        let nodes = nodes_within(self.work, value)?;
         let inside = self.cost_within(shape, Some(0), value)?;
         Some(object_with(nodes, inside))
     }
@@ -137,6 +140,7 @@ impl<'p> Weighing<'p> {
     pub fn value_load(&self, value: &Coerced, shape: &Shape) -> Option<Load>
         ensures { IfSome result (IsLoad (scale_of self.now) (shape_tree shape.now) (coerced_tree value.now)) }
     {
+        self.work.count(1);
         let leaf = leaf_of(1);
         match value {
             Coerced::Shared(held) => self.value_load(held, shape),
@@ -144,19 +148,19 @@ impl<'p> Weighing<'p> {
                 ShapeLevel::ListOf { item, nullable: _ } => {
                     list_of(self.items_together(items.as_slice(), item)?)
                 }
-                ShapeLevel::Named { of: _, nullable: _ } => leaf_value(value),
+                ShapeLevel::Named { of: _, nullable: _ } => leaf_value(self.work, value),
             },
             Coerced::Object(fields) => match self.inputs_there(shape) {
                 Some(inputs) => {
                     if self.are_free(inputs, most_inputs(fields.len())) {
-                        return free_object(value);
+                        return free_object(self.work, value);
                     }
                     if inputs.len() > FEW {
                         return self.great_object(value, shape);
                     }
                     object_of(self.fields_together(fields.as_slice(), inputs)?)
                 }
-                None => leaf_value(value),
+                None => leaf_value(self.work, value),
             },
             Coerced::Null => Some(Load {
                 nodes: 1,
@@ -221,7 +225,7 @@ impl<'p> Weighing<'p> {
                 })
             }
             None => {
-                let nodes = nodes_within(&field.value)?;
+                let nodes = nodes_within(self.work, &field.value)?;
                 Some(Sum {
                     refused: 0,
                     nodes,

@@ -1,6 +1,20 @@
 //! How much a literal writes. No promise rests on it.
 
+use counted_work::steps_of_text;
 use gql_base::{Argument, Value};
+
+/// How many steps it is to look at a literal, less those of what stands inside of it.
+pub(crate) fn steps_of(literal: &Value) -> usize {
+    match literal {
+        Value::Var(name) => steps_of_text(name.text.as_str().len()).saturating_add(1),
+        _ => 1,
+    }
+}
+
+/// How many steps it is to look for what an argument is given for.
+pub(crate) fn steps_of_name(argument: &Argument) -> usize {
+    steps_of_text(argument.name.text.as_str().len()).saturating_add(1)
+}
 
 /// Whether a literal writes more values than so many.
 pub(crate) fn writes_more(literal: &Value, most: usize) -> bool {

@@ -8,6 +8,7 @@ use schema_model::{FieldId, Schema};
 use schema_reader::read_schema_text;
 use serde_json::Value;
 use std::alloc::Global;
+use std::cell::Cell;
 use std::test::Fail;
 use variable_coercion::{Variables, coerce_arguments, coerce_variables};
 
@@ -251,6 +252,56 @@ fn arguments_are_seen_to_be_the_same(rt: HostRuntime) -> Result<(), Fail> {
             let variables = coerce_variables(alloc, Work::free(), &schema, operation, &given)?;
             let seen = are_same(alloc, &schema, &weights, &variables, of, operation)?;
             assert!(rt; seen == Some(*same), "{text}");
+        }
+    }
+    Ok(())
+}
+
+// Operations of two fields with the values of their variables, to whose costs or to whose comparison a part of the counted steps belongs.
+const WORK: &[(&str, &str)] = &[
+    (
+        "{ a: f(n: 1, i: {must: 1, js: [{}, {y: 1}]}) b: f(i: {must: 1}, n: 1) }",
+        "{}",
+    ),
+    (
+        "query($v: [J!]) { a: f(n: 1, l: [$v]) b: f(n: 1, l: [[{y: 1}, {}]]) }",
+        r#"{"v": [{"y": 1}, {}]}"#,
+    ),
+];
+
+#[test]
+fn what_is_weighed_and_compared_is_counted(rt: HostRuntime) -> Result<(), Fail> {
+    let alloc = rt.alloc();
+    let schema = Schema::build(alloc, &read_schema_text(alloc, SCHEMA)?)?;
+    let weights = Weights::build(alloc, &schema, 1)?;
+    for (text, given) in WORK {
+        let document = read_document(alloc, text)?;
+        let given = Value::from_str(alloc, given)?;
+        let found = only_operation(document.definitions.as_slice());
+        let of = schema.field(schema.number_named("Query"), "f");
+        assert!(rt; found.is_some() && of.is_some(), "{text}");
+        if let (Some(operation), Some(of)) = (found, of) {
+            let variables = coerce_variables(alloc, Work::free(), &schema, operation, &given)?;
+            let (one, other) = (field_at(operation, 0), field_at(operation, 1));
+            if let (Some(one), Some(other)) = (one, other) {
+                let left = Cell::new(1_000u64);
+                let work = Work::counted(&left);
+                let mut loads = no_loads(alloc, weighing_of(&schema, &weights, &variables, work));
+                let written = one.arguments.as_slice();
+                assert!(rt;
+                    loads.are_same(alloc, of, written, other.arguments.as_slice())?,
+                    "{text}"
+                );
+                let behind = left.get();
+                assert!(rt; behind < 1_000, "{text}");
+                assert!(rt; loads.cost_of(alloc, of, written)?.is_some(), "{text}");
+                assert!(rt; left.get() < behind, "{text}");
+                left.set(3);
+                assert!(rt;
+                    loads.cost_of(alloc, of, written).is_err() && work.is_spent(),
+                    "{text}"
+                );
+            }
         }
     }
     Ok(())
