@@ -69,7 +69,7 @@ fn build_from<'a, 'b>(
         left: NODE_LIMIT,
         calls: Calls::new(alloc, &planning),
         keys: Keys::new(alloc),
-        known: Known::new(alloc),
+        known: Known::new(alloc, work),
     };
     match building.build_types(alloc, 1, &[root], &[list], None) {
         Ok(()) => Ok(building.into_plan()),
@@ -100,6 +100,7 @@ pub fn build_plan<'a>(
 {
     let selections = checked.operation().selections.as_slice();
     let reached = checked.fragments();
+    work.count(reached.len());
     if are_few(selections, reached) {
         return build_from(
             alloc,

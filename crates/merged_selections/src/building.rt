@@ -15,6 +15,7 @@ use crate::lookups::{Handed, any_asks, key_of, name_of, types_below};
 use crate::node::{Looked, look_again};
 use crate::stop::{Stop, stopped, under};
 use crate::why::Why;
+use crate::written::steps_of;
 use collected_fields::{Collected, Collector, Group};
 use input_values::TypeId;
 use plan_table::{NodeRow, Plan, size_from};
@@ -34,6 +35,13 @@ pub struct Building<'p, 'a> {
     pub keys: Keys<'p>,
     /// The groups to which positions came.
     pub known: Known<'p>,
+}
+
+/// How many steps it is to add the row of these fields.
+fn steps_of_row(field: &Collected<'_>, others: &[Collected<'_>]) -> usize {
+    steps_of(key_of(field), 1)
+        .saturating_add(steps_of(name_of(field), 1))
+        .saturating_add(others.len())
 }
 
 /// The types of the objects that may stand at a field; none at `__typename`.
@@ -83,6 +91,7 @@ impl<'p, 'a> Building<'p, 'a> {
         ensures left { self.new.left ≡ self.old.left }
         ensures pushed { PushesRow self.old depth on.number first (field.now ∷ others.now) looked.now result self.new }
     {
+        self.calls.work.take(steps_of_row(field, others))?;
         let asked = any_asks(self.plan.schema(), field, others);
         let key = self.keys.row_key(alloc, key_of(field))?;
         let name = self.keys.row_key(alloc, name_of(field))?;
@@ -134,6 +143,9 @@ impl<'p, 'a> Building<'p, 'a> {
         ensures ready { CanBuild self.old → CanBuild self.new }
         ensures built { BuildsTypes self.old depth result self.new types.now lists.now (handed_data handed.entry) }
     {
+        self.calls
+            .work
+            .count(types.len().saturating_mul(lists.len().saturating_add(1)));
         'types: for of in types {
             match self.build_type(alloc, depth, *of, lists, handed) {
                 Ok(()) => {}

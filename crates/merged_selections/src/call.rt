@@ -12,6 +12,7 @@ use collected_fields::{Collected, Planning};
 use cost_directives::Size;
 use counted_work::Work;
 use distinct_selections::{alike_arguments, same_arguments};
+use input_values::count_nodes;
 use literal_loads::Loads;
 use schema_model::{Args, FieldId};
 use std::alloc::Global;
@@ -34,6 +35,7 @@ pub struct Call<'a> {
 fn hands<'a>(planning: &Planning<'a>, of: FieldId, args: &Args) -> Option<Handed<'a>>
     ensures { handed_data result ≡ handed_by (setting_of_planning planning.now) of.number (args_data args.now) }
 {
+    planning.work.count(planning.weights.slicing(of).len());
     let sized = planning.weights.sized_fields(of);
     match planning.weights.declared_size(of, args, None) {
         Ok(Size::Any) => None,
@@ -50,6 +52,18 @@ pub fn is_alike(work: Work<'_>, call: &Call<'_>, of: FieldId, field: &Collected<
     call.of == of && alike_arguments(work, written, field.field.arguments.as_slice())
 }
 
+/// How many nodes the values of arguments have.
+fn nodes_in(args: &Args) -> usize {
+    let mut nodes = 0;
+    for arg in args.list.as_slice() {
+        match &arg.value {
+            Some(value) => count_nodes(value, u32::MAX, &mut nodes),
+            None => {}
+        }
+    }
+    nodes as usize
+}
+
 /// What the arguments of a field cost, which are built for it.
 fn built_cost(
     alloc: Global,
@@ -60,7 +74,10 @@ fn built_cost(
     ensures { Costs (setting_of_planning planning.now) of.number (collected_field field.now) result }
 {
     match arguments_of(alloc, planning, of, field) {
-        Ok(args) => Ok(planning.weights.argument_cost(of, &args)),
+        Ok(args) => {
+            planning.work.count(nodes_in(&args));
+            Ok(planning.weights.argument_cost(of, &args))
+        }
         Err(fault) => Err(fault),
     }
 }

@@ -64,7 +64,7 @@ pub struct Calls<'a> {
     pub loads: Loads<'a>,
     /// The arguments of the call with which others were compared last.
     pub built: Option<BuiltAt>,
-    work: Work<'a>,
+    pub work: Work<'a>,
 }
 
 /// How many bytes a call holds, about, if there is one.
@@ -144,6 +144,7 @@ impl<'a> Calls<'a> {
         ensures grows { Grows self.old.made.items self.new.made.items }
     {
         let at = self.made.len();
+        self.work.count(call.sizes.list.len());
         let bytes = bytes_of(&call.sizes);
         self.places.insert(hash, at)?;
         self.made.push(call)?;
@@ -261,6 +262,7 @@ impl<'a> Calls<'a> {
         let mut root = at;
         let mut hops = 0;
         while hops < HOPS {
+            self.work.count(1);
             let next = self.equal_to(root);
             if next == root {
                 return root;
@@ -279,6 +281,7 @@ impl<'a> Calls<'a> {
         if place >= self.made.len() {
             return Ok(());
         }
+        self.work.count(place.saturating_sub(self.equal.len()));
         while self.equal.len() <= place {
             let at = self.equal.len();
             self.equal.push(at)?;

@@ -13,8 +13,9 @@ ghost use Rattle.merged_selections.specs.Again.{IsFirstAsking, AreSome, HasSome,
 use crate::calls::Calls;
 use crate::lookups::Handed;
 use crate::node::{Looked, look};
-use crate::written::are_more;
+use crate::written::{are_more, steps_of};
 use collected_fields::{Collected, Group, Planning, asks};
+use counted_work::Work;
 use gql_base::Text;
 use input_values::TypeId;
 use schema_model::Schema;
@@ -66,6 +67,7 @@ pub struct Known<'a> {
     room: usize,
     /// The hashes of positions with great literals that were built. Nothing rests on them.
     met: HashSet<u64>,
+    work: Work<'a>,
 }
 
 /// A number by which a position is looked for. Nothing rests on it.
@@ -83,12 +85,26 @@ fn hash_of(of: TypeId, lists: &[usize], spread: Option<&str>) -> u64 {
     hasher.finish()
 }
 
-/// Whether groups have so many fields for their keys that they are worth keeping.
-fn are_many(groups: &[Group<'_>]) -> bool {
+/// How many steps it is to look for a position.
+fn steps_of_place(lists: &[usize], spread: Option<&str>) -> usize {
+    match spread {
+        Some(name) => steps_of(name, 2),
+        None => lists.len().saturating_add(1),
+    }
+}
+
+/// How many fields groups have for their keys.
+fn fields_in(groups: &[Group<'_>]) -> usize {
     let mut fields: usize = 0;
     for group in groups {
         fields = fields.saturating_add(group.fields.len());
     }
+    fields
+}
+
+/// Whether groups have so many fields for their keys that they are worth keeping.
+fn are_many(groups: &[Group<'_>]) -> bool {
+    let fields = fields_in(groups);
     fields >= MANY && fields / 4 >= groups.len()
 }
 
@@ -321,7 +337,7 @@ fn is_for(known: &KnownGroups<'_>, of: TypeId, lists: &[usize], spread: Option<&
 
 impl<'a> Known<'a> {
     /// None.
-    pub fn new(alloc: Global) -> Known<'a>
+    pub fn new(alloc: Global, work: Work<'a>) -> Known<'a>
         ensures { (c : Collector) → AreKnown c result }
     {
         Known {
@@ -329,6 +345,7 @@ impl<'a> Known<'a> {
             places: HashMap::new(alloc),
             room: ROOM,
             met: HashSet::new(alloc),
+            work,
         }
     }
 
@@ -348,6 +365,8 @@ impl<'a> Known<'a> {
         match self.made.get(at) {
             Some(one) => {
                 if is_for(one, of, lists, spread) {
+                    self.work
+                        .take(numbers_in(one.groups.as_slice(), lists.len()))?;
                     let groups = all_shortened(alloc, schema, one.groups.as_slice())?;
                     let looked = taken_looked(alloc, one, handed)?;
                     Ok(Some(FoundGroups { groups, looked }))
@@ -374,6 +393,7 @@ impl<'a> Known<'a> {
         if self.made.is_empty() {
             return Ok(None);
         }
+        self.work.take(steps_of_place(lists, spread))?;
         let hash = hash_of(of, lists, spread);
         match self.places.get(&hash).copied() {
             Some(at) => self.found_at(alloc, schema, at, of, lists, spread, handed),
@@ -417,6 +437,7 @@ impl<'a> Known<'a> {
         ensures kept { AreKept (setting_of_planning planning.now) calls.old → AreKept (setting_of_planning planning.now) calls.new }
         ensures known { (c : Collector) → planning_of c ≡ planning.now → AreKept (setting_of_planning planning.now) calls.old → MayBeKnown c of.number lists.now (name_in spread.entry) groups.now → AreKnown c self.old → AreKnown c self.new }
     {
+        self.work.take(groups.len())?;
         let many = are_many(groups);
         if !many && !have_great(groups) {
             return Ok(());
@@ -430,6 +451,7 @@ impl<'a> Known<'a> {
             return Ok(());
         }
         self.room -= numbers;
+        self.work.take(numbers.saturating_add(fields_in(groups)))?;
         let lists = copied(alloc, lists)?;
         let groups = all_shortened(alloc, planning.schema, groups)?;
         let looked = looked_at(alloc, planning, of, handed, groups.as_slice(), calls)?;

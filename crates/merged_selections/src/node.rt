@@ -11,6 +11,7 @@ use crate::call::Call;
 use crate::calls::Calls;
 use crate::lookups::{Handed, Meaning, handed_in, has_lists, lacks_types, meaning_on, name_of};
 use crate::why::Why;
+use crate::written::steps_of;
 use collected_fields::{Collected, Planning};
 use cost_directives::SizeSource;
 use input_values::TypeId;
@@ -28,6 +29,16 @@ pub struct Looked<'a> {
     pub arguments: u64,
     /// The size that it hands down.
     pub hands: Option<Handed<'a>>,
+}
+
+/// How many steps it is to find the size of a field, and where it comes from: each looks at its slicing arguments, and one at the
+/// names to which a size is handed down.
+fn steps_of_size(planning: &Planning<'_>, of: FieldId, handed: Option<Handed<'_>>) -> usize {
+    let slicing = planning.weights.slicing(of).len().saturating_mul(2);
+    match handed {
+        Some(handed) => slicing.saturating_add(handed.sized.len()),
+        None => slicing,
+    }
 }
 
 /// Where the declared size of a field's list comes from; none where it is no list.
@@ -76,6 +87,7 @@ fn after_arguments<'a>(
 ) -> Result<Looked<'a>, Why>
     ensures { LooksAfterArguments planning.now of handed.entry first.now call.now result }
 {
+    planning.work.count(steps_of_size(planning, of, handed));
     let taken = handed_in(planning.schema, of, handed, name_of(first));
     match planning.weights.declared_size(of, &call.sizes, taken) {
         Ok(_) => {
@@ -172,6 +184,9 @@ pub fn look<'a>(
     ensures looks { AreKept (setting_of_planning planning.now) calls.old → LooksAt (setting_of_planning planning.now) of.number handed.entry (fields_seen first.now others.now) result }
 {
     let name = name_of(first);
+    planning
+        .work
+        .count(steps_of(name, others.len().saturating_add(1)));
     if names_differ(others, name) {
         return Err(Why::Conflict);
     }
