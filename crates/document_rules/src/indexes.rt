@@ -66,6 +66,7 @@ pub fn defined_in<'a>(
     let mut defined = Vec::new(alloc);
     for definition in definitions {
         if let Definition::Frag(fragment) = definition {
+            work.take(1)?;
             work.take(steps_of_text(fragment.name.text.as_str().len()))?;
             defined.push(Defined { fragment })?;
         }

@@ -18,6 +18,7 @@ fn operation_names<'a>(
 ) -> Result<Vec<&'a Name>, AllocError>
     ensures { IfOk result (λ names. map seen_name names.items ≡ operation_names (operations_of definitions.now)) }
 {
+    work.take(definitions.len())?;
     let mut names = Vec::new(alloc);
     for definition in definitions {
         if let Definition::Op(operation) = definition {
@@ -37,6 +38,7 @@ fn fragment_names<'a>(
 ) -> Result<Vec<&'a Name>, AllocError>
     ensures { IfOk result (λ names. map seen_name names.items ≡ map name_of_fragment (fragments_of definitions.now)) }
 {
+    work.take(definitions.len())?;
     let mut names = Vec::new(alloc);
     for definition in definitions {
         if let Definition::Frag(fragment) = definition {
@@ -48,9 +50,10 @@ fn fragment_names<'a>(
 }
 
 /// The offset of the first name that stands before it.
-fn repeated_at(alloc: Global, names: &[&Name]) -> Result<Option<usize>, AllocError>
+fn repeated_at(alloc: Global, work: Work<'_>, names: &[&Name]) -> Result<Option<usize>, AllocError>
     ensures { IfOk result (λ at. at ≡ repeated_at (map seen_name names.now)) }
 {
+    work.take(names.len())?;
     match first_repeated(alloc, names)? {
         Some(place) => Ok(Some(names[place].at)),
         None => Ok(None),
@@ -75,10 +78,9 @@ pub fn repeated_name(
 ) -> Result<Option<usize>, AllocError>
     ensures { IfOk result (λ at. at ≡ repeated_name definitions.now) }
 {
-    work.take(definitions.len())?;
     let operations = operation_names(alloc, work, definitions)?;
-    let operation = repeated_at(alloc, operations.as_slice())?;
+    let operation = repeated_at(alloc, work, operations.as_slice())?;
     let fragments = fragment_names(alloc, work, definitions)?;
-    let fragment = repeated_at(alloc, fragments.as_slice())?;
+    let fragment = repeated_at(alloc, work, fragments.as_slice())?;
     Ok(earlier(operation, fragment))
 }
