@@ -45,9 +45,13 @@ top name = on_top (λ s. record s { no_binary_name = true; disable_help_flag = t
 abbrev pub with_files : App → App
 with_files app = with_rule (with_rule app (place (codes "schema"))) (place (codes "document"))
 
+-- how many steps an operation may take
+abbrev pub with_work : App → App
+with_work app = with_rule app (option (codes "most-work"))
+
 -- and how it is asked for
 abbrev pub with_options : App → App
-with_options app = with_rule (with_rule (with_rule app (option (codes "variables"))) (option (codes "operation"))) (option (codes "unsized"))
+with_options app = with_work (with_rule (with_rule (with_rule app (option (codes "variables"))) (option (codes "operation"))) (option (codes "unsized")))
 
 -- the files of a gateway, and the addresses on both sides of it
 abbrev pub with_gateway : App → App
@@ -87,11 +91,11 @@ with_audited app = with_rule (with_rule (with_rule app (place (codes "schema")))
 
 -- `audit SCHEMA DOCUMENT..`; `--variables-none` says what holds of every audit
 abbrev pub audit_app : App
-audit_app = with_rule (with_rule (with_audited (top (codes "audit"))) (option (codes "unsized"))) (flag (codes "variables-none"))
+audit_app = with_work (with_rule (with_rule (with_audited (top (codes "audit"))) (option (codes "unsized"))) (flag (codes "variables-none")))
 
 -- `introspect SCHEMA DOCUMENT`
 abbrev pub introspect_app : App
-introspect_app = with_rule (with_rule (with_files (top (codes "introspect"))) (option (codes "variables"))) (option (codes "operation"))
+introspect_app = with_work (with_rule (with_rule (with_files (top (codes "introspect"))) (option (codes "variables"))) (option (codes "operation")))
 
 -- `worst SCHEMA DOCUMENT PART`
 abbrev pub worst_app : App
@@ -107,11 +111,11 @@ meter_app = with_options (with_rule (with_files (top (codes "meter"))) (place (c
 
 -- `replay SCHEMA CLIENTS SCRIPT`
 abbrev pub replay_app : App
-replay_app = with_list (with_rule (with_rule (with_rule (with_rule (top (codes "replay")) (place (codes "schema"))) (place (codes "clients"))) (place (codes "script"))) (option (codes "unsized")))
+replay_app = with_work (with_list (with_rule (with_rule (with_rule (with_rule (top (codes "replay")) (place (codes "schema"))) (place (codes "clients"))) (place (codes "script"))) (option (codes "unsized"))))
 
 -- `serve SCHEMA CLIENTS --listen ADDR --upstream ADDR`
 abbrev pub serve_app : App
-serve_app = with_telling (with_list (with_lasting (with_serving (with_gateway (top (codes "serve"))))))
+serve_app = with_work (with_telling (with_list (with_lasting (with_serving (with_gateway (top (codes "serve")))))))
 
 -- `exercise N`
 abbrev pub exercise_app : App

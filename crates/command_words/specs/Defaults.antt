@@ -39,6 +39,13 @@ greatest_waiting = 1000000
 abbrev pub greatest_answer : ℕ
 greatest_answer = 1000000000
 
+-- how few and how many steps may be given as the most that an operation may take
+abbrev pub least_work : ℕ
+least_work = 1000
+
+abbrev pub greatest_work : ℕ
+greatest_work = 1000000000
+
 -- how many names of fields to pass on may be given
 abbrev pub greatest_passed : ℕ
 greatest_passed = 16

@@ -18,7 +18,7 @@ use Rattle.command_words.specs.declared.command.AskedReplay.{AskedReplay}
 use Rattle.command_words.specs.declared.command.AskedServe.{AskedServe}
 use Rattle.response_model.specs.declared.part.Part.{Part}
 use Rattle.response_model.specs.declared.part.Part.TheVariants.{Types, Fields}
-use Rattle.command_words.specs.Defaults.{usual_size, greatest_size, greatest_exercise, usual_target, usual_workers, greatest_workers, greatest_connections, endless_connections, greatest_waiting, greatest_answer, greatest_passed}
+use Rattle.command_words.specs.Defaults.{usual_size, greatest_size, greatest_exercise, usual_target, usual_workers, greatest_workers, greatest_connections, endless_connections, greatest_waiting, greatest_answer, least_work, greatest_work, greatest_passed}
 use Rattle.command_words.specs.Apps.{check_app, price_app, explain_app, audit_app, introspect_app, worst_app, forward_app, meter_app, replay_app, serve_app, exercise_app, migrate_app}
 
 -- The text is this number, in one decimal digit or more, and it is no greater than that.
@@ -44,11 +44,15 @@ IsWorkers (Some journal) given n = (given ≡ None) × (n ≡ 1)
 abbrev pub Stands : Option (List ℕ) → Type 0
 Stands flag = flag ≡ Some (codes "true")
 
--- the number of an option, from 1 to the greatest one; none without the option
-abbrev pub IsMaybe : ℕ → Option (List ℕ) → Option ℕ → Type 0
-IsMaybe greatest None number = number ≡ None
-IsMaybe greatest (Some text) None = ⊥
-IsMaybe greatest (Some text) (Some n) = IsNumber greatest text n × (1 ≤ n)
+-- the number of an option, from the least to the greatest one; none without the option
+abbrev pub IsMaybe : ℕ → ℕ → Option (List ℕ) → Option ℕ → Type 0
+IsMaybe least greatest None number = number ≡ None
+IsMaybe least greatest (Some text) None = ⊥
+IsMaybe least greatest (Some text) (Some n) = IsNumber greatest text n × (least ≤ n)
+
+-- how many steps an operation may take, where that is said
+abbrev pub IsMostWork : Option (List ℕ) → Option ℕ → Type 0
+IsMostWork given number = IsMaybe least_work greatest_work given number
 
 -- the target of requests to the upstream
 abbrev pub IsTarget : Option (List ℕ) → List ℕ → Type 0
@@ -87,6 +91,7 @@ pub record GivesOperation (rows : Rows) (asked : Asked) : Type 0 where
   pub document : first_of (codes "document") rows ≡ Some asked.document
   pub variables : first_of (codes "variables") rows ≡ asked.variables
   pub operation : first_of (codes "operation") rows ≡ asked.operation
+  pub most_work : IsMostWork (first_of (codes "most-work") rows) asked.most_work
 
 -- They give this operation.
 pub record GivesAsked (rows : Rows) (asked : Asked) : Type 0 where
@@ -95,6 +100,7 @@ pub record GivesAsked (rows : Rows) (asked : Asked) : Type 0 where
   pub variables : first_of (codes "variables") rows ≡ asked.variables
   pub operation : first_of (codes "operation") rows ≡ asked.operation
   pub undeclared : IsUndeclared (first_of (codes "unsized") rows) asked.undeclared
+  pub most_work : IsMostWork (first_of (codes "most-work") rows) asked.most_work
 
 -- what an operation may cost at most in each part, where that is said: two amounts, as the allowance of a client has them
 abbrev pub IsMost : Option (List (List ℕ)) → Option Cost → Type 0
@@ -108,6 +114,7 @@ pub record GivesAskedAudit (rows : Rows) (asked : AskedAudit) : Type 0 where
   pub documents : all_of (codes "documents") rows ≡ Some asked.documents.items
   pub is_most : IsMost (all_of (codes "most") rows) asked.most
   pub undeclared : IsUndeclared (first_of (codes "unsized") rows) asked.undeclared
+  pub most_work : IsMostWork (first_of (codes "most-work") rows) asked.most_work
 
 -- They give this schema alone, and no operation.
 pub record GivesSchemaAlone (rows : Rows) (schema : List ℕ) (undeclared : ℕ) : Type 0 where
@@ -115,6 +122,7 @@ pub record GivesSchemaAlone (rows : Rows) (schema : List ℕ) (undeclared : ℕ)
   pub no_document : first_of (codes "document") rows ≡ None
   pub no_variables : first_of (codes "variables") rows ≡ None
   pub no_operation : first_of (codes "operation") rows ≡ None
+  pub no_most_work : first_of (codes "most-work") rows ≡ None
   pub is_undeclared : IsUndeclared (first_of (codes "unsized") rows) undeclared
 
 -- They give this replay.
@@ -124,6 +132,7 @@ pub record GivesAskedReplay (rows : Rows) (asked : AskedReplay) : Type 0 where
   pub script : first_of (codes "script") rows ≡ Some asked.script
   pub is_list : IsList rows asked.list
   pub undeclared : IsUndeclared (first_of (codes "unsized") rows) asked.undeclared
+  pub most_work : IsMostWork (first_of (codes "most-work") rows) asked.most_work
 
 -- They give this serving of a gateway.
 pub record GivesAskedServe (rows : Rows) (asked : AskedServe) : Type 0 where
@@ -135,13 +144,14 @@ pub record GivesAskedServe (rows : Rows) (asked : AskedServe) : Type 0 where
   pub journal : first_of (codes "journal") rows ≡ asked.journal
   pub workers : IsWorkers (first_of (codes "journal") rows) (first_of (codes "workers") rows) asked.workers
   pub connections : IsConnections rows asked.connections
-  pub waiting : IsMaybe greatest_waiting (first_of (codes "idle") rows) asked.waiting
+  pub waiting : IsMaybe 1 greatest_waiting (first_of (codes "idle") rows) asked.waiting
   pub stop : first_of (codes "stop") rows ≡ asked.stop
   pub is_list : IsList rows asked.list
   pub are_passed : ArePassed (unwrap_or (all_of (codes "pass") rows) []) asked.passed.items
   pub hints : IsTrue asked.hints ↔ Stands (first_of (codes "hints") rows)
-  pub most_answer : IsMaybe greatest_answer (first_of (codes "most-answer") rows) asked.most_answer
+  pub most_answer : IsMaybe 1 greatest_answer (first_of (codes "most-answer") rows) asked.most_answer
   pub undeclared : IsUndeclared (first_of (codes "unsized") rows) asked.undeclared
+  pub most_work : IsMostWork (first_of (codes "most-work") rows) asked.most_work
 
 abbrev pub part_word : Part → List ℕ
 part_word Types = codes "types"

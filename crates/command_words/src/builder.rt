@@ -3,7 +3,7 @@
 ghost use Rattle.std.specs.Prelude.{◌≡◌, IfOk, false, codes};
 ghost use Rattle.clap.specs.Simple.{app_of, with_rule};
 ghost use Rattle.clap.specs.Walk.{rule_of};
-ghost use Rattle.command_words.specs.Apps.{with_files, with_options, with_gateway, with_serving, with_lasting, with_list, with_telling, check_app, price_app, explain_app, audit_app, introspect_app, worst_app, forward_app, meter_app, replay_app, serve_app, exercise_app, migrate_app};
+ghost use Rattle.command_words.specs.Apps.{with_files, with_options, with_gateway, with_serving, with_lasting, with_list, with_telling, with_work, check_app, price_app, explain_app, audit_app, introspect_app, worst_app, forward_app, meter_app, replay_app, serve_app, exercise_app, migrate_app};
 
 use clap::{Arg, ArgAction, Command};
 use std::alloc::{AllocError, Global};
@@ -154,13 +154,21 @@ fn with_files<'a>(alloc: Global, command: Command<'a>) -> Result<Command<'a>, Al
     with_place(alloc, command, "document")
 }
 
+// How many steps an operation may take.
+fn with_work<'a>(alloc: Global, command: Command<'a>) -> Result<Command<'a>, AllocError>
+    ensures { IfOk result (λ c. app_of c ≡ with_work (app_of command.entry)) }
+{
+    with_option(alloc, command, "most-work")
+}
+
 // How an operation is asked for.
 fn with_options<'a>(alloc: Global, command: Command<'a>) -> Result<Command<'a>, AllocError>
     ensures { IfOk result (λ c. app_of c ≡ with_options (app_of command.entry)) }
 {
     let command = with_option(alloc, command, "variables")?;
     let command = with_option(alloc, command, "operation")?;
-    with_option(alloc, command, "unsized")
+    let command = with_option(alloc, command, "unsized")?;
+    with_work(alloc, command)
 }
 
 // The files of a gateway, and the addresses on both sides of it.
@@ -242,7 +250,8 @@ pub fn audit_command<'a>(alloc: Global) -> Result<Command<'a>, AllocError>
     let command = with(command, places(alloc, "documents"))?;
     let command = with(command, pair_option(alloc, "most"))?;
     let command = with_option(alloc, command, "unsized")?;
-    with(command, flag(alloc, "variables-none"))
+    let command = with(command, flag(alloc, "variables-none"))?;
+    with_work(alloc, command)
 }
 
 /// `introspect SCHEMA DOCUMENT`
@@ -251,7 +260,8 @@ pub fn introspect_command<'a>(alloc: Global) -> Result<Command<'a>, AllocError>
 {
     let command = with_files(alloc, top(alloc, "introspect"))?;
     let command = with_option(alloc, command, "variables")?;
-    with_option(alloc, command, "operation")
+    let command = with_option(alloc, command, "operation")?;
+    with_work(alloc, command)
 }
 
 /// `worst SCHEMA DOCUMENT PART`
@@ -288,7 +298,8 @@ pub fn replay_command<'a>(alloc: Global) -> Result<Command<'a>, AllocError>
     let command = with_place(alloc, command, "clients")?;
     let command = with_place(alloc, command, "script")?;
     let command = with_option(alloc, command, "unsized")?;
-    with_list(alloc, command)
+    let command = with_list(alloc, command)?;
+    with_work(alloc, command)
 }
 
 /// `serve SCHEMA CLIENTS --listen ADDR --upstream ADDR`
@@ -299,7 +310,8 @@ pub fn serve_command<'a>(alloc: Global) -> Result<Command<'a>, AllocError>
     let command = with_serving(alloc, command)?;
     let command = with_lasting(alloc, command)?;
     let command = with_list(alloc, command)?;
-    with_telling(alloc, command)
+    let command = with_telling(alloc, command)?;
+    with_work(alloc, command)
 }
 
 /// `exercise N`

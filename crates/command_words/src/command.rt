@@ -26,6 +26,10 @@ pub const ENDLESS_CONNECTIONS: u32 = 4_294_967_295;
 pub const GREATEST_WAITING: u32 = 1_000_000;
 /// How many bytes may be given as the most that an answer about the schema has.
 pub const GREATEST_ANSWER: u32 = 1_000_000_000;
+/// How few steps may be given as the most that an operation may take.
+pub const LEAST_WORK: u32 = 1_000;
+/// How many steps may be given as the most that an operation may take.
+pub const GREATEST_WORK: u32 = 1_000_000_000;
 /// How many names of fields to pass on may be given.
 pub const GREATEST_PASSED: usize = 16;
 
@@ -40,6 +44,8 @@ pub struct Asked {
     pub operation: Option<Text>,
     /// The size of lists that declare none.
     pub undeclared: u32,
+    /// How many steps an operation may take, where that is said.
+    pub most_work: Option<u32>,
 }
 
 /// An audit of documents, by the names of their files.
@@ -52,6 +58,8 @@ pub struct AskedAudit {
     pub most: Option<Cost>,
     /// The size of lists that declare none.
     pub undeclared: u32,
+    /// How many steps an operation may take, where that is said.
+    pub most_work: Option<u32>,
 }
 
 /// A list of trusted documents, by the name of its file.
@@ -73,6 +81,8 @@ pub struct AskedReplay {
     pub list: Option<AskedList>,
     /// The size of lists that declare none.
     pub undeclared: u32,
+    /// How many steps an operation may take, where that is said.
+    pub most_work: Option<u32>,
 }
 
 /// How a gateway is served.
@@ -106,6 +116,8 @@ pub struct AskedServe {
     pub most_answer: Option<u32>,
     /// The size of lists that declare none.
     pub undeclared: u32,
+    /// How many steps an operation may take, where that is said.
+    pub most_work: Option<u32>,
 }
 
 /// A command, with the names of its files.

@@ -6,9 +6,12 @@ ghost use Rattle.clap.specs.Matches.{found_of};
 ghost use Rattle.command_words.specs.declared.command.Asked.{Asked as AskedType};
 ghost use Rattle.command_words.specs.declared.command.AskedReplay.{AskedReplay as AskedReplayType};
 ghost use Rattle.command_words.specs.declared.command.AskedList.{AskedList as AskedListType};
-ghost use Rattle.command_words.specs.Words.{IsUndeclared, IsList, GivesOperation, GivesAsked, GivesAskedReplay};
+ghost use Rattle.command_words.specs.Words.{IsUndeclared, IsMaybe, IsMostWork, IsList, GivesOperation, GivesAsked, GivesAskedReplay};
 
-use crate::command::{Asked, AskedList, AskedReplay, GREATEST_UNSIZED, UNDECLARED, WordsFault};
+use crate::command::{
+    Asked, AskedList, AskedReplay, GREATEST_UNSIZED, GREATEST_WORK, LEAST_WORK, UNDECLARED,
+    WordsFault,
+};
 use crate::number::number_of;
 use crate::words::matches::{stands, word_of};
 use clap::ArgMatches;
@@ -69,11 +72,42 @@ pub fn undeclared_of(matches: &ArgMatches) -> Result<u32, WordsFault>
     }
 }
 
+/// The number of an option, from the least to the greatest one; none where the option is absent.
+pub fn maybe_count_of(
+    matches: &ArgMatches,
+    id: &str,
+    least: u32,
+    greatest: u32,
+) -> Result<Option<u32>, WordsFault>
+    ensures found { IfOk result (IsMaybe least greatest (first_of id.now (rows_of (found_of matches.now)))) }
+    ensures usage { result ≡ Err WordsFault.Usage → (n : Option ℕ) → IsMaybe least greatest (first_of id.now (rows_of (found_of matches.now))) n → ⊥ }
+{
+    match word_of(matches, id) {
+        Some(word) => match number_of(word, greatest) {
+            Some(number) if number >= least => Ok(Some(number)),
+            _ => Err(WordsFault::Usage),
+        },
+        None => Ok(None),
+    }
+}
+
+/// How many steps an operation may take, where that is said.
+pub fn most_work_of(matches: &ArgMatches) -> Result<Option<u32>, WordsFault>
+    ensures found { IfOk result (IsMostWork (first_of (codes "most-work") (rows_of (found_of matches.now)))) }
+    ensures usage { result ≡ Err WordsFault.Usage → (n : Option ℕ) → IsMostWork (first_of (codes "most-work") (rows_of (found_of matches.now))) n → ⊥ }
+{
+    maybe_count_of(matches, "most-work", LEAST_WORK, GREATEST_WORK)
+}
+
 /// The operation that words ask for, where they may give no size of lists that declare none.
 pub fn operation_of(alloc: Global, matches: &ArgMatches) -> Result<Asked, WordsFault>
     ensures found { IfOk result (λ asked. GivesOperation (rows_of (found_of matches.now)) asked × (asked.undeclared ≡ UNDECLARED)) }
     ensures usage { result ≡ Err WordsFault.Usage → (asked : AskedType) → GivesOperation (rows_of (found_of matches.now)) asked → ⊥ }
 {
+    let most_work = match most_work_of(matches) {
+        Ok(most_work) => most_work,
+        Err(fault) => return Err(fault),
+    };
     let schema = match place_text(alloc, matches, "schema") {
         Ok(schema) => schema,
         Err(fault) => return Err(fault),
@@ -94,6 +128,7 @@ pub fn operation_of(alloc: Global, matches: &ArgMatches) -> Result<Asked, WordsF
         variables,
         operation,
         undeclared: UNDECLARED,
+        most_work,
     })
 }
 
@@ -150,6 +185,10 @@ pub fn asked_replay_of(alloc: Global, matches: &ArgMatches) -> Result<AskedRepla
         Ok(list) => list,
         Err(fault) => return Err(fault),
     };
+    let most_work = match most_work_of(matches) {
+        Ok(most_work) => most_work,
+        Err(fault) => return Err(fault),
+    };
     match undeclared_of(matches) {
         Ok(undeclared) => Ok(AskedReplay {
             schema,
@@ -157,6 +196,7 @@ pub fn asked_replay_of(alloc: Global, matches: &ArgMatches) -> Result<AskedRepla
             script,
             list,
             undeclared,
+            most_work,
         }),
         Err(fault) => Err(fault),
     }

@@ -9,7 +9,7 @@ ghost use Rattle.command_words.specs.declared.command.AskedAudit.{AskedAudit as 
 ghost use Rattle.command_words.specs.Words.{IsMost, GivesAskedAudit};
 
 use crate::command::{AskedAudit, WordsFault};
-use crate::words::asked::{place_text, undeclared_of};
+use crate::words::asked::{most_work_of, place_text, undeclared_of};
 use crate::words::matches::{copies_of, words_of};
 use clap::ArgMatches;
 use cost_num::{CAP, Cost, read_allowance};
@@ -90,6 +90,10 @@ pub fn asked_audit_of(alloc: Global, matches: &ArgMatches) -> Result<AskedAudit,
         Ok(undeclared) => undeclared,
         Err(fault) => return Err(fault),
     };
+    let most_work = match most_work_of(matches) {
+        Ok(most_work) => most_work,
+        Err(fault) => return Err(fault),
+    };
     let schema = match place_text(alloc, matches, "schema") {
         Ok(schema) => schema,
         Err(fault) => return Err(fault),
@@ -100,6 +104,7 @@ pub fn asked_audit_of(alloc: Global, matches: &ArgMatches) -> Result<AskedAudit,
             documents,
             most,
             undeclared,
+            most_work,
         }),
         Err(fault) => Err(fault),
     }

@@ -83,6 +83,9 @@ fn explain_schema_of(alloc: Global, matches: &ArgMatches) -> Result<Command, Wor
     if word_of(matches, "variables").is_some() || word_of(matches, "operation").is_some() {
         return Err(WordsFault::Usage);
     }
+    if word_of(matches, "most-work").is_some() {
+        return Err(WordsFault::Usage);
+    }
     let undeclared = match undeclared_of(matches) {
         Ok(undeclared) => undeclared,
         Err(fault) => return Err(fault),

@@ -7,14 +7,16 @@ ghost use Rattle.clap.specs.Walk.{rows_of, first_of, all_of};
 ghost use Rattle.clap.specs.Matches.{found_of};
 ghost use Rattle.http_front.specs.Passed.{may_be_passed};
 ghost use Rattle.command_words.specs.declared.command.AskedServe.{AskedServe as AskedServeType};
-ghost use Rattle.command_words.specs.Words.{IsTarget, IsWithin, IsWorkers, IsConnections, IsMaybe, ArePassed, GivesAskedServe};
+ghost use Rattle.command_words.specs.Words.{IsTarget, IsWithin, IsWorkers, IsConnections, ArePassed, GivesAskedServe};
 
 use crate::command::{
     AskedServe, ENDLESS_CONNECTIONS, GREATEST_ANSWER, GREATEST_CONNECTIONS, GREATEST_PASSED,
     GREATEST_WAITING, GREATEST_WORKERS, TARGET, WORKERS, WordsFault,
 };
 use crate::number::number_of;
-use crate::words::asked::{list_of, option_text, place_text, undeclared_of};
+use crate::words::asked::{
+    list_of, maybe_count_of, most_work_of, option_text, place_text, undeclared_of,
+};
 use crate::words::matches::{copies_of, stands, word_of};
 use clap::ArgMatches;
 use gql_base::Text;
@@ -91,21 +93,6 @@ fn connections_of(matches: &ArgMatches) -> Result<u32, WordsFault>
     count_of(matches, "connections", most, most)
 }
 
-// The number of an option, from 1 to the greatest one; none where the option is absent.
-fn maybe_count_of(matches: &ArgMatches, id: &str, greatest: u32) -> Result<Option<u32>, WordsFault>
-    ensures found { IfOk result (IsMaybe greatest (first_of id.now (rows_of (found_of matches.now)))) }
-    ensures usage { result ≡ Err WordsFault.Usage → (n : Option ℕ) → IsMaybe greatest (first_of id.now (rows_of (found_of matches.now))) n → ⊥ }
-{
-    match word_of(matches, id) {
-        Some(word) => match number_of(word, greatest) {
-            Some(0) => Err(WordsFault::Usage),
-            Some(number) => Ok(Some(number)),
-            None => Err(WordsFault::Usage),
-        },
-        None => Ok(None),
-    }
-}
-
 // Whether fields of each of these names may be passed on.
 fn may_all_be_passed(names: &[&str]) -> bool
     ensures { result ≡ list_all may_be_passed (map (λ s. s.now) names.now) }
@@ -154,8 +141,9 @@ pub fn asked_serve_of(alloc: Global, matches: &ArgMatches) -> Result<AskedServe,
     let upstream = place_text(alloc, matches, "upstream")?;
     let workers = workers_of(matches)?;
     let connections = connections_of(matches)?;
-    let waiting = maybe_count_of(matches, "idle", GREATEST_WAITING)?;
-    let most_answer = maybe_count_of(matches, "most-answer", GREATEST_ANSWER)?;
+    let waiting = maybe_count_of(matches, "idle", 1, GREATEST_WAITING)?;
+    let most_answer = maybe_count_of(matches, "most-answer", 1, GREATEST_ANSWER)?;
+    let most_work = most_work_of(matches)?;
     let list = list_of(alloc, matches)?;
     let passed = passed_of(alloc, matches)?;
     let undeclared = undeclared_of(matches)?;
@@ -178,5 +166,6 @@ pub fn asked_serve_of(alloc: Global, matches: &ArgMatches) -> Result<AskedServe,
         hints: stands(matches, "hints"),
         most_answer,
         undeclared,
+        most_work,
     })
 }
