@@ -36,7 +36,7 @@ pub enum AcceptFault {
     /// It is refused.
     #[error("the operation is refused: {0}")]
     Refused(Refusal),
-    /// There was no memory.
+    /// There was no memory, or there were no steps left, where they are counted.
     #[error("there was no memory for the operation")]
     Memory,
 }

@@ -7,6 +7,7 @@ mod fault;
 mod forwarding;
 mod laws;
 mod request;
+mod steps;
 mod telling;
 pub mod texts;
 
@@ -20,4 +21,5 @@ pub use laws::{
 };
 pub use merged_selections::{PlanFault, build_plan};
 pub use request::Request;
+pub use steps::work_up_to;
 pub use telling::{refusal_text, told_of_argument, told_of_size};

@@ -17,6 +17,6 @@ pub struct Request<'s, 'r> {
     pub name: Option<&'r str>,
     /// The values that are given for its variables: an object of JSON.
     pub given: &'r Value,
-    /// How many steps its tests may take.
+    /// How many steps its tests may take, and what is sent for it.
     pub work: Work<'r>,
 }

@@ -37,10 +37,10 @@ module _ (only : OneReading) (texts : ReplayTexts) (undeclared : ℕ) where
   no_script : (fault : ScriptFault) → HoldsScript texts → HasFault texts.script fault → ⊥
   no_script fault held refused = only.script_or_not texts.script held.0 fault held.1 refused
 
-  pub not_both : (refusal : ReplayRefusal) → IsReplayRefusal texts undeclared refusal → IsReplayed texts undeclared (λ end. ⊤) → ⊥
-  not_both (NoRules refusal) refused replayed = held_or_refused only.rules texts.rules undeclared refusal replayed.0.rules refused replayed.1.are_rules
-  not_both (NoScript fault) refused replayed = no_script fault (steps_of replayed.0.script, replayed.1.is_script) refused.2
-  not_both (NoList fault) refused replayed = list_or_not texts.list replayed.0.list fault replayed.1.is_list refused.3
+  pub not_both : (work : Option ℕ) (refusal : ReplayRefusal) → IsReplayRefusal texts undeclared refusal → IsReplayed texts undeclared work (λ end. ⊤) → ⊥
+  not_both work (NoRules refusal) refused replayed = held_or_refused only.rules texts.rules undeclared refusal replayed.0.rules refused replayed.1.are_rules
+  not_both work (NoScript fault) refused replayed = no_script fault (steps_of replayed.0.script, replayed.1.is_script) refused.2
+  not_both work (NoList fault) refused replayed = list_or_not texts.list replayed.0.list fault replayed.1.is_list refused.3
 
   pub one_refusal : (refusal other : ReplayRefusal) → IsReplayRefusal texts undeclared refusal → IsReplayRefusal texts undeclared other → refusal ≡ other
   one_refusal (NoRules refusal) (NoRules other) a b = ap NoRules (one_rules only.rules texts.rules undeclared refusal other a b)

@@ -133,10 +133,10 @@ all_written (c ∷ cs) (a ∷ rest) (suc n) enough = ap (λ text. line (client_t
 
 -- ---- what texts come to
 
-pub replayed_that : (texts : ReplayTexts) (undeclared : ℕ) (end : ReplayEnd) (P : ReplayEnd → Type 0) → IsReplayed texts undeclared (λ other. other ≡ end) → P end → IsReplayed texts undeclared P
-replayed_that texts undeclared end P replayed holds = (replayed.0, replayed.1, (replayed.2.0, replayed.2.1, subst P (sym replayed.2.2) holds))
+pub replayed_that : (texts : ReplayTexts) (undeclared : ℕ) (work : Option ℕ) (end : ReplayEnd) (P : ReplayEnd → Type 0) → IsReplayed texts undeclared work (λ other. other ≡ end) → P end → IsReplayed texts undeclared work P
+replayed_that texts undeclared work end P replayed holds = (replayed.0, replayed.1, (replayed.2.0, replayed.2.1, subst P (sym replayed.2.2) holds))
 
-pub replay_told : (name : List ℕ) (texts : ReplayTexts) (undeclared : ℕ) (end : ReplayEnd) (outcome : Outcome) → IsReplayed texts undeclared (λ other. other ≡ end)
-    → (outcome ≡ Memory) ⊎ IsWritten end outcome → ReplayOf name texts undeclared outcome
-replay_told name texts undeclared end outcome replayed (inl memory) = inl memory
-replay_told name texts undeclared end outcome replayed (inr written) = inr (inl (replayed_that texts undeclared end (λ other. IsWritten other outcome) replayed written))
+pub replay_told : (name : List ℕ) (texts : ReplayTexts) (undeclared : ℕ) (work : Option ℕ) (end : ReplayEnd) (outcome : Outcome) → IsReplayed texts undeclared work (λ other. other ≡ end)
+    → (outcome ≡ Memory) ⊎ IsWritten end outcome → ReplayOf name texts undeclared work outcome
+replay_told name texts undeclared work end outcome replayed (inl memory) = inl memory
+replay_told name texts undeclared work end outcome replayed (inr written) = inr (inl (replayed_that texts undeclared work end (λ other. IsWritten other outcome) replayed written))

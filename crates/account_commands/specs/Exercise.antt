@@ -41,5 +41,5 @@ IsOfItsSchema refusal = (why : SchemaRefusal) × (refusal ≡ NoRules (NoSchema 
 -- The replay of the texts of so many requests is summed up, or those texts are refused as a replay's are, or there was no memory.
 abbrev pub ExerciseCameTo : ℕ → Outcome → Type 0
 ExerciseCameTo requests outcome = (outcome ≡ Memory)
-    ⊎ IsReplayed (exercise_texts requests) UNDECLARED (λ end. IsDone (summary_text end.report) outcome)
+    ⊎ IsReplayed (exercise_texts requests) UNDECLARED None (λ end. IsDone (summary_text end.report) outcome)
     ⊎ IsReplayRefused (codes "schema") (exercise_texts requests) UNDECLARED outcome

@@ -1,6 +1,6 @@
 -- Words of the crates below, passed on to those above, which so need no entry for the crates where these are at home.
 pub use Rattle.command_outcomes.specs.Check.{CheckCameTo, CheckOf, HoldsWith}
-pub use Rattle.command_outcomes.specs.Outcomes.{FilesTold, IsAudited, IsDone, IsFaultyAs, IsRefusedAs, IsStopped, NoFileFailed, files_told}
+pub use Rattle.command_outcomes.specs.Outcomes.{FilesTold, IsAudited, IsDone, IsFaultyAs, IsRefusedAs, IsStopped, IsWanting, NoFileFailed, files_told}
 pub use Rattle.command_outcomes.specs.Reading.{HasNoText, HoldsText, IsNoText, IsText}
 pub use Rattle.command_outcomes.specs.Texts.{file_text, line}
 pub use Rattle.command_outcomes.specs.declared.limits.TheConstants.{CLIENTS_LIMIT, DOCUMENT_LIMIT, SCHEMA_LIMIT, SCRIPT_LIMIT, TRUSTED_LIMIT, VARIABLES_LIMIT}

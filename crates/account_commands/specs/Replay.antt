@@ -112,10 +112,10 @@ pub record EndsAs (rules : Rules) (script : List StepData) (end : ReplayEnd) : T
   pub clients : end.totals.clients.items.items ≡ rules.clients
   pub accounts : end.totals.accounts ≡ accounts_from rules replays.turns 0 rules.clients
 
--- The texts hold a replay, and this holds of its end.
-abbrev pub IsReplayed : ReplayTexts → ℕ → (ReplayEnd → Type 0) → Type 0
-IsReplayed texts undeclared P = (inputs : ReplayInputs) × HoldReplay texts undeclared inputs
-    × ((end : ReplayEnd) × EndsAs (rules_in inputs.rules inputs.list None) (steps_of inputs.script) end × P end)
+-- The texts hold a replay, and this holds of its end. Each request takes at most so many steps, where a number is given.
+abbrev pub IsReplayed : ReplayTexts → ℕ → Option ℕ → (ReplayEnd → Type 0) → Type 0
+IsReplayed texts undeclared work P = (inputs : ReplayInputs) × HoldReplay texts undeclared inputs
+    × ((end : ReplayEnd) × EndsAs (rules_in inputs.rules inputs.list None work) (steps_of inputs.script) end × P end)
 
 -- ---- how it is written
 
@@ -142,15 +142,15 @@ abbrev pub IsWritten : ReplayEnd → Outcome → Type 0
 IsWritten end outcome = (output : List ℕ) × (end_text end ≡ line output) × IsDone output outcome
 
 -- By the texts: a replay's lines are the output, or the texts are refused, or there was no memory.
-abbrev pub ReplayOf : List ℕ → ReplayTexts → ℕ → Outcome → Type 0
-ReplayOf name texts undeclared outcome = (outcome ≡ Memory)
-    ⊎ IsReplayed texts undeclared (λ end. IsWritten end outcome)
+abbrev pub ReplayOf : List ℕ → ReplayTexts → ℕ → Option ℕ → Outcome → Type 0
+ReplayOf name texts undeclared work outcome = (outcome ≡ Memory)
+    ⊎ IsReplayed texts undeclared work (λ end. IsWritten end outcome)
     ⊎ IsReplayRefused name texts undeclared outcome
 
 -- The files hold no texts; or they do, and came to that, and none failed.
 abbrev pub ReplayCameTo : AskedReplay → FilesTold → Outcome → Type 0
 ReplayCameTo asked files outcome = HaveNoReplay asked files outcome
-    ⊎ ((texts : ReplayTexts) × HoldReplayTexts asked files.content texts × ReplayOf asked.schema texts asked.undeclared outcome
+    ⊎ ((texts : ReplayTexts) × HoldReplayTexts asked files.content texts × ReplayOf asked.schema texts asked.undeclared asked.most_work outcome
     × NoFileFailed files)
 
 -- ---- what serves proofs

@@ -46,11 +46,13 @@ pub record HoldRules (texts : RuleTexts) (undeclared : ℕ) (inputs : RuleInputs
   pub are_facts : AreKnownOf texts.schema inputs.facts
   pub are_clients : IsClientFile texts.clients inputs.clients.window_seconds inputs.clients.clients.items
 
--- by what requests are decided, with a list of trusted documents if there is one; and how many bytes an answer about the schema may have
-abbrev pub rules_in : RuleInputs → Option Trusted → Option ℕ → Rules
-rules_in inputs list most = record (rules_with (schema_data inputs.weighed.schema) (weights_data inputs.weighed.weights) inputs.clients.clients.items inputs.clients.window_seconds) {
+-- by what requests are decided, with a list of trusted documents if there is one; how many bytes an answer about the schema may have, and how
+-- many steps a request may take
+abbrev pub rules_in : RuleInputs → Option Trusted → Option ℕ → Option ℕ → Rules
+rules_in inputs list most work = record (rules_with (schema_data inputs.weighed.schema) (weights_data inputs.weighed.weights) inputs.clients.clients.items inputs.clients.window_seconds) {
   trusted = option_map listing_of list;
   facts = Some (record inputs.facts { most = most });
+  most_work = work;
 }
 
 -- ---- why they are refused

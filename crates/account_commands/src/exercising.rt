@@ -79,7 +79,7 @@ pub fn exercise<Rt: Wait>(alloc: Global, rt: &Rt, requests: u32) -> Outcome
         Ok(texts) => texts,
         Err(_) => return Outcome::Memory,
     };
-    match replay_texts(alloc, rt, &texts, UNDECLARED) {
+    match replay_texts(alloc, rt, &texts, UNDECLARED, None) {
         Ok(end) => summed_up(alloc, &end.report),
         Err(ReplayFault::Refused(refusal)) => refused(alloc, refusal),
         Err(ReplayFault::Memory) => Outcome::Memory,

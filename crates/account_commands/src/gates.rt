@@ -39,7 +39,7 @@ fn bytes_of(most: Option<u32>) -> Option<usize>
 }
 
 /// A gate by what texts hold, and by a list of trusted documents if there is one, with fresh accounts, and the first passes to them.
-/// An answer about the schema has at most so many bytes, where a number is given.
+/// An answer about the schema has at most so many bytes, and a request takes at most so many steps, where a number is given.
 ///
 /// # Errors
 ///
@@ -50,11 +50,12 @@ pub fn gate_by(
     list: Option<Trusted>,
     settings: Settings,
     most: Option<u32>,
+    work: Option<u32>,
 ) -> Result<(Gate, Passes), AllocError>
     requires weighed { HasWeights (schema_data inputs.weighed.schema) (weights_data inputs.weighed.weights) }
     requires served { MayBeServed inputs.clients.window_seconds inputs.clients.clients.items }
     requires window { settings.window_seconds ≡ inputs.clients.window_seconds }
-    ensures rules { IfOk result (λ m. rules_of m.0 ≡ rules_in inputs list most) }
+    ensures rules { IfOk result (λ m. rules_of m.0 ≡ rules_in inputs list most work) }
     ensures settings { IfOk result (λ m. m.0.settings ≡ settings) }
     ensures belong { IfOk result (λ m. Belongs m.1 m.0.accounts) }
     ensures fresh { IfOk result (λ m. AreFresh (rules_of m.0) m.1) }
@@ -71,7 +72,7 @@ pub fn gate_by(
         clients.clients,
         settings,
     )?;
-    let gate = with_list(gate, list);
+    let gate = with_list(gate, list).with_most_work(work);
     let facts = facts.with_most(bytes_of(most));
     Ok((gate.with_facts(facts), passes))
 }

@@ -68,11 +68,12 @@ fn replay_by<Rt: Wait>(
     alloc: Global,
     rt: &Rt,
     inputs: ReplayInputs<'_>,
+    work: Option<u32>,
 ) -> Result<ReplayEnd, AllocError>
     requires weighed { HasWeights (schema_data inputs.rules.weighed.schema) (weights_data inputs.rules.weighed.weights) }
     requires served { MayBeServed inputs.rules.clients.window_seconds inputs.rules.clients.clients.items }
     requires few { length (steps_of inputs.script) ≤ LINE_LIMIT }
-    ensures { IfOk result (EndsAs (rules_in inputs.entry.rules inputs.entry.list None) (steps_of inputs.entry.script)) }
+    ensures { IfOk result (EndsAs (rules_in inputs.entry.rules inputs.entry.list None work) (steps_of inputs.entry.script)) }
 {
     let ReplayInputs {
         rules,
@@ -80,19 +81,21 @@ fn replay_by<Rt: Wait>(
         list,
     } = inputs;
     let settings = settings_of(alloc, rules.clients.window_seconds);
-    let (gate, passes) = gate_by(alloc, rules, list, settings, None)?;
+    let (gate, passes) = gate_by(alloc, rules, list, settings, None, work)?;
     replay_fresh(alloc, rt, gate, passes, &script)
 }
 
-/// Replays the script of these texts over fresh accounts, or says why they are refused.
+/// Replays the script of these texts over fresh accounts, or says why they are refused. Each request takes at most so many steps, where a number
+/// is given.
 pub fn replay_texts<Rt: Wait>(
     alloc: Global,
     rt: &Rt,
     texts: &ReplayTexts,
     undeclared: u32,
+    work: Option<u32>,
 ) -> Result<ReplayEnd, ReplayFault>
     requires text { IsText SCHEMA_LIMIT texts.now.rules.schema }
-    ensures replayed { IfOk result (λ end. IsReplayed texts.now undeclared (λ other. other ≡ end)) }
+    ensures replayed { IfOk result (λ end. IsReplayed texts.now undeclared work (λ other. other ≡ end)) }
     ensures printable { IfOk result IsPrintable }
     ensures refused { IfErr result (λ fault. IfReplayRefused fault (IsReplayRefusal texts.now undeclared)) }
 {
@@ -102,7 +105,7 @@ pub fn replay_texts<Rt: Wait>(
         Ok(inputs) => inputs,
         Err(fault) => return Err(fault),
     };
-    match replay_by(alloc, rt, inputs) {
+    match replay_by(alloc, rt, inputs, work) {
         Ok(end) => Ok(end),
         Err(_) => Err(ReplayFault::Memory),
     }

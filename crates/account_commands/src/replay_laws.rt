@@ -1,6 +1,6 @@
 //! What holds of the replays of all texts. These functions do nothing: their contracts are the laws.
 
-ghost use Rattle.std.specs.Prelude.{◌≡◌, ℕ, List, true, ⊤};
+ghost use Rattle.std.specs.Prelude.{◌≡◌, ℕ, List, Option, true, ⊤};
 ghost use Rattle.account_commands.specs.declared.replay_texts.ReplayTexts as texts_type;
 ghost use Rattle.account_commands.specs.declared.replay_inputs.ReplayRefusal as refusal_type;
 ghost use Rattle.client_files.specs.declared.fault.ClientsFault.{ClientsFault};
@@ -14,7 +14,7 @@ use replay_scripts::a_script_is_of_one_list_of_steps;
 
 /// Texts that are refused have no replay, and are refused in one way at most.
 pub fn refused_texts_have_no_replay()
-    ensures not_both { (texts : texts_type.ReplayTexts) (undeclared : ℕ) (refusal : refusal_type.ReplayRefusal) → IsReplayRefusal texts undeclared refusal → IsReplayed texts undeclared (λ end. ⊤) → ⊥ }
+    ensures not_both { (texts : texts_type.ReplayTexts) (undeclared : ℕ) (work : Option ℕ) (refusal : refusal_type.ReplayRefusal) → IsReplayRefusal texts undeclared refusal → IsReplayed texts undeclared work (λ end. ⊤) → ⊥ }
     ensures one_refusal { (texts : texts_type.ReplayTexts) (undeclared : ℕ) (refusal other : refusal_type.ReplayRefusal) → IsReplayRefusal texts undeclared refusal → IsReplayRefusal texts undeclared other → refusal ≡ other }
 {
     a_schema_file_has_one_check();

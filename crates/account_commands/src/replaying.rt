@@ -31,9 +31,9 @@ fn replayed(alloc: Global, end: ReplayEnd) -> Outcome
 // What the texts of a replay come to.
 fn replay_of<Rt: Wait>(alloc: Global, rt: &Rt, asked: &AskedReplay, texts: &ReplayTexts) -> Outcome
     requires text { IsText SCHEMA_LIMIT texts.now.rules.schema }
-    ensures { ReplayOf asked.now.schema texts.now asked.now.undeclared result }
+    ensures { ReplayOf asked.now.schema texts.now asked.now.undeclared asked.now.most_work result }
 {
-    match replay_texts(alloc, rt, texts, asked.undeclared) {
+    match replay_texts(alloc, rt, texts, asked.undeclared, asked.most_work) {
         Ok(end) => replayed(alloc, end),
         Err(ReplayFault::Refused(refusal)) => refused_replay(alloc, &asked.schema, refusal),
         Err(ReplayFault::Memory) => Outcome::Memory,

@@ -1,5 +1,5 @@
 -- What commands come to.
-use Rattle.std.specs.Prelude.{◌≡◌, ℕ, Bool, List, Option}
+use Rattle.std.specs.Prelude.{◌≡◌, ◌⊎◌, ℕ, Bool, List, Option, IsSome, codes}
 use Rattle.outside.specs.Faults.{Rose, StayAll, ChangesAlone}
 use Rattle.command_outcomes.specs.declared.outcome.Outcome.{Outcome}
 use Rattle.command_outcomes.specs.declared.outcome.Outcome.TheVariants.{Done, Refused, FileFailed, Faulty, Audited, Memory}
@@ -40,6 +40,14 @@ abbrev pub IsRefusedAs : List ℕ → Outcome → Type 0
 IsRefusedAs text (Refused told) = told ≡ text
 IsRefusedAs text Memory = Unit {0}
 IsRefusedAs text other = ⊥
+
+-- the text of an operation that takes more steps than it may
+abbrev pub work_text : List ℕ
+work_text = codes "work 1 TooMuch"
+
+-- There was no memory; or it was refused since it takes more steps than it may, where a number of them was given.
+abbrev pub IsWanting : Option ℕ → Outcome → Type 0
+IsWanting most outcome = (outcome ≡ Memory) ⊎ (IsSome most × IsRefusedAs work_text outcome)
 
 -- It has this status and text of its own, or there was no memory.
 abbrev pub IsFaultyAs : ℕ → List ℕ → Outcome → Type 0

@@ -12,6 +12,7 @@ mod outcome;
 mod schema_texts;
 mod text_laws;
 mod texts;
+mod wants;
 
 pub use check_laws::a_schema_file_has_one_check;
 pub use checked::{CheckFault, SchemaRefusal, Weighed, weighed_in};
@@ -30,3 +31,4 @@ pub use outcome::{
 pub use schema_texts::refused_schema;
 pub use text_laws::refusals_of_files_are_one_line;
 pub use texts::{refused_as, refused_naming};
+pub use wants::wanting;

@@ -18,7 +18,7 @@ use Rattle.upstream_link.specs.declared.fault.LinkFault.{LinkFault}
 use Rattle.upstream_link.specs.declared.reply.UpstreamReply.{UpstreamReply}
 use Rattle.upstream_link.specs.Exchanges.{CameTo}
 use Rattle.gateway_core.specs.declared.beginning.Denial.{Denial}
-use Rattle.gateway_core.specs.declared.beginning.Denial.TheVariants.{UnknownKey, Unexpanded, BadBody, Refused, NotLocal, Short, Full, Memory}
+use Rattle.gateway_core.specs.declared.beginning.Denial.TheVariants.{UnknownKey, Unexpanded, BadBody, Refused, NotLocal, Short, Full, Work, Memory}
 use Rattle.gateway_core.specs.declared.beginning.Begun.TheVariants.{Denied}
 use Rattle.gateway_core.specs.Rules.{window_of}
 use Rattle.gateway_core.specs.Numbers.{numbers_taken, AreSettled}
@@ -51,6 +51,7 @@ denied_settled made client window (NotLocal f) = inl refl
 denied_settled made client window (Refused r) = inl refl
 denied_settled made client window (Short left bound) = inr (inl (client, window, bound, left, refl))
 denied_settled made client window Full = inl refl
+denied_settled made client window Work = inl refl
 denied_settled made client window Memory = inl refl
 
 -- leave no grant open
@@ -92,6 +93,7 @@ tells_full NoRoom Fills to back (NotLocal f) told = tt
 tells_full NoRoom Fills to back (Refused r) told = tt
 tells_full NoRoom Fills to back (Short left bound) told = λ full. told (back full)
 tells_full NoRoom Fills to back Full told = to told
+tells_full NoRoom Fills to back Work told = tt
 tells_full NoRoom Fills to back Memory told = tt
 
 came_anyhow : (Untouched : Type 0) (request : List ℕ) (r : Result UpstreamReply LinkFault) (dials : List Dial) → CameTo Untouched request r dials → CameTo (Unit {0}) request r dials

@@ -14,7 +14,7 @@ use Rattle.upstream_link.specs.Exchanges.{CameTo}
 use Rattle.upstream_link.specs.Replies.{ReplyOf}
 use Rattle.upstream_link.specs.RequestBytes.{request_bytes}
 use Rattle.gateway_core.specs.declared.beginning.Denial.{Denial}
-use Rattle.gateway_core.specs.declared.beginning.Denial.TheVariants.{UnknownKey, Unexpanded, BadBody, Refused, NotLocal, Short, Full, Memory}
+use Rattle.gateway_core.specs.declared.beginning.Denial.TheVariants.{UnknownKey, Unexpanded, BadBody, Refused, NotLocal, Short, Full, Work, Memory}
 use Rattle.gateway_core.specs.declared.finishing.Finished.{Finished}
 use Rattle.gateway_core.specs.declared.grant.Grant.{Grant}
 use Rattle.gateway_core.specs.Rules.{Rules, window_of}
@@ -22,7 +22,7 @@ use Rattle.gateway_core.specs.Requests.{IsPricedAt, IsPromisedFor, IsLocalAt}
 use Rattle.gateway_core.specs.declared.beginning.Begun.TheVariants.{Denied}
 use Rattle.gateway_core.specs.PassedOn.{Local}
 use Rattle.gateway_core.specs.Numbers.{IsFullAt}
-use Rattle.gateway_core.specs.Begins.{IsDenied, IsUnfit, IsWritten, TellsFull, HasOneAnswer, calls_begun}
+use Rattle.gateway_core.specs.Begins.{IsDenied, IsUnfit, IsVerdict, IsWritten, TellsFull, HasOneAnswer, calls_begun}
 use Rattle.gateway_core.specs.Grants.{promise_of}
 use Rattle.gateway_core.specs.PlanBounds.{IsMeasuredBy}
 use Rattle.gateway_core.specs.Measures.{Metered, HasNamedTypes, IsMeasuredFor, MeasuredIsAnswered}
@@ -36,7 +36,7 @@ use Rattle.gateway_connections.specs.Measured.{WasExchanged, WasShort, Brought, 
 -- A body is unfit or has a price; what is granted is answered as its reply is measured; and bytes begin with one reply.
 pub record OneResponse : Type 0 where
   pub priced : (rules : Rules) (body reply : List ℕ) (metered : Metered) → IsMeasuredFor rules body reply metered → (bound : Cost) × IsPricedAt rules body bound
-  pub priced_or_unfit : (rules : Rules) (body : List ℕ) (bound : Cost) (denial : Denial) → denial ≢ Memory → IsPricedAt rules body bound → IsUnfit rules body denial → ⊥
+  pub priced_or_unfit : (rules : Rules) (body : List ℕ) (bound : Cost) (denial : Denial) → IsVerdict denial → IsPricedAt rules body bound → IsUnfit rules body denial → ⊥
   pub local : (rules : Rules) (body : List ℕ) → HasOneAnswer rules body
   pub granted : (rules : Rules) (body : List ℕ) (g : Grant) → IsPromisedFor rules body (promise_of g) → IsPricedAt rules body g.ticket.bound
   pub finished : (rules : Rules) → HasNamedTypes rules → MeasuredIsAnswered rules
@@ -87,7 +87,7 @@ denied_500 x hint message (inl told) = ap (λ (r : Reply). r.status) told
 denied_500 x hint message (inr none) = ap (λ (r : Reply). r.status) none
 
 -- a body to which a response is due is fit
-fit : OneResponse → (s : Service) (made : ℕ) (x : Exchange) (metered : Metered) → IsDue s made x metered → (denial : Denial) → denial ≢ Memory → IsUnfit s.rules x.ask.body.items denial → ⊥
+fit : OneResponse → (s : Service) (made : ℕ) (x : Exchange) (metered : Metered) → IsDue s made x metered → (denial : Denial) → IsVerdict denial → IsUnfit s.rules x.ask.body.items denial → ⊥
 fit laws s made x metered due denial told unfit =
     let p = laws.priced s.rules x.ask.body.items due.reply.body.items metered due.measured in laws.priced_or_unfit s.rules x.ask.body.items p.0 denial told p.1 unfit
 
@@ -101,13 +101,15 @@ denied_due : OneResponse → (s : Service) (made : ℕ) (x : Exchange) (metered 
     → x.calls ≡ calls_begun client (window_of s.rules x.moment) (Denied denial) → (hint : Option Hint) → IsDenialReply hint denial x.reply → TellsFull (IsFullAt s.slots made) (Denied denial)
     → IsDue s made x metered → x.reply.status ≡ 500
 denied_due laws s made x metered client UnknownKey denied calls hint reply full due = absurd (none-some due.client (sym denied ∙ due.known))
-denied_due laws s made x metered client (Unexpanded fault) denied calls hint reply full due = absurd (fit laws s made x metered due (Unexpanded fault) (λ e. cc e) denied.1)
-denied_due laws s made x metered client (BadBody fault) denied calls hint reply full due = absurd (fit laws s made x metered due (BadBody fault) (λ e. cc e) denied.1)
-denied_due laws s made x metered client (Refused refusal) denied calls hint reply full due = absurd (fit laws s made x metered due (Refused refusal) (λ e. cc e) denied.1)
-denied_due laws s made x metered client (NotLocal fault) denied calls hint reply full due = absurd (fit laws s made x metered due (NotLocal fault) (λ e. cc e) denied.1)
+denied_due laws s made x metered client (Unexpanded fault) denied calls hint reply full due = absurd (fit laws s made x metered due (Unexpanded fault) tt denied.1)
+denied_due laws s made x metered client (BadBody fault) denied calls hint reply full due = absurd (fit laws s made x metered due (BadBody fault) tt denied.1)
+denied_due laws s made x metered client (Refused refusal) denied calls hint reply full due = absurd (fit laws s made x metered due (Refused refusal) tt denied.1)
+denied_due laws s made x metered client (NotLocal fault) denied calls hint reply full due = absurd (fit laws s made x metered due (NotLocal fault) tt denied.1)
 denied_due laws s made x metered client (Short left bound) denied calls hint reply full due = absurd (due.covered (client, bound, left, calls))
 denied_due laws s made x metered client Full denied calls hint (inl told) full due = absurd (due.room (full, (ap (λ (r : Reply). r.status) told, ap (λ (r : Reply). r.body) told)))
 denied_due laws s made x metered client Full denied calls hint (inr none) full due = ap (λ (r : Reply). r.status) none
+denied_due laws s made x metered client Work denied calls hint (inl told) full due = absurd (due.in_work (denied.1, (ap (λ (r : Reply). r.status) told, ap (λ (r : Reply). r.body) told)))
+denied_due laws s made x metered client Work denied calls hint (inr none) full due = ap (λ (r : Reply). r.status) none
 denied_due laws s made x metered client Memory denied calls hint reply full due = denied_500 x hint no_memory_text reply
 
 given_by : (s : Service) (made : ℕ) (x : Exchange) (f : WasForwarded s made (Unit {0}) x) (metered : Metered)
@@ -161,19 +163,21 @@ denied_here : OneResponse → (s : Service) (made : ℕ) (x : Exchange) (answer 
     → IsDueHere s made x answer → x.reply.status ≡ 500
 denied_here laws s made x answer client denial denied calls hint reply full due = each denial denied calls reply full
   where
-    unfit : (other : Denial) → other ≢ Memory → IsUnfit s.rules x.ask.body.items other → ⊥
+    unfit : (other : Denial) → IsVerdict other → IsUnfit s.rules x.ask.body.items other → ⊥
     unfit other told = (laws.local s.rules x.ask.body.items).not_unfit answer.cost other told (answer, due.is_answer, refl)
 
     each : (other : Denial) → IsDenied s.rules x.ask.key x.ask.body.items client other → x.calls ≡ calls_begun client (window_of s.rules x.moment) (Denied other) → IsDenialReply hint other x.reply
         → TellsFull (IsFullAt s.slots made) (Denied other) → x.reply.status ≡ 500
     each UnknownKey is calls told full = absurd (none-some due.client (sym is ∙ due.known))
-    each (Unexpanded fault) is calls told full = absurd (unfit (Unexpanded fault) (λ e. cc e) is.1)
-    each (BadBody fault) is calls told full = absurd (unfit (BadBody fault) (λ e. cc e) is.1)
-    each (Refused refusal) is calls told full = absurd (unfit (Refused refusal) (λ e. cc e) is.1)
-    each (NotLocal fault) is calls told full = absurd (unfit (NotLocal fault) (λ e. cc e) is.1)
+    each (Unexpanded fault) is calls told full = absurd (unfit (Unexpanded fault) tt is.1)
+    each (BadBody fault) is calls told full = absurd (unfit (BadBody fault) tt is.1)
+    each (Refused refusal) is calls told full = absurd (unfit (Refused refusal) tt is.1)
+    each (NotLocal fault) is calls told full = absurd (unfit (NotLocal fault) tt is.1)
     each (Short left bound) is calls told full = absurd (due.covered (client, bound, left, calls))
     each Full is calls (inl told) full = absurd (due.room (full, (ap (λ (r : Reply). r.status) told, ap (λ (r : Reply). r.body) told)))
     each Full is calls (inr none) full = ap (λ (r : Reply). r.status) none
+    each Work is calls (inl told) full = absurd (due.in_work (is.1, (ap (λ (r : Reply). r.status) told, ap (λ (r : Reply). r.body) told)))
+    each Work is calls (inr none) full = ap (λ (r : Reply). r.status) none
     each Memory is calls told full = denied_500 x hint no_memory_text told
 
 -- what was answered is the one answer, or there was no memory for it
@@ -223,6 +227,7 @@ no_denial wanted hint (Refused refusal) r others told is = tells_other hint 400 
 no_denial wanted hint (NotLocal fault) r others told is = tells_other hint 400 wanted (denial_text (NotLocal fault)) r others.at_400 others.at_500 told is
 no_denial wanted hint (Short left bound) r others told is = tells_other hint 429 wanted (denial_text (Short left bound)) r others.at_429 others.at_500 told is
 no_denial wanted hint Full r others told is = tells_other hint 503 wanted (denial_text Full) r others.at_503 others.at_500 told is
+no_denial wanted hint Work r others told is = tells_other hint 400 wanted (denial_text Work) r others.at_400 others.at_500 told is
 no_denial wanted hint Memory r others told is = tells_other hint 500 wanted (denial_text Memory) r others.at_500 others.at_500 told is
 
 no_200 : IsNoDenials 200
@@ -267,6 +272,7 @@ given_due s made x f (r, is, (metered, measured, answered)) =
         known = f.is_granted.known;
         covered = λ (short : WasShort s x). (let e : 2 ≡ 1 = ap length (sym f.calls ∙ short.3) in omega (arith, e));
         room = λ full. (let e : 200 ≡ 503 = sym (status_of x f.finished f.reply ∙ ap (λ (g : Finished). g.status) answered) ∙ full.1.0 in omega (arith, e));
+        in_work = λ spent. (let e : 200 ≡ 400 = sym (status_of x f.finished f.reply ∙ ap (λ (g : Finished). g.status) answered) ∙ spent.1.0 in omega (arith, e));
         reply = r;
         brought = subst (AllByRecursion (Brought r)) (sym by.1) (by.2, tt);
         measured = (promise_of f.grant, f.is_granted.promised, measured);

@@ -1,5 +1,5 @@
 -- When a response is due to a request, and that it was given.
-use Rattle.std.specs.Prelude.{◌≡◌, ◌⊎◌, ℕ, true, false, [], ◌∷◌, Some, Ok, ⊤}
+use Rattle.std.specs.Prelude.{◌≡◌, ◌⊎◌, ℕ, true, false, [], ◌∷◌, Some, IsSome, Ok, ⊤}
 use Rattle.std.specs.List.{AllByRecursion}
 use Rattle.cost_num.specs.declared.Cost.{Cost}
 use Rattle.account_core.specs.declared.Ticket.{Ticket}
@@ -12,7 +12,7 @@ use Rattle.gateway_core.specs.Rules.{client_of, window_of}
 pub use Rattle.gateway_core.specs.Measures.{Metered}
 use Rattle.gateway_core.specs.Measures.{IsMeasuredFor}
 use Rattle.gateway_core.specs.PassedOn.{Local}
-use Rattle.gateway_core.specs.declared.beginning.Denial.TheVariants.{Full}
+use Rattle.gateway_core.specs.declared.beginning.Denial.TheVariants.{Full, Work}
 use Rattle.gateway_core.specs.declared.beginning.LocalAnswer.{LocalAnswer}
 use Rattle.gateway_core.specs.Numbers.{IsFullAt}
 use Rattle.gateway_core.specs.Messages.{message_body, denial_text}
@@ -46,14 +46,19 @@ HasBrought reply x = (d : Dial) × (x.dials ≡ d ∷ []) × Brought reply d
 abbrev pub WasFull : Service → ℕ → Exchange → Type 0
 WasFull s made x = IsFullAt s.slots made × ((x.reply.status ≡ 503) × (x.reply.body ≡ message_body (denial_text Full)))
 
+-- More steps were asked of a request than it may take, where that is said, and its reply says so.
+abbrev pub WasTooMuch : Service → Exchange → Type 0
+WasTooMuch s x = IsSome s.rules.most_work × ((x.reply.status ≡ 400) × (x.reply.body ≡ message_body (denial_text Work)))
+
 -- A response is due to a request behind so many numbers of calls: the key is a client's, whose account wasn't short, and there was room for a
--- grant; the body asks for an operation that is accepted; and what the upstream replied, without a fault of the wire, is a response to it that
+-- grant; the body asks for an operation that is accepted, and not for too many steps; and what the upstream replied, without a fault of the wire, is a response to it that
 -- keeps the declared sizes, of which this is measured.
 pub record IsDue (s : Service) (made : ℕ) (x : Exchange) (metered : Metered) : Type 0 where
   pub client : ℕ
   pub known : client_of s.rules x.ask.key ≡ Some client
   pub covered : WasShort s x → ⊥
   pub room : WasFull s made x → ⊥
+  pub in_work : WasTooMuch s x → ⊥
   pub reply : UpstreamReply
   pub brought : WasBrought reply x
   pub measured : IsMeasuredFor s.rules x.ask.body.items reply.body.items metered
@@ -70,12 +75,13 @@ abbrev pub WasGivenOr500 : Service → Exchange → Metered → Type 0
 WasGivenOr500 s x metered = WasGiven s x metered ⊎ (x.reply.status ≡ 500)
 
 -- The gateway's own answer is due: the key is a client's, whose account wasn't short, and there was room for a grant; and the body asks
--- for what is answered so.
+-- for what is answered so, and not for too many steps.
 pub record IsDueHere (s : Service) (made : ℕ) (x : Exchange) (answer : Local) : Type 0 where
   pub client : ℕ
   pub known : client_of s.rules x.ask.key ≡ Some client
   pub covered : WasShort s x → ⊥
   pub room : WasFull s made x → ⊥
+  pub in_work : WasTooMuch s x → ⊥
   pub is_answer : IsAnsweredFor s.rules x.ask.body.items answer
 
 -- It was given: replied with 200 and its text, and reserved and settled at its cost.

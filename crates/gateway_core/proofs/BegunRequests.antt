@@ -2,7 +2,7 @@
 use Rattle.std.proofs.Common.{◌≡◌, inl, inr, ℕ, List, Some, refl, sym, subst}
 use Rattle.gateway_core.specs.declared.beginning.Begun.{Begun}
 use Rattle.gateway_core.specs.declared.beginning.Begun.TheVariants.{Granted, Answered, Denied}
-use Rattle.gateway_core.specs.declared.beginning.Denial.TheVariants.{UnknownKey, Unexpanded, BadBody, Refused, NotLocal, Short, Full, Memory}
+use Rattle.gateway_core.specs.declared.beginning.Denial.TheVariants.{UnknownKey, Unexpanded, BadBody, Refused, NotLocal, Short, Full, Work, Memory}
 use Rattle.gateway_core.specs.declared.promise.Promise.{Promise}
 use Rattle.gateway_core.specs.Rules.{Rules, client_of}
 use Rattle.local_introspection.specs.declared.walk.Local.{Local}
@@ -31,6 +31,7 @@ begun_by rules key body client made promise (Denied (Refused refusal)) known pro
 begun_by rules key body client made promise (Denied (NotLocal fault)) known promised reserved = absurd reserved
 begun_by rules key body client made promise (Denied (Short left bound)) known promised reserved = (known, inl (subst (IsPricedAt rules body) (sym reserved) (priced rules body promise promised)))
 begun_by rules key body client made promise (Denied Full) known promised reserved = (known, (promise.bound, inl (priced rules body promise promised)))
+begun_by rules key body client made promise (Denied Work) known promised reserved = absurd reserved
 begun_by rules key body client made promise (Denied Memory) known promised reserved = absurd reserved
 
 -- how it begins by what was answered and paid
@@ -51,4 +52,5 @@ begun_with rules key body client made answer (Denied (Refused refusal)) known an
 begun_with rules key body client made answer (Denied (NotLocal fault)) known answered paid = absurd paid
 begun_with rules key body client made answer (Denied (Short left bound)) known answered paid = (known, inr (answer, answered, sym paid))
 begun_with rules key body client made answer (Denied Full) known answered paid = (known, (answer.cost, inr (answer, answered, refl)))
+begun_with rules key body client made answer (Denied Work) known answered paid = absurd paid
 begun_with rules key body client made answer (Denied Memory) known answered paid = absurd paid

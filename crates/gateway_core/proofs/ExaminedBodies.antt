@@ -20,7 +20,7 @@ use Rattle.local_introspection.specs.LocalRequests.{LocalRequest}
 use Rattle.local_introspection.specs.LocalAnswers.{IsRefusedFor as IsNotAnsweredFor}
 use Rattle.local_introspection.specs.AskedHere.{asked_at, IsHereThat, IsRefusedHere}
 use Rattle.gateway_core.specs.declared.beginning.Denial.{Denial}
-use Rattle.gateway_core.specs.declared.beginning.Denial.TheVariants.{UnknownKey, Unexpanded, BadBody, Refused, NotLocal, Short, Full, Memory}
+use Rattle.gateway_core.specs.declared.beginning.Denial.TheVariants.{UnknownKey, Unexpanded, BadBody, Refused, NotLocal, Short, Full, Work, Memory}
 use Rattle.gateway_core.specs.declared.examining.Examined.{Examined}
 use Rattle.gateway_core.specs.declared.examining.Examined.TheVariants as found
 use Rattle.gateway_core.specs.Rules.{Rules}
@@ -43,6 +43,7 @@ module _ (rules : Rules) (body : List ℕ) (asked : Asked) (is_request : IsReque
   unread_is_unfit (NotLocal fault) unread = absurd unread
   unread_is_unfit (Short left bound) unread = absurd unread
   unread_is_unfit Full unread = absurd unread
+  unread_is_unfit Work unread = absurd unread
   unread_is_unfit Memory unread = tt
 
   module _ (document : Document) (is_document : IsDocumentOf asked.query document) where
@@ -54,6 +55,7 @@ module _ (rules : Rules) (body : List ℕ) (asked : Asked) (is_request : IsReque
     unfit_for_body (NotLocal fault) unfit = (asked, is_request, (document, is_document, unfit))
     unfit_for_body (Short left bound) unfit = absurd unfit
     unfit_for_body Full unfit = absurd unfit
+    unfit_for_body Work unfit = absurd unfit
     unfit_for_body Memory unfit = tt
 
     pub found_of_body : (result : Result Examined Denial) → IfOk result (IsFoundFor rules (request_of rules asked document)) → IfOk result (IsFound rules body)
@@ -90,6 +92,7 @@ module _ (rules : Rules) (r : RequestData) (facts : Facts) (known : rules.facts 
   not_local is (NotLocal fault) told = (told.0, is_local (λ q. IsNotAnsweredFor q fault) is told.1)
   not_local is (Short left bound) told = absurd told
   not_local is Full told = absurd told
+  not_local is Work told = absurd told
   not_local is Memory told = tt
 
 -- what isn't answered here, or was refused for the upstream, is unfit
@@ -101,6 +104,7 @@ not_own_is_unfit rules r (Refused refusal) not = absurd not
 not_own_is_unfit rules r (NotLocal fault) not = not
 not_own_is_unfit rules r (Short left bound) not = not
 not_own_is_unfit rules r Full not = not
+not_own_is_unfit rules r Work not = not
 not_own_is_unfit rules r Memory not = tt
 
 pub refused_is_unfit : (rules : Rules) (r : RequestData) → GoesUpstream rules r → (denial : Denial) → IfRefusal denial (IsRefusedFor r) → IsUnfitFor rules r denial
@@ -111,4 +115,5 @@ refused_is_unfit rules r goes (Refused refusal) refused = (goes, refused)
 refused_is_unfit rules r goes (NotLocal fault) refused = absurd refused
 refused_is_unfit rules r goes (Short left bound) refused = refused
 refused_is_unfit rules r goes Full refused = refused
+refused_is_unfit rules r goes Work refused = refused
 refused_is_unfit rules r goes Memory refused = tt

@@ -35,10 +35,10 @@ use Rattle.local_introspection.specs.LocalAnswers.{IsAnsweredWith, IsRefusedFor 
 use Rattle.local_introspection.specs.AskAlike.{AskAlike as LocalAlike}
 use Rattle.local_introspection.specs.AskedHere.{asked_at, IsHereThat}
 use Rattle.gateway_core.specs.declared.beginning.Denial.{Denial}
-use Rattle.gateway_core.specs.declared.beginning.Denial.TheVariants.{UnknownKey, Unexpanded, BadBody, Refused, NotLocal, Short, Full, Memory}
+use Rattle.gateway_core.specs.declared.beginning.Denial.TheVariants.{UnknownKey, Unexpanded, BadBody, Refused, NotLocal, Short, Full, Work, Memory}
 use Rattle.gateway_core.specs.Rules.{Rules, HasWeights}
 use Rattle.gateway_core.specs.Requests.{request_of, Asks, AsksThat, GoesUpstream, IsRefusedBody, IsPricedAt, Knows, IsAnsweredFor, IsLocalAt, IsNotLocal}
-use Rattle.gateway_core.specs.Begins.{IsUnfit, HasOneAnswer}
+use Rattle.gateway_core.specs.Begins.{IsUnfit, IsVerdict, HasOneAnswer}
 use Rattle.gateway_core.proofs.PlanCovers.{Counting}
 
 -- A body is read in one way, and requests that ask the same have one verdict.
@@ -269,7 +269,7 @@ module _ (laws : OneBody) (rules : Rules) (body : List ℕ) where
   priced_or_local bound cost priced (answer, asks, costs) =
       upstream_or_here (λ r. IsAffordable r bound) (λ q. IsAnsweredWith q answer) priced asks
 
-  pub priced_or_unfit : (bound : Cost) (denial : Denial) → denial ≢ Memory → IsPricedAt rules body bound → IsUnfit rules body denial → ⊥
+  pub priced_or_unfit : (bound : Cost) (denial : Denial) → IsVerdict denial → IsPricedAt rules body bound → IsUnfit rules body denial → ⊥
   priced_or_unfit bound UnknownKey told priced unfit = unfit
   priced_or_unfit bound (Unexpanded fault) told priced unfit = unread_or_asks (unread.Unexpanded fault) (Upwards (λ r. IsAffordable r bound)) (is_unexpanded fault) unfit priced
   priced_or_unfit bound (BadBody fault) told priced unfit = unread_or_asks (unread.BadBody fault) (Upwards (λ r. IsAffordable r bound)) (is_bad fault) unfit priced
@@ -277,9 +277,10 @@ module _ (laws : OneBody) (rules : Rules) (body : List ℕ) where
   priced_or_unfit bound (NotLocal fault) told priced unfit = upstream_or_here (λ r. IsAffordable r bound) (λ q. IsNotAnsweredFor q fault) priced (refused_asks fault unfit).1
   priced_or_unfit bound (Short left cost) told priced unfit = unfit
   priced_or_unfit bound Full told priced unfit = unfit
-  priced_or_unfit bound Memory told priced unfit = told refl
+  priced_or_unfit bound Work told priced unfit = told
+  priced_or_unfit bound Memory told priced unfit = told
 
-  local_or_unfit : (cost : Cost) (denial : Denial) → denial ≢ Memory → IsLocalAt rules body cost → IsUnfit rules body denial → ⊥
+  local_or_unfit : (cost : Cost) (denial : Denial) → IsVerdict denial → IsLocalAt rules body cost → IsUnfit rules body denial → ⊥
   local_or_unfit cost UnknownKey told local unfit = unfit
   local_or_unfit cost (Unexpanded fault) told (answer, asks, costs) unfit = unread_or_asks (unread.Unexpanded fault) (IsHereThat (Knows rules) (λ q. IsAnsweredWith q answer)) (is_unexpanded fault) unfit asks
   local_or_unfit cost (BadBody fault) told (answer, asks, costs) unfit = unread_or_asks (unread.BadBody fault) (IsHereThat (Knows rules) (λ q. IsAnsweredWith q answer)) (is_bad fault) unfit asks
@@ -287,10 +288,11 @@ module _ (laws : OneBody) (rules : Rules) (body : List ℕ) where
   local_or_unfit cost (NotLocal fault) told (answer, asks, costs) unfit = answered_or_not answer fault asks unfit
   local_or_unfit cost (Short left bound) told local unfit = unfit
   local_or_unfit cost Full told local unfit = unfit
-  local_or_unfit cost Memory told local unfit = told refl
+  local_or_unfit cost Work told local unfit = told
+  local_or_unfit cost Memory told local unfit = told
 
   -- a body that is no request is unfit for that alone
-  unread_alone : (reason : Unread) → reason ≢ unread.Memory → IsUnreadBy rules.trusted body reason → (another : Denial) → another ≢ Memory → IsUnfit rules body another → unread_as reason ≡ another
+  unread_alone : (reason : Unread) → reason ≢ unread.Memory → IsUnreadBy rules.trusted body reason → (another : Denial) → IsVerdict another → IsUnfit rules body another → unread_as reason ≡ another
   unread_alone reason told a UnknownKey too b = absurd b
   unread_alone reason told a (Unexpanded g) too b = ap unread_as (laws.one_unread_for rules.trusted body reason (unread.Unexpanded g) told (is_unexpanded g) a b)
   unread_alone reason told a (BadBody g) too b = ap unread_as (laws.one_unread_for rules.trusted body reason (unread.BadBody g) told (is_bad g) a b)
@@ -298,29 +300,32 @@ module _ (laws : OneBody) (rules : Rules) (body : List ℕ) where
   unread_alone reason told a (NotLocal g) too b = absurd (unread_or_asks reason (IsHereThat (Knows rules) (λ q. IsNotAnsweredFor q g)) told a (refused_asks g b).1)
   unread_alone reason told a (Short left bound) too b = absurd b
   unread_alone reason told a Full too b = absurd b
-  unread_alone reason told a Memory too b = absurd (too refl)
+  unread_alone reason told a Work too b = absurd too
+  unread_alone reason told a Memory too b = absurd too
 
-  refused_alone : (refusal : Refusal) → IsRefusedBody rules body refusal → (another : Denial) → another ≢ Memory → IsUnfit rules body another → Refused refusal ≡ another
+  refused_alone : (refusal : Refusal) → IsRefusedBody rules body refusal → (another : Denial) → IsVerdict another → IsUnfit rules body another → Refused refusal ≡ another
   refused_alone f a UnknownKey too b = absurd b
-  refused_alone f a (Unexpanded g) too b = sym (unread_alone (unread.Unexpanded g) (is_unexpanded g) b (Refused f) (λ e. cc e) a)
-  refused_alone f a (BadBody g) too b = sym (unread_alone (unread.BadBody g) (is_bad g) b (Refused f) (λ e. cc e) a)
+  refused_alone f a (Unexpanded g) too b = sym (unread_alone (unread.Unexpanded g) (is_unexpanded g) b (Refused f) tt a)
+  refused_alone f a (BadBody g) too b = sym (unread_alone (unread.BadBody g) (is_bad g) b (Refused f) tt a)
   refused_alone f a (Refused g) too b = ap Refused (one_refused f g a b)
   refused_alone f a (NotLocal g) too b = absurd (refused_or_here f (λ q. IsNotAnsweredFor q g) a (refused_asks g b).1)
   refused_alone f a (Short left bound) too b = absurd b
   refused_alone f a Full too b = absurd b
-  refused_alone f a Memory too b = absurd (too refl)
+  refused_alone f a Work too b = absurd too
+  refused_alone f a Memory too b = absurd too
 
-  not_local_alone : (fault : LocalFault) → IsNotLocal rules body fault → (another : Denial) → another ≢ Memory → IsUnfit rules body another → NotLocal fault ≡ another
+  not_local_alone : (fault : LocalFault) → IsNotLocal rules body fault → (another : Denial) → IsVerdict another → IsUnfit rules body another → NotLocal fault ≡ another
   not_local_alone f a UnknownKey too b = absurd b
-  not_local_alone f a (Unexpanded g) too b = sym (unread_alone (unread.Unexpanded g) (is_unexpanded g) b (NotLocal f) (λ e. cc e) a)
-  not_local_alone f a (BadBody g) too b = sym (unread_alone (unread.BadBody g) (is_bad g) b (NotLocal f) (λ e. cc e) a)
-  not_local_alone f a (Refused g) too b = sym (refused_alone g b (NotLocal f) (λ e. cc e) a)
+  not_local_alone f a (Unexpanded g) too b = sym (unread_alone (unread.Unexpanded g) (is_unexpanded g) b (NotLocal f) tt a)
+  not_local_alone f a (BadBody g) too b = sym (unread_alone (unread.BadBody g) (is_bad g) b (NotLocal f) tt a)
+  not_local_alone f a (Refused g) too b = sym (refused_alone g b (NotLocal f) tt a)
   not_local_alone f a (NotLocal g) too b = ap NotLocal (one_not_local f g a b)
   not_local_alone f a (Short left bound) too b = absurd b
   not_local_alone f a Full too b = absurd b
-  not_local_alone f a Memory too b = absurd (too refl)
+  not_local_alone f a Work too b = absurd too
+  not_local_alone f a Memory too b = absurd too
 
-  pub one_reason : (denial another : Denial) → denial ≢ Memory → another ≢ Memory → IsUnfit rules body denial → IsUnfit rules body another → denial ≡ another
+  pub one_reason : (denial another : Denial) → IsVerdict denial → IsVerdict another → IsUnfit rules body denial → IsUnfit rules body another → denial ≡ another
   one_reason UnknownKey another told too a b = absurd a
   one_reason (Unexpanded f) another told too a b = unread_alone (unread.Unexpanded f) (is_unexpanded f) a another too b
   one_reason (BadBody f) another told too a b = unread_alone (unread.BadBody f) (is_bad f) a another too b
@@ -328,7 +333,8 @@ module _ (laws : OneBody) (rules : Rules) (body : List ℕ) where
   one_reason (NotLocal f) another told too a b = not_local_alone f a another too b
   one_reason (Short left bound) another told too a b = absurd a
   one_reason Full another told too a b = absurd a
-  one_reason Memory another told too a b = absurd (told refl)
+  one_reason Work another told too a b = absurd told
+  one_reason Memory another told too a b = absurd told
 
   pub one_answer : HasOneAnswer rules body
   one_answer = record {

@@ -1,5 +1,5 @@
 -- How a request begins.
-use Rattle.std.specs.Prelude.{◌≡◌, ◌≢◌, ◌⊎◌, ℕ, List, [], ◌∷◌, Some, None, ⊤}
+use Rattle.std.specs.Prelude.{◌≡◌, ◌⊎◌, ℕ, List, [], ◌∷◌, Some, None, IsSome, ⊤, ⊥}
 use Rattle.cost_num.specs.declared.Cost.{Cost}
 use Rattle.cost_num.specs.Within.{Within}
 use Rattle.account_core.specs.Machine.{reservation, settlement, granted, short, done}
@@ -12,7 +12,7 @@ use Rattle.gateway_core.specs.declared.beginning.Begun.{Begun}
 use Rattle.gateway_core.specs.declared.beginning.Begun.TheVariants.{Granted, Answered, Denied}
 use Rattle.gateway_core.specs.declared.beginning.LocalAnswer.{LocalAnswer}
 use Rattle.gateway_core.specs.declared.beginning.Denial.{Denial}
-use Rattle.gateway_core.specs.declared.beginning.Denial.TheVariants.{UnknownKey, Unexpanded, BadBody, Refused, NotLocal, Short, Full, Memory}
+use Rattle.gateway_core.specs.declared.beginning.Denial.TheVariants.{UnknownKey, Unexpanded, BadBody, Refused, NotLocal, Short, Full, Work, Memory}
 use Rattle.gateway_core.specs.Rules.{Rules, client_of, window_of, greatest}
 use Rattle.gateway_core.specs.Requests.{IsRefusedBody, IsPricedAt, IsPromisedFor, IsAnsweredFor, IsLocalAt, IsNotLocal}
 use Rattle.gateway_core.specs.declared.grant.Grant.{Grant}
@@ -22,7 +22,8 @@ use Rattle.gateway_core.specs.Finishes.{finished_as, IsStarved}
 
 -- Why a body of the client at this place, with this key, is denied. The key is tested first, then the expansion, then the body,
 -- then the operation, and last whether its grant can be kept, and whether the account has room for its bound, or for the cost of the
--- gateway's own answer. For want of memory nothing is said of the body.
+-- gateway's own answer. For want of memory nothing is said of the body, nor for want of steps, of which there is none but where a number of
+-- steps is handed in.
 abbrev pub IsDenied : Rules → List ℕ → List ℕ → ℕ → Denial → Type 0
 IsDenied rules key body client UnknownKey = client_of rules key ≡ None
 IsDenied rules key body client (Unexpanded fault) = (client_of rules key ≡ Some client) × IsUnexpandedBy rules.trusted body fault
@@ -31,24 +32,33 @@ IsDenied rules key body client (Refused refusal) = (client_of rules key ≡ Some
 IsDenied rules key body client (NotLocal fault) = (client_of rules key ≡ Some client) × IsNotLocal rules body fault
 IsDenied rules key body client (Short left bound) = (client_of rules key ≡ Some client) × (IsPricedAt rules body bound ⊎ IsLocalAt rules body bound)
 IsDenied rules key body client Full = (client_of rules key ≡ Some client) × ((bound : Cost) × (IsPricedAt rules body bound ⊎ IsLocalAt rules body bound))
+IsDenied rules key body client Work = (client_of rules key ≡ Some client) × IsSome rules.most_work
 IsDenied rules key body client Memory = client_of rules key ≡ Some client
 
--- Why a body is denied, whoever sent it: it isn't expanded, it is no request, or its operation is refused.
+-- Why a body is denied, whoever sent it: it isn't expanded, it is no request, or its operation is refused; or there was no memory, or there
+-- were no steps left of the number that was handed in.
 abbrev pub IsUnfit : Rules → List ℕ → Denial → Type 0
 IsUnfit rules body (Unexpanded fault) = IsUnexpandedBy rules.trusted body fault
 IsUnfit rules body (BadBody fault) = HasFaultBy rules.trusted body fault
 IsUnfit rules body (Refused refusal) = IsRefusedBody rules body refusal
 IsUnfit rules body (NotLocal fault) = IsNotLocal rules body fault
+IsUnfit rules body Work = IsSome rules.most_work
 IsUnfit rules body Memory = ⊤
 IsUnfit rules body other = ⊥
 
+-- It is said of the body why it is denied: that is not for want of memory or of steps.
+abbrev pub IsVerdict : Denial → Type 0
+IsVerdict Work = ⊥
+IsVerdict Memory = ⊥
+IsVerdict other = ⊤
+
 -- The gateway has one answer to what the body asks of it, at one cost; and where it has, the body has no price and isn't unfit. For
--- want of memory nothing is said.
+-- want of memory or of steps nothing is said.
 pub record HasOneAnswer (rules : Rules) (body : List ℕ) : Type 0 where
   pub text : (answer other : Local) → IsAnsweredFor rules body answer → IsAnsweredFor rules body other → answer.text ≡ other.text
   pub cost : (cost other : Cost) → IsLocalAt rules body cost → IsLocalAt rules body other → cost ≡ other
   pub not_priced : (bound cost : Cost) → IsPricedAt rules body bound → IsLocalAt rules body cost → ⊥
-  pub not_unfit : (cost : Cost) (denial : Denial) → denial ≢ Memory → IsLocalAt rules body cost → IsUnfit rules body denial → ⊥
+  pub not_unfit : (cost : Cost) (denial : Denial) → IsVerdict denial → IsLocalAt rules body cost → IsUnfit rules body denial → ⊥
 
 -- It is granted to the client: its operation is promised, and the ticket is the client's, under this number of a call.
 pub record IsGranted (rules : Rules) (key body : List ℕ) (client made : ℕ) (g : Grant) : Type 0 where

@@ -14,7 +14,7 @@ use Rattle.request_bodies.specs.FaultTexts.{fault_text}
 use Rattle.local_introspection.specs.PassedOn.{refusal_text}
 use Rattle.local_introspection.specs.LocalTexts.{local_text}
 use Rattle.gateway_core.specs.declared.beginning.Denial.{Denial}
-use Rattle.gateway_core.specs.declared.beginning.Denial.TheVariants.{UnknownKey, Unexpanded, BadBody, Refused, NotLocal, Short, Full, Memory}
+use Rattle.gateway_core.specs.declared.beginning.Denial.TheVariants.{UnknownKey, Unexpanded, BadBody, Refused, NotLocal, Short, Full, Work, Memory}
 
 -- the body that tells a message: a response with one error and no data
 abbrev pub message_body : List ℕ → List ℕ
@@ -22,6 +22,10 @@ message_body message = response_text None (pathless message ∷ [])
 
 abbrev pub no_memory_text : List ℕ
 no_memory_text = codes "NO_MEMORY"
+
+-- more steps than a request may take
+abbrev pub work_text : List ℕ
+work_text = codes "work 1 TooMuch"
 
 -- ---- why a request is denied
 
@@ -33,6 +37,7 @@ denial_status (Refused refusal) = 400
 denial_status (NotLocal fault) = 400
 denial_status (Short left bound) = 429
 denial_status Full = 503
+denial_status Work = 400
 denial_status Memory = 500
 
 abbrev pub denial_text : Denial → List ℕ
@@ -43,6 +48,7 @@ denial_text (Refused refusal) = codes "REFUSED " ++ refusal_text refusal
 denial_text (NotLocal fault) = codes "REFUSED " ++ local_text fault
 denial_text (Short left bound) = codes "OVER_BUDGET left " ++ (cost_text left ++ (codes " bound " ++ cost_text bound))
 denial_text Full = codes "JOURNAL_FULL"
+denial_text Work = codes "REFUSED " ++ work_text
 denial_text Memory = no_memory_text
 
 -- ---- why there is no reply of the upstream

@@ -15,7 +15,7 @@ use Rattle.account_core.specs.declared.Account.{Account}
 use Rattle.account_core.specs.declared.Limit.{Limit}
 
 -- The list by which bodies are expanded and what introspection is answered by, if there are any; a schema with its weights, the
--- clients, and how many seconds a window has.
+-- clients, how many seconds a window has, and how many steps the examination of a request may take, where that is said.
 pub record Rules : Type 0 where
   pub trusted : Option Listing
   pub facts : Option Facts
@@ -23,9 +23,10 @@ pub record Rules : Type 0 where
   pub weights : WeightsData
   pub clients : List Client
   pub seconds : ℕ
+  pub most_work : Option ℕ
 
 abbrev pub rules_with : SchemaData → WeightsData → List Client → ℕ → Rules
-rules_with schema weights clients seconds = record { trusted = None; facts = None; schema = schema; weights = weights; clients = clients; seconds = seconds }
+rules_with schema weights clients seconds = record { trusted = None; facts = None; schema = schema; weights = weights; clients = clients; seconds = seconds; most_work = None }
 
 -- the weights are those of the schema, and leaves of the schema can be filled
 abbrev pub HasWeights : SchemaData → WeightsData → Type 0

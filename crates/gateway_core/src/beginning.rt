@@ -46,6 +46,8 @@ pub enum Denial {
     },
     /// There is no room to keep what would be granted.
     Full,
+    /// The steps are spent that an examination may take.
+    Work,
     /// There was no memory.
     Memory,
 }

@@ -1,6 +1,6 @@
 //! What the body of a request comes to.
 
-ghost use Rattle.std.specs.Prelude.{◌≡◌, Some, IfOk, IfErr};
+ghost use Rattle.std.specs.Prelude.{◌≡◌, Some, IfOk, IfErr, ℕ, List};
 ghost use Rattle.serde_json.specs.View.{view};
 ghost use Rattle.request_bodies.specs.Bodies.{request_data as asked_data};
 ghost use Rattle.trusted_documents.specs.Requests.{IsRequestBy};
@@ -18,9 +18,10 @@ use crate::own_answers::own_answer;
 use crate::promise::{Promise, denied, promised};
 use counted_work::Work;
 use document_reader::Document;
-use local_introspection::{Counted, Request, read, read_values_have_each_key_once};
+use local_introspection::{Counted, Request, read, read_values_have_each_key_once, work_up_to};
 use request_bodies::Request as Asked;
 use std::alloc::Global;
+use std::cell::Cell;
 use trusted_documents::{Unread, read_request_by, variables_are_the_clients};
 
 /// An operation that is to be reserved for.
@@ -57,7 +58,12 @@ fn document_in(alloc: Global, asked: &Asked) -> Result<Document, Denial>
 }
 
 // What is asked of the schema.
-fn request_of<'g, 'r>(gate: &'g Gate, asked: &'r Asked, document: &'r Document) -> Request<'g, 'r>
+fn request_of<'g, 'r>(
+    gate: &'g Gate,
+    asked: &'r Asked,
+    document: &'r Document,
+    work: Work<'r>,
+) -> Request<'g, 'r>
     ensures data { request_data result ≡ request_of (rules_of gate.now) (asked_data asked.now) document.now }
     ensures weighed { HasWeights (rules_of gate.now).schema (rules_of gate.now).weights }
 {
@@ -71,7 +77,7 @@ fn request_of<'g, 'r>(gate: &'g Gate, asked: &'r Asked, document: &'r Document) 
         document,
         name,
         given: &asked.variables,
-        work: Work::free(),
+        work,
     }
 }
 
@@ -79,6 +85,7 @@ fn request_of<'g, 'r>(gate: &'g Gate, asked: &'r Asked, document: &'r Document) 
 fn found_for<'g>(
     gate: &'g Gate,
     alloc: Global,
+    work: Work<'_>,
     asked: &Asked,
     document: &Document,
 ) -> Result<Examined<'g>, Denial>
@@ -87,7 +94,7 @@ fn found_for<'g>(
     ensures payable { IfOk result IsPayable }
     ensures unfit { IfErr result (IsUnfitFor (rules_of gate.now) (request_of (rules_of gate.now) (asked_data asked.now) document.now)) }
 {
-    let request = request_of(gate, asked, document);
+    let request = request_of(gate, asked, document, work);
     match own_answer(gate, alloc, &request) {
         Ok(Some(counted)) => Ok(Examined::Local(counted)),
         Ok(None) => match promised(alloc, &request) {
@@ -98,18 +105,13 @@ fn found_for<'g>(
     }
 }
 
-/// Examines a body: what is promised for it or answered, or why it is unfit. All memory that a beginning needs is taken here, but that of
-/// the text of the gateway's own answer.
-///
-/// It asks that the key is this client's: for whoever has none no body is looked at.
-pub(crate) fn examine<'g>(
+// What a body comes to, by steps that are counted.
+fn found_in<'g>(
     gate: &'g Gate,
     alloc: Global,
-    _key: &str,
-    _client: u32,
+    work: Work<'_>,
     body: &[u8],
 ) -> Result<Examined<'g>, Denial>
-    requires known { client_of (rules_of gate.now) _key.now ≡ Some _client }
     ensures found { IfOk result (IsFound (rules_of gate.now) body.now) }
     ensures payable { IfOk result IsPayable }
     ensures unfit { IfErr result (IsUnfit (rules_of gate.now) body.now) }
@@ -124,5 +126,39 @@ pub(crate) fn examine<'g>(
         Ok(document) => document,
         Err(denial) => return Err(denial),
     };
-    found_for(gate, alloc, &asked, &document)
+    found_for(gate, alloc, work, &asked, &document)
+}
+
+// Want of memory is told as want of steps, where those are spent that were handed in.
+fn told(gate: &Gate, work: Work<'_>, denial: Denial) -> Denial
+    ensures { (body : List ℕ) → IsUnfit (rules_of gate.now) body denial → IsUnfit (rules_of gate.now) body result }
+{
+    match denial {
+        Denial::Memory if gate.most_work.is_some() && work.is_spent() => Denial::Work,
+        denial => denial,
+    }
+}
+
+/// Examines a body: what is promised for it or answered, or why it is unfit. All memory that a beginning needs is taken here, but that of
+/// the text of the gateway's own answer, and all steps that are counted.
+///
+/// It asks that the key is this client's: for whoever has none no body is looked at.
+pub(crate) fn examine<'g>(
+    gate: &'g Gate,
+    alloc: Global,
+    _key: &str,
+    _client: u32,
+    body: &[u8],
+) -> Result<Examined<'g>, Denial>
+    requires known { client_of (rules_of gate.now) _key.now ≡ Some _client }
+    ensures found { IfOk result (IsFound (rules_of gate.now) body.now) }
+    ensures payable { IfOk result IsPayable }
+    ensures unfit { IfErr result (IsUnfit (rules_of gate.now) body.now) }
+{
+    let left = Cell::new(0u64);
+    let work = work_up_to(gate.most_work, &left);
+    match found_in(gate, alloc, work, body) {
+        Ok(found) => Ok(found),
+        Err(denial) => Err(told(gate, work, denial)),
+    }
 }

@@ -43,7 +43,7 @@ pub struct Settings {
 }
 
 /// The schema with its weights, the clients, and an account for each. Beside them the list by which bodies are expanded, and what is
-/// known of the schema, if there are any.
+/// known of the schema, if there are any, and how many steps the examination of a request may take, where that is said.
 #[derive(Drop)]
 pub struct Gate {
     pub(crate) trusted: Option<Trusted>,
@@ -53,6 +53,7 @@ pub struct Gate {
     pub(crate) clients: Indexed<Client>,
     pub(crate) settings: Settings,
     pub(crate) accounts: Accounts,
+    pub(crate) most_work: Option<u32>,
     ghost weighed: { weights_data weights ≡ weights_of (schema_data schema) (weights_data weights).undeclared } by { weights-prop (weights_data weights) (weights_of (schema_data schema) (weights_data weights).undeclared) },
     ghost fillable: { CanBeFilled (schema_data schema) } by { filled-prop (schema_data schema) },
     ghost served: { MayBeServed settings.window_seconds clients.items.items },
@@ -110,6 +111,7 @@ impl Gate {
             clients,
             settings,
             accounts,
+            most_work,
         } = self;
         Gate {
             trusted: Some(trusted),
@@ -119,6 +121,7 @@ impl Gate {
             clients,
             settings,
             accounts,
+            most_work,
         }
     }
 
@@ -137,10 +140,41 @@ impl Gate {
             clients,
             settings,
             accounts,
+            most_work,
         } = self;
         Gate {
             facts: Some(facts),
             trusted,
+            schema,
+            weights,
+            clients,
+            settings,
+            accounts,
+            most_work,
+        }
+    }
+
+    /// The gate, where the examination of a request may take so many steps at most. It takes no memory, and passes of the gate are
+    /// passes of the result.
+    pub fn with_most_work(self, most: Option<u32>) -> Gate
+        ensures rules { rules_of result ≡ record (rules_of self) { most_work = most } }
+        ensures settings { result.settings ≡ self.settings }
+        ensures accounts { result.accounts ≡ self.accounts }
+    {
+        let Gate {
+            most_work: _,
+            trusted,
+            facts,
+            schema,
+            weights,
+            clients,
+            settings,
+            accounts,
+        } = self;
+        Gate {
+            most_work: most,
+            trusted,
+            facts,
             schema,
             weights,
             clients,

@@ -1,6 +1,6 @@
 //! What holds of all bodies, and of all replies to what is granted. These functions do nothing: their contracts are the laws.
 
-ghost use Rattle.std.specs.Prelude.{◌≡◌, ◌≢◌, ℕ, List, true};
+ghost use Rattle.std.specs.Prelude.{◌≡◌, ℕ, List, true};
 ghost use Rattle.account_core.specs.declared.Limit.{Limit as LimitType};
 ghost use Rattle.account_core.specs.Costs.{is_within};
 ghost use Rattle.account_core.specs.Machine.{Entry, HasRoom};
@@ -9,14 +9,13 @@ ghost use Rattle.response_meter.specs.declared.metered.Metered.{Metered};
 ghost use Rattle.response_meter.specs.declared.fault.MeterFault.{MeterFault};
 ghost use Rattle.cost_num.specs.declared.Cost.{Cost as CostType};
 ghost use Rattle.gateway_core.specs.declared.beginning.Denial.{Denial as DenialType};
-ghost use Rattle.gateway_core.specs.declared.beginning.Denial.TheVariants.{Memory as NoMemory};
 ghost use Rattle.gateway_core.specs.declared.finishing.Finished.{Finished as FinishedType};
 ghost use Rattle.gateway_core.specs.declared.finishing.Outcome.{Outcome as OutcomeType};
 ghost use Rattle.gateway_core.specs.declared.grant.Grant.{Grant as GrantType};
 ghost use Rattle.gateway_core.specs.declared.promise.Promise.{Promise as PromiseType};
 ghost use Rattle.gateway_core.specs.Rules.{Rules, HasWeights, most_of};
 ghost use Rattle.gateway_core.specs.Requests.{IsPricedAt, IsPromisedFor};
-ghost use Rattle.gateway_core.specs.Begins.{IsUnfit, HasOneAnswer};
+ghost use Rattle.gateway_core.specs.Begins.{IsUnfit, IsVerdict, HasOneAnswer};
 ghost use Rattle.gateway_core.specs.PlanBounds.{IsMeasuredBy};
 ghost use Rattle.gateway_core.specs.Measures.{HasNamedTypes, IsMeasuredFor, IsFaultyFor, MeasuredIsAnswered};
 ghost use Rattle.gateway_core.specs.Finishes.{HasReplyFault, IsConcluded, IsGrantedBy};
@@ -33,13 +32,13 @@ use response_model::laws::greatest_is_bound;
 use trusted_documents::a_body_is_one_request_by_a_list;
 
 /// By the rules of a gate a body has one price, or one answer of the gateway at one cost, or is unfit for one reason, and no two of
-/// these; a promise for it is at its price. For want of memory nothing is said of a body. The weights are those of the schema, as
+/// these; a promise for it is at its price. For want of memory or of steps nothing is said of a body. The weights are those of the schema, as
 /// those of a gate are.
 pub fn a_body_comes_to_one_thing()
     ensures promised { (rules : Rules) (body : List ℕ) (promise : PromiseType) → IsPromisedFor rules body promise → IsPricedAt rules body promise.bound }
     ensures one_price { (rules : Rules) (body : List ℕ) (bound cost : CostType) → HasWeights rules.schema rules.weights → IsPricedAt rules body bound → IsPricedAt rules body cost → bound ≡ cost }
-    ensures not_both { (rules : Rules) (body : List ℕ) (bound : CostType) (denial : DenialType) → denial ≢ NoMemory → IsPricedAt rules body bound → IsUnfit rules body denial → ⊥ }
-    ensures one_reason { (rules : Rules) (body : List ℕ) (denial other : DenialType) → denial ≢ NoMemory → other ≢ NoMemory → IsUnfit rules body denial → IsUnfit rules body other → denial ≡ other }
+    ensures not_both { (rules : Rules) (body : List ℕ) (bound : CostType) (denial : DenialType) → IsVerdict denial → IsPricedAt rules body bound → IsUnfit rules body denial → ⊥ }
+    ensures one_reason { (rules : Rules) (body : List ℕ) (denial other : DenialType) → IsVerdict denial → IsVerdict other → IsUnfit rules body denial → IsUnfit rules body other → denial ≡ other }
     ensures local { (rules : Rules) (body : List ℕ) → HasOneAnswer rules body }
 {
     a_body_is_one_request_by_a_list();

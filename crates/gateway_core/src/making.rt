@@ -69,6 +69,7 @@ impl Gate {
             clients,
             settings,
             accounts,
+            most_work: None,
         };
         Ok((gate, passes))
     }
@@ -92,6 +93,7 @@ pub fn close<R: Wait>(gate: Gate, rt: &R, passes: Passes) -> Totals
         clients,
         settings: _,
         accounts,
+        most_work: _,
     } = gate;
     let accounts = accounts.close(rt, passes);
     Totals { clients, accounts }

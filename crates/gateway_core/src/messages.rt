@@ -61,6 +61,7 @@ pub fn denial_status(denial: &Denial) -> u16
         Denial::NotLocal(_) => 400,
         Denial::Short { left: _, bound: _ } => 429,
         Denial::Full => 503,
+        Denial::Work => 400,
         Denial::Memory => 500,
     }
 }
@@ -108,6 +109,7 @@ pub fn denial_message(alloc: Global, denial: &Denial) -> Result<Text, AllocError
         }
         Denial::Short { left, bound } => over_budget(alloc, *left, *bound),
         Denial::Full => Text::copy_of(alloc, "JOURNAL_FULL"),
+        Denial::Work => refused(alloc, "work 1 TooMuch"),
         Denial::Memory => Text::copy_of(alloc, "NO_MEMORY"),
     }
 }

@@ -7,7 +7,7 @@ use Rattle.account_shared.specs.Gains.{client_call, Gains}
 use Rattle.replay_scripts.specs.Steps.{StepData, begins, ends, ReturnedData, reply, down, failed}
 use Rattle.upstream_link.specs.declared.fault.LinkFault.TheVariants as link
 use Rattle.gateway_core.specs.declared.beginning.Begun.TheVariants.{Granted, Answered, Denied}
-use Rattle.gateway_core.specs.declared.beginning.Denial.TheVariants.{UnknownKey, Unexpanded, BadBody, Refused, NotLocal, Short, Full, Memory}
+use Rattle.gateway_core.specs.declared.beginning.Denial.TheVariants.{UnknownKey, Unexpanded, BadBody, Refused, NotLocal, Short, Full, Work, Memory}
 use Rattle.gateway_core.specs.declared.finishing.Outcome.{Outcome}
 use Rattle.gateway_core.specs.declared.finishing.Outcome.TheVariants.{Reply, Fault, NoMemory}
 use Rattle.gateway_core.specs.declared.finishing.Finished.{Finished}
@@ -35,6 +35,7 @@ just_taken rules p q opens left step told t j = subst (JustOpen q) (sym t.left_a
     after (begins id key moment body) (begun_as client (Denied (NotLocal fault))) c gains = just_none p q opens gains j
     after (begins id key moment body) (begun_as client (Denied Full)) c gains = absurd c.1
     after (begins id key moment body) (begun_as client (Denied (Short left bound))) c gains = just_short p q opens client (window_of rules moment) bound left gains j
+    after (begins id key moment body) (begun_as client (Denied Work)) c gains = just_none p q opens gains j
     after (begins id key moment body) (begun_as client (Denied Memory)) c gains = just_none p q opens gains j
     after (begins id key moment body) no_room c gains = just_none p q opens gains j
     after (begins id key moment body) (finished_with request answer) c gains = absurd c
@@ -78,6 +79,7 @@ few_calls rules made opens (begins id key moment body) (begun_as client (Denied 
 few_calls rules made opens (begins id key moment body) (begun_as client (Denied (NotLocal fault))) c = omega arith
 few_calls rules made opens (begins id key moment body) (begun_as client (Denied Full)) c = absurd c.1
 few_calls rules made opens (begins id key moment body) (begun_as client (Denied (Short left bound))) c = omega arith
+few_calls rules made opens (begins id key moment body) (begun_as client (Denied Work)) c = omega arith
 few_calls rules made opens (begins id key moment body) (begun_as client (Denied Memory)) c = omega arith
 few_calls rules made opens (begins id key moment body) no_room c = omega arith
 few_calls rules made opens (begins id key moment body) (finished_with request answer) c = absurd c

@@ -16,18 +16,18 @@ use Rattle.gateway_run.specs.Serve.{service_over}
 with_parts : Option ℕ → Rules → List ℕ → List ℕ → List (List ℕ) → Bool → Service
 with_parts slots rules host target passed hints = record { rules = rules; host = host; target = target; passed = passed; hints = hints; slots = slots }
 
-pub same_service : (slots : Option ℕ) (gate : Gate) (asked : AskedServe) (inputs : ServeInputs) (settings : Settings) → rules_of gate ≡ rules_in inputs.rules inputs.list asked.most_answer
+pub same_service : (slots : Option ℕ) (gate : Gate) (asked : AskedServe) (inputs : ServeInputs) (settings : Settings) → rules_of gate ≡ rules_in inputs.rules inputs.list asked.most_answer asked.most_work
     → gate.settings ≡ settings → settings.host ≡ asked.upstream → settings.target ≡ asked.target → settings.passed.items ≡ asked.passed.items → settings.hints ≡ asked.hints
     → service_in slots gate ≡ service_over slots asked inputs
 unfolding with_parts
 same_service slots gate asked inputs settings rules same host target passed hints =
     ap (λ (r : Rules). with_parts slots r gate.settings.host gate.settings.target gate.settings.passed.items gate.settings.hints) rules
-    ∙ ap₂ (λ h t. with_parts slots (rules_in inputs.rules inputs.list asked.most_answer) h t gate.settings.passed.items gate.settings.hints) (ap (λ (s : Settings). s.host) same ∙ host) (ap (λ (s : Settings). s.target) same ∙ target)
-    ∙ ap₂ (λ p b. with_parts slots (rules_in inputs.rules inputs.list asked.most_answer) asked.upstream asked.target p b) (ap (λ (s : Settings). s.passed.items) same ∙ passed) (ap (λ (s : Settings). s.hints) same ∙ hints)
+    ∙ ap₂ (λ h t. with_parts slots (rules_in inputs.rules inputs.list asked.most_answer asked.most_work) h t gate.settings.passed.items gate.settings.hints) (ap (λ (s : Settings). s.host) same ∙ host) (ap (λ (s : Settings). s.target) same ∙ target)
+    ∙ ap₂ (λ p b. with_parts slots (rules_in inputs.rules inputs.list asked.most_answer asked.most_work) asked.upstream asked.target p b) (ap (λ (s : Settings). s.passed.items) same ∙ passed) (ap (λ (s : Settings). s.hints) same ∙ hints)
 
 -- what the clients may spend
-pub same_limits : (gate : Gate) (inputs : ServeInputs) (most : Option ℕ) → rules_of gate ≡ rules_in inputs.rules inputs.list most → limits_of gate ≡ map client_limit inputs.rules.clients.clients.items
-same_limits gate inputs most rules = ap (λ (r : Rules). map client_limit r.clients) rules
+pub same_limits : (gate : Gate) (inputs : ServeInputs) (most work : Option ℕ) → rules_of gate ≡ rules_in inputs.rules inputs.list most work → limits_of gate ≡ map client_limit inputs.rules.clients.clients.items
+same_limits gate inputs most work rules = ap (λ (r : Rules). map client_limit r.clients) rules
 
 -- what serving over a journal came to is said of what its parts are
 pub came_alike : (s t : Service) (limits own_limits : List Limit) (mark own_mark name own_name : List ℕ) (serving : Serving) (disks disks_now : DisksTold) (doors doors_now : DoorsTold) (came_to : Result KeptEnd KeptFault)

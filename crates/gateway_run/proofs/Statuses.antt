@@ -1,6 +1,6 @@
 -- What a run with a status says.
 use Rattle.std.proofs.Common.{◌≡◌, ◌≤◌, ◌⊎◌, inl, inr, refl, sym, subst, codes, ℕ, List, Option, None, Some, Bool, true, false, Result, Ok, Err, Vec, arith, Contains}
-use Rattle.account_commands.specs.PassedOn.{SCHEMA_LIMIT, DOCUMENT_LIMIT, VARIABLES_LIMIT, CLIENTS_LIMIT, SCRIPT_LIMIT, TRUSTED_LIMIT, line, Outcome, Done, Refused, FileFailed, Faulty, Served, NotStarted, Usage, Memory, Audited, DONE, REFUSED, USAGE, FILE_FAILED, STREAM_FAILED, NO_MEMORY, SIZE_BROKEN, NOT_RESPONSE, DOOR_FAILED, DISK_FAILED, FilesTold, IsStopped, IsDone, IsRefusedAs, IsFaultyAs, IsAudited, CheckOf, IsNoText, HasNoText}
+use Rattle.account_commands.specs.PassedOn.{SCHEMA_LIMIT, DOCUMENT_LIMIT, VARIABLES_LIMIT, CLIENTS_LIMIT, SCRIPT_LIMIT, TRUSTED_LIMIT, line, Outcome, Done, Refused, FileFailed, Faulty, Served, NotStarted, Usage, Memory, Audited, DONE, REFUSED, USAGE, FILE_FAILED, STREAM_FAILED, NO_MEMORY, SIZE_BROKEN, NOT_RESPONSE, DOOR_FAILED, DISK_FAILED, FilesTold, IsStopped, IsDone, IsRefusedAs, IsWanting, IsFaultyAs, IsAudited, CheckOf, IsNoText, HasNoText}
 use Rattle.std.specs.declared.alloc.Global.{Global}
 use Rattle.outside.specs.Faults.{Rose}
 use Rattle.command_words.specs.declared.command.Command.{Command}
@@ -86,6 +86,10 @@ module _ (IsName : List ℕ → Type 0) (files : FilesTold) where
   refused_answer text NotStarted refused = tt
   refused_answer text Usage refused = refused
   refused_answer text Memory refused = tt
+
+  wanting_answer : (most : Option ℕ) (outcome : Outcome) → IsWanting most outcome → IsAnswer IsName files outcome
+  wanting_answer most outcome (inl memory) = memory_answer outcome memory
+  wanting_answer most outcome (inr refused) = refused_answer _ outcome refused.1
 
   telling_answer : (text : List ℕ) (IsSpot : Option Spot → Type 0) (outcome : Outcome) → IsRefusedTelling text IsSpot outcome → IsAnswer IsName files outcome
   telling_answer text IsSpot (Done bytes) refused = absurd refused
@@ -182,13 +186,14 @@ module _ (IsName : List ℕ → Type 0) (files : FilesTold) where
   check_answer schema bytes outcome (inr (inr refused)) = refused_answer _ outcome refused.2
 
   price_answer : (asked : Asked) (texts : AskedTexts) (outcome : Outcome) → PriceOf asked texts outcome → IsAnswer IsName files outcome
-  price_answer asked texts outcome (inl memory) = memory_answer outcome memory
+  price_answer asked texts outcome (inl wants) = wanting_answer asked.most_work outcome wants
   price_answer asked texts outcome (inr (inl done)) = done_answer _ outcome done.3
   price_answer asked texts outcome (inr (inr refused)) = refused_answer _ outcome refused.2
 
   explain_answer : (asked : Asked) (texts : AskedTexts) (outcome : Outcome) → ExplainOf asked texts outcome → IsAnswer IsName files outcome
-  explain_answer asked texts outcome (inl memory) = memory_answer outcome memory
-  explain_answer asked texts outcome (inr (inl done)) = done_answer _ outcome done.2
+  explain_answer asked texts outcome (inl (inl memory)) = memory_answer outcome memory
+  explain_answer asked texts outcome (inl (inr told)) = telling_answer _ _ outcome told.1
+  explain_answer asked texts outcome (inr (inl done)) = done_answer _ outcome done.2.2
   explain_answer asked texts outcome (inr (inr refused)) = telling_answer _ _ outcome refused.2
 
   explain_schema_answer : (name : List ℕ) (undeclared : ℕ) (text : List ℕ) (outcome : Outcome) → ExplainSchemaOf name undeclared text outcome → IsAnswer IsName files outcome
@@ -213,7 +218,7 @@ module _ (IsName : List ℕ → Type 0) (files : FilesTold) where
   audit_answer asked schema contents outcome (inr (inr refused)) = refused_answer _ outcome refused.2
 
   introspect_answer : (asked : Asked) (texts : AskedTexts) (outcome : Outcome) → IntrospectOf asked texts outcome → IsAnswer IsName files outcome
-  introspect_answer asked texts outcome (inl memory) = memory_answer outcome memory
+  introspect_answer asked texts outcome (inl wants) = wanting_answer asked.most_work outcome wants
   introspect_answer asked texts outcome (inr (inl done)) = done_answer _ outcome done.2
   introspect_answer asked texts outcome (inr (inr refused)) = refused_answer _ outcome refused.2
 
@@ -223,12 +228,12 @@ module _ (IsName : List ℕ → Type 0) (files : FilesTold) where
   worst_tree_answer part tree outcome (inr (inr large)) = refused_answer _ outcome large.1
 
   worst_answer : (asked : Asked) (part : Part) (texts : AskedTexts) (outcome : Outcome) → WorstOf asked part texts outcome → IsAnswer IsName files outcome
-  worst_answer asked part texts outcome (inl memory) = memory_answer outcome memory
+  worst_answer asked part texts outcome (inl wants) = wanting_answer asked.most_work outcome wants
   worst_answer asked part texts outcome (inr (inl accepted)) = worst_tree_answer part (plan_tree (request_in asked accepted.0) accepted.2.2.is_planned.prepared) outcome accepted.2.3
   worst_answer asked part texts outcome (inr (inr refused)) = refused_answer _ outcome refused.2
 
   forward_answer : (asked : Asked) (texts : AskedTexts) (outcome : Outcome) → ForwardOf asked texts outcome → IsAnswer IsName files outcome
-  forward_answer asked texts outcome (inl memory) = memory_answer outcome memory
+  forward_answer asked texts outcome (inl wants) = wanting_answer asked.most_work outcome wants
   forward_answer asked texts outcome (inr (inl done)) = done_answer _ outcome done.2
   forward_answer asked texts outcome (inr (inr refused)) = refused_answer _ outcome refused.2
 
@@ -254,7 +259,7 @@ module _ (IsName : List ℕ → Type 0) (files : FilesTold) where
   meter_plan_answer plan alias tree reply outcome (inr (inr faulty)) = reply_answer faulty.0 outcome faulty.1.1 faulty.2
 
   meter_answer : (asked : Asked) (texts : AskedTexts) (reply : List ℕ) (outcome : Outcome) → MeterOf asked texts reply outcome → IsAnswer IsName files outcome
-  meter_answer asked texts reply outcome (inl memory) = memory_answer outcome memory
+  meter_answer asked texts reply outcome (inl wants) = wanting_answer asked.most_work outcome wants
   meter_answer asked texts reply outcome (inr (inl accepted)) = meter_plan_answer accepted.2.0 accepted.2.4.0 (plan_tree (request_in asked accepted.0) accepted.2.2.is_planned.prepared) reply outcome accepted.2.4.2
   meter_answer asked texts reply outcome (inr (inr refused)) = refused_answer _ outcome refused.2
 
@@ -263,10 +268,10 @@ module _ (IsName : List ℕ → Type 0) (files : FilesTold) where
   migrate_answer text outcome (inr (inl done)) = done_answer _ outcome done.2
   migrate_answer text outcome (inr (inr refused)) = refused_answer _ outcome refused.2
 
-  replay_answer : (name : List ℕ) (texts : ReplayTexts) (undeclared : ℕ) (outcome : Outcome) → ReplayOf name texts undeclared outcome → IsAnswer IsName files outcome
-  replay_answer name texts undeclared outcome (inl memory) = memory_answer outcome memory
-  replay_answer name texts undeclared outcome (inr (inl done)) = done_answer _ outcome done.2.2.2
-  replay_answer name texts undeclared outcome (inr (inr refused)) = refused_answer _ outcome refused.2
+  replay_answer : (name : List ℕ) (texts : ReplayTexts) (undeclared : ℕ) (work : Option ℕ) (outcome : Outcome) → ReplayOf name texts undeclared work outcome → IsAnswer IsName files outcome
+  replay_answer name texts undeclared work outcome (inl memory) = memory_answer outcome memory
+  replay_answer name texts undeclared work outcome (inr (inl done)) = done_answer _ outcome done.2.2.2
+  replay_answer name texts undeclared work outcome (inr (inr refused)) = refused_answer _ outcome refused.2
 
   exercise_answer : (requests : ℕ) (outcome : Outcome) → ExerciseCameTo requests outcome → IsAnswer IsName files outcome
   exercise_answer requests outcome (inl memory) = memory_answer outcome memory
@@ -308,7 +313,7 @@ answers (Forward asked) files outcome (inr read) = forward_answer (IsAskedFile a
 answers (Meter asked reply) files outcome (inl none) = metering_answer asked reply files outcome none
 answers (Meter asked reply) files outcome (inr read) = meter_answer (IsFileOf (Meter asked reply)) files asked read.0 read.1 outcome read.4
 answers (Replay asked) files outcome (inl none) = no_replay_answer (IsReplayFile asked) files asked outcome (λ name is. is) none
-answers (Replay asked) files outcome (inr read) = replay_answer (IsReplayFile asked) files asked.schema read.0 asked.undeclared outcome read.2
+answers (Replay asked) files outcome (inr read) = replay_answer (IsReplayFile asked) files asked.schema read.0 asked.undeclared asked.most_work outcome read.2
 answers (Exercise requests) files outcome came_to = exercise_answer (IsFileOf (Exercise requests)) files requests outcome came_to.0
 answers (Migrate clients) files outcome (inl none) = no_text_answer (IsFileOf (Migrate clients)) files CLIENTS_LIMIT clients outcome refl none
 answers (Migrate clients) files outcome (inr read) = migrate_answer (IsFileOf (Migrate clients)) files read.0 outcome read.2

@@ -60,7 +60,7 @@ AreUntouched outside = (outside.doors.now ≡ outside.doors.before) × AreUnopen
 -- By what requests are decided, where they are forwarded to and with which fields, and whether hints are told; and, over a journal, how
 -- many slots it has.
 abbrev pub service_over : Option ℕ → AskedServe → ServeInputs → Service
-service_over slots asked inputs = record { rules = rules_in inputs.rules inputs.list asked.most_answer; host = asked.upstream; target = asked.target; passed = asked.passed.items; hints = asked.hints; slots = slots }
+service_over slots asked inputs = record { rules = rules_in inputs.rules inputs.list asked.most_answer asked.most_work; host = asked.upstream; target = asked.target; passed = asked.passed.items; hints = asked.hints; slots = slots }
 
 -- over shared cells
 abbrev pub service_by : AskedServe → ServeInputs → Service

@@ -21,25 +21,25 @@ pub(crate) fn usage_text() -> &'static [u8]
 {
     b"usage: tellcrock check SCHEMA
   prints how many types and fields a schema has, or which test it doesn't pass
-usage: tellcrock price SCHEMA DOCUMENT [--variables FILE] [--operation NAME] [--unsized N]
+usage: tellcrock price SCHEMA DOCUMENT [--variables FILE] [--operation NAME] [--unsized N] [--most-work N]
   prints the greatest type cost and the greatest field cost that a response can have
-usage: tellcrock explain SCHEMA DOCUMENT [--variables FILE] [--operation NAME] [--unsized N]
+usage: tellcrock explain SCHEMA DOCUMENT [--variables FILE] [--operation NAME] [--unsized N] [--most-work N]
   prints what each node of an operation adds to its price, or why it is refused, where, and what helps
 usage: tellcrock explain SCHEMA [--unsized N]
   prints what surprises in a schema where it is served, or why it is refused, where, and what helps
-usage: tellcrock audit SCHEMA DOCUMENT.. [--variables-none] [--most TYPES FIELDS] [--unsized N]
+usage: tellcrock audit SCHEMA DOCUMENT.. [--variables-none] [--most TYPES FIELDS] [--unsized N] [--most-work N]
   prints what each operation of documents costs at most, or why it is refused, and whether all pass
-usage: tellcrock introspect SCHEMA DOCUMENT [--variables FILE] [--operation NAME]
+usage: tellcrock introspect SCHEMA DOCUMENT [--variables FILE] [--operation NAME] [--most-work N]
   prints what the answer to an operation that asks for the schema costs, and the answer
-usage: tellcrock worst SCHEMA DOCUMENT types|fields [--variables FILE] [--operation NAME] [--unsized N]
+usage: tellcrock worst SCHEMA DOCUMENT types|fields [--variables FILE] [--operation NAME] [--unsized N] [--most-work N]
   prints a response that costs as much as any
-usage: tellcrock forward SCHEMA DOCUMENT [--variables FILE] [--operation NAME] [--unsized N]
+usage: tellcrock forward SCHEMA DOCUMENT [--variables FILE] [--operation NAME] [--unsized N] [--most-work N]
   prints the request that is sent on for an operation
-usage: tellcrock meter SCHEMA DOCUMENT REPLY [--variables FILE] [--operation NAME] [--unsized N]
+usage: tellcrock meter SCHEMA DOCUMENT REPLY [--variables FILE] [--operation NAME] [--unsized N] [--most-work N]
   prints what a reply cost, and the answer for its client
-usage: tellcrock replay SCHEMA CLIENTS SCRIPT [--trusted FILE [--trusted-only]] [--unsized N]
+usage: tellcrock replay SCHEMA CLIENTS SCRIPT [--trusted FILE [--trusted-only]] [--unsized N] [--most-work N]
   prints what becomes of each request of a script, and of the clients' accounts
-usage: tellcrock serve SCHEMA CLIENTS --listen ADDR --upstream ADDR [--target PATH] [--workers N] [--connections N | --endless] [--idle N] [--stop FILE] [--journal FILE] [--trusted FILE [--trusted-only]] [--pass NAME].. [--hints] [--most-answer BYTES] [--unsized N]
+usage: tellcrock serve SCHEMA CLIENTS --listen ADDR --upstream ADDR [--target PATH] [--workers N] [--connections N | --endless] [--idle N] [--stop FILE] [--journal FILE] [--trusted FILE [--trusted-only]] [--pass NAME].. [--hints] [--most-answer BYTES] [--unsized N] [--most-work N]
   serves clients over HTTP within their budgets, and forwards what they cover; prints the accounts at the end
 usage: tellcrock exercise N
   prints a summary of a replay of N requests of one client

@@ -99,7 +99,14 @@ fn keep_by<Rt: Threads + Wait + Sync, D: Doors, J: Disks>(
     let Ok(settings) = settings_of(alloc, asked, rules.clients.window_seconds) else {
         return Outcome::Memory;
     };
-    let made = gate_by(alloc, rules, list, settings, asked.most_answer);
+    let made = gate_by(
+        alloc,
+        rules,
+        list,
+        settings,
+        asked.most_answer,
+        asked.most_work,
+    );
     let Ok((gate, _passes)) = made else {
         return Outcome::Memory;
     };
@@ -127,7 +134,14 @@ fn serve_by<Rt: Threads + Wait + Sync, D: Doors>(
     let Ok(settings) = settings_of(alloc, asked, rules.clients.window_seconds) else {
         return Err(ServeFault::Memory);
     };
-    let made = gate_by(alloc, rules, list, settings, asked.most_answer);
+    let made = gate_by(
+        alloc,
+        rules,
+        list,
+        settings,
+        asked.most_answer,
+        asked.most_work,
+    );
     let Ok((gate, passes)) = made else {
         return Err(ServeFault::Memory);
     };

@@ -176,10 +176,10 @@ fn fits(alloc: Global, facts: &Facts, nodes: &[AskedNode]) -> Result<(), Stop>
 }
 
 // What the answer costs, where it isn't too large.
-fn sized(alloc: Global, facts: &Facts, nodes: &[AskedNode]) -> Result<Cost, Stop>
+fn sized(alloc: Global, work: Work<'_>, facts: &Facts, nodes: &[AskedNode]) -> Result<Cost, Stop>
     ensures { IsSized (facts_data facts.now.known) (asked_nodes nodes.now) facts.now.most result }
 {
-    let cost = match count_answer(alloc, &facts.known, nodes) {
+    let cost = match count_answer(alloc, work, &facts.known, nodes) {
         Ok(cost) => cost,
         Err(stop) => return Err(stop),
     };
@@ -208,7 +208,7 @@ fn cost_of(
     what_arguments_see();
     responses_to_what_is_asked();
     a_meta_schema_has_its_form();
-    match sized(alloc, of.facts, nodes) {
+    match sized(alloc, of.work, of.facts, nodes) {
         Ok(cost) => Ok(cost),
         Err(stop) => Err(stop_fault(stop)),
     }
@@ -226,6 +226,9 @@ pub struct Counted<'f> {
 /// Counts the answer to an operation that asks for the gateway's own schema: the one tree that fits the operation over
 /// the schema of schemas, and whose every entry is what the schema's facts give. Or tells the first test that the operation doesn't
 /// pass: the rules (GraphQL October 2021, 5), the values of its variables (6.1.2), its plan (6.3.2), and the size of the answer.
+///
+/// The steps that the answer takes are taken here, also those that it will take to write it. Where they run out that is told as want of
+/// memory.
 ///
 /// It asks that the operation at the place is local. `given` is an object of JSON; what is no object gives no variable a value.
 pub fn count<'f>(

@@ -9,6 +9,8 @@ ghost use Rattle.local_introspection.specs.declared.counting.Stop.TheVariants.{T
 ghost use Rattle.local_introspection.specs.Counting.{what_of, TellsLeaf, CountsThing, CountsEntries, CountsEntry, CountsHeld, CountsThings, IsCount};
 
 use cost_num::{CAP, Cost, UNIT};
+use counted_work::{Work, steps_of_text};
+use gql_base::print_value;
 use meta_schema::{AskedNode, weight_of, what_asked};
 use schema_facts::{Held, SchemaFacts, Thing, What, look_up};
 use std::alloc::{AllocError, Global};
@@ -73,6 +75,28 @@ fn take_one(left: &mut usize) -> Result<(), Stop>
     Ok(())
 }
 
+/// So many bytes of a printed default are a step: most of them are tokens.
+const BYTES_IN_A_TOKEN: usize = 8;
+
+// Takes the steps of a value of the answer: itself, and what will be written of it. How long a default is is seen by printing it.
+fn take_value(alloc: Global, work: Work<'_>, thing: Thing<'_>) -> Result<(), AllocError> {
+    work.take(1)?;
+    match thing {
+        Thing::Word(text) => work.take(steps_of_text(text.len())),
+        Thing::Default(value) => {
+            let text = print_value(alloc, value)?;
+            work.take(text.len() / BYTES_IN_A_TOKEN)
+        }
+        _ => Ok(()),
+    }
+}
+
+// Takes the steps of an entry: looking it up, and what will be written of its key.
+fn take_entry(work: Work<'_>, node: &AskedNode) -> Result<(), AllocError> {
+    work.take(1)?;
+    work.take(steps_of_text(node.key.as_str().len()))
+}
+
 // Whether a thing is a leaf.
 fn is_leaf(thing: Thing<'_>) -> bool
     ensures { TellsLeaf (leaf_of (thing_data thing.entry)) result }
@@ -86,6 +110,7 @@ fn is_leaf(thing: Thing<'_>) -> bool
 #[cycle(counting)]
 fn count_thing(
     alloc: Global,
+    work: Work<'_>,
     facts: &SchemaFacts,
     thing: Thing<'_>,
     nodes: &[AskedNode],
@@ -94,10 +119,11 @@ fn count_thing(
     ensures { CountsThing (facts_data facts.now) left.old left.new result (thing_data thing.entry) (asked_nodes nodes.now) }
 {
     take_one(left)?;
+    take_value(alloc, work, thing)?;
     if is_leaf(thing) {
         return Ok(NOTHING);
     }
-    let below = count_entries(alloc, facts, thing, nodes, left)?;
+    let below = count_entries(alloc, work, facts, thing, nodes, left)?;
     Ok(sum(
         Cost {
             types: UNIT,
@@ -110,6 +136,7 @@ fn count_thing(
 #[cycle(counting)]
 fn count_entries(
     alloc: Global,
+    work: Work<'_>,
     facts: &SchemaFacts,
     thing: Thing<'_>,
     nodes: &[AskedNode],
@@ -119,7 +146,7 @@ fn count_entries(
 {
     let mut cost = NOTHING;
     'nodes: for node in nodes {
-        cost = sum(cost, count_entry(alloc, facts, thing, node, left)?);
+        cost = sum(cost, count_entry(alloc, work, facts, thing, node, left)?);
     }
     Ok(cost)
 }
@@ -127,6 +154,7 @@ fn count_entries(
 #[cycle(counting)]
 fn count_entry(
     alloc: Global,
+    work: Work<'_>,
     facts: &SchemaFacts,
     thing: Thing<'_>,
     node: &AskedNode,
@@ -134,9 +162,10 @@ fn count_entry(
 ) -> Result<Cost, Stop>
     ensures { CountsEntry (facts_data facts.now) left.old left.new result (thing_data thing.entry) (asked_node node.now) }
 {
+    take_entry(work, node)?;
     let what = what_of(node);
     let found = look_up(alloc, facts, thing, what)?;
-    let below = count_held(alloc, facts, found, node.below.as_slice(), left)?;
+    let below = count_held(alloc, work, facts, found, node.below.as_slice(), left)?;
     Ok(sum(
         Cost {
             types: 0,
@@ -149,6 +178,7 @@ fn count_entry(
 #[cycle(counting)]
 fn count_held(
     alloc: Global,
+    work: Work<'_>,
     facts: &SchemaFacts,
     found: Held<'_>,
     nodes: &[AskedNode],
@@ -161,10 +191,10 @@ fn count_held(
             take_one(left)?;
             Ok(NOTHING)
         }
-        Held::One(thing) => count_thing(alloc, facts, thing, nodes, left),
+        Held::One(thing) => count_thing(alloc, work, facts, thing, nodes, left),
         Held::Many(things) => {
             take_one(left)?;
-            count_things(alloc, facts, things.as_slice(), nodes, left)
+            count_things(alloc, work, facts, things.as_slice(), nodes, left)
         }
     }
 }
@@ -172,6 +202,7 @@ fn count_held(
 #[cycle(counting)]
 fn count_things(
     alloc: Global,
+    work: Work<'_>,
     facts: &SchemaFacts,
     things: &[Thing<'_>],
     nodes: &[AskedNode],
@@ -181,7 +212,7 @@ fn count_things(
 {
     let mut cost = NOTHING;
     'things: for thing in things {
-        cost = sum(cost, count_thing(alloc, facts, *thing, nodes, left)?);
+        cost = sum(cost, count_thing(alloc, work, facts, *thing, nodes, left)?);
     }
     Ok(cost)
 }
@@ -189,11 +220,12 @@ fn count_things(
 /// What the answer to what is asked at the root of a query costs. Too many values are told as soon as one comes that is one too many.
 pub(crate) fn count_answer(
     alloc: Global,
+    work: Work<'_>,
     facts: &SchemaFacts,
     nodes: &[AskedNode],
 ) -> Result<Cost, Stop>
     ensures { IsCount (facts_data facts.now) (asked_nodes nodes.now) result }
 {
     let mut left = VALUE_LIMIT;
-    count_thing(alloc, facts, Thing::Root, nodes, &mut left)
+    count_thing(alloc, work, facts, Thing::Root, nodes, &mut left)
 }

@@ -25,7 +25,7 @@ pub enum LocalFault {
     /// The answer has too many values, lists and nulls among them.
     #[error("the answer has more than {} values", crate::VALUE_LIMIT)]
     TooLarge,
-    /// There was no memory.
+    /// There was no memory, or there were no steps left, where they are counted.
     #[error("there was no memory for the answer")]
     Memory,
 }

@@ -1,5 +1,5 @@
 -- The prices that an audit finds are within the cap.
-use Rattle.std.proofs.Common.{inl, inr, ℕ, List, [], ◌∷◌, Option, sym, subst}
+use Rattle.std.proofs.Common.{inl, inr, ℕ, List, [], ◌∷◌, Option, None, sym, subst}
 use Rattle.std.specs.List.{AllZip}
 use Rattle.std.proofs.lemmas.List.Elements.{All-nil, All-cons, All-append}
 use Rattle.command_words.specs.declared.command.Asked.{Asked}
@@ -24,7 +24,7 @@ each_within audit schema name text [] (f ∷ findings) are = absurd are
 each_within audit schema name text (o ∷ operations) (f ∷ findings) are = All-cons PricedWithin f findings (verdict_within _ _ f.verdict are.0.verdict) (each_within audit schema name text operations findings are.1)
 
 whole_within : (name : List ℕ) (v : Verdict) (findings : List Finding) → IsWhole name v findings → IsPriceWithin v → ArePricesWithin findings
-whole_within name v findings is within = subst ArePricesWithin (sym is) (All-cons PricedWithin (record { document = name; subject = Whole; verdict = v }) [] within (All-nil PricedWithin))
+whole_within name v findings is within = subst ArePricesWithin (sym is) (All-cons PricedWithin (record { document = name; subject = Whole; verdict = v; steps = None }) [] within (All-nil PricedWithin))
 
 found_within : (audit : AskedAudit) (schema name bytes : List ℕ) (findings : List Finding) → AreFoundIn audit schema name bytes findings → ArePricesWithin findings
 found_within audit schema name bytes findings (inl large) = whole_within name _ findings large.1 tt

@@ -31,7 +31,7 @@ pub priced_alone : (asked : Asked) (texts : AskedTexts) (inputs : Inputs) (r : R
 priced_alone asked texts inputs r cost held same is types fields = ((inputs, held, subst (λ q. IsPricedAs texts q cost) same is), record { of_types = types; of_fields = fields })
 
 pub refused_alone : (asked : Asked) (texts : AskedTexts) (r : OwnRefusal) (v : Verdict) → IsPriceRefusal asked texts r → v ≡ Refused (own_text asked r) → IsVerdict asked texts v
-refused_alone asked texts r v is told = subst (IsVerdict asked texts) (sym told) (r, is, refl)
+refused_alone asked texts r v is told = subst (IsVerdict asked texts) (sym told) (inl (r, is, refl))
 
 abbrev texts_with : List ℕ → List ℕ → Option (List ℕ) → AskedTexts
 texts_with schema document variables = record { schema = schema; document = document; variables = variables }

@@ -1,5 +1,5 @@
 -- What an audit comes to: what each operation of some documents costs at most, or why it has no price.
-use Rattle.std.specs.Prelude.{◌≡◌, ◌≢◌, ◌⊎◌, ◌≤◌, ◌<◌, ◌+◌, ◌&&◌, ℕ, max, Bool, true, false, List, [], ◌∷◌, ◌++◌, All, Contains, IsUtf8, length, flat_map, nat_le, Option, None, Some, option_map, codes}
+use Rattle.std.specs.Prelude.{◌≡◌, ◌≢◌, ◌⊎◌, ◌≤◌, ◌<◌, ◌+◌, ◌&&◌, ℕ, max, Bool, true, false, List, [], ◌∷◌, ◌++◌, All, Contains, IsUtf8, length, flat_map, nat_le, Option, None, Some, IsSome, option_map, codes}
 use Rattle.std.specs.List.{AllZip, list_all, filter}
 use Rattle.std.specs.Fmt.{decimal}
 use Rattle.gql_base.specs.printing.OneLine.{shown_in_line}
@@ -23,7 +23,7 @@ use Rattle.command_outcomes.specs.declared.outcome.Outcome.TheVariants.{Memory}
 use Rattle.command_outcomes.specs.Texts.{too_large_text, not_text_text, line}
 use Rattle.command_outcomes.specs.SchemaTexts.{schema_refusal_text}
 use Rattle.command_outcomes.specs.Reading.{IsRead, IsText, IsTextOf, HoldsText, HasNoText}
-use Rattle.command_outcomes.specs.Outcomes.{FilesTold, NoFileFailed, IsStopped, IsRefusedAs, IsAudited}
+use Rattle.command_outcomes.specs.Outcomes.{FilesTold, NoFileFailed, IsStopped, IsRefusedAs, IsAudited, work_text}
 use Rattle.command_outcomes.specs.Check.{HoldsWith, IsUnchecked}
 use Rattle.serde_json.specs.View.{view}
 use Rattle.operation_commands.specs.Asked.{IsGiven}
@@ -38,6 +38,7 @@ use Rattle.operation_commands.specs.declared.findings.Verdict.TheVariants.{Price
 use Rattle.operation_commands.specs.declared.findings.Finding.{Finding}
 use Rattle.operation_commands.specs.OwnAnswers.{own_text}
 use Rattle.operation_commands.specs.Price.{HasPrice, IsPriceRefusal}
+use Rattle.operation_commands.specs.Steps.{AreSteps, steps_text}
 
 -- ---- what is found
 
@@ -49,15 +50,22 @@ asked_alone audit document name = record {
   variables = None;
   operation = name;
   undeclared = audit.undeclared;
+  most_work = audit.most_work;
 }
 
 abbrev pub texts_alone : List ℕ → List ℕ → AskedTexts
 texts_alone schema document = record { schema = schema; document = document; variables = None }
 
--- The verdict is the price of the operation, within the cap, or the text by which it is refused a price.
+-- The verdict is the price of the operation, within the cap, or the text by which it is refused a price; or that it takes more steps than it
+-- may, where a number of them was given.
 abbrev pub IsVerdict : Asked → AskedTexts → Verdict → Type 0
 IsVerdict asked texts (Priced cost) = HasPrice asked texts cost × IsWithin cost
-IsVerdict asked texts (Refused text) = (r : OwnRefusal) × IsPriceRefusal asked texts r × (text ≡ own_text asked r)
+IsVerdict asked texts (Refused text) = ((r : OwnRefusal) × IsPriceRefusal asked texts r × (text ≡ own_text asked r)) ⊎ (IsSome asked.most_work × (text ≡ work_text))
+
+-- How many steps were taken is told of a price alone, where a number of them was given.
+abbrev pub TellsSteps : Option ℕ → Verdict → Option ℕ → Type 0
+TellsSteps most (Priced cost) steps = AreSteps most steps
+TellsSteps most (Refused text) steps = steps ≡ None
 
 -- the name of a definition that is an operation, if it has one
 abbrev pub operation_names : Definition → List (Option (List ℕ))
@@ -77,10 +85,11 @@ pub record IsFinding (audit : AskedAudit) (schema name text : List ℕ) (operati
   pub document : f.document ≡ name
   pub subject : f.subject ≡ subject_of operation
   pub verdict : IsVerdict (asked_alone audit name operation) (texts_alone schema text) f.verdict
+  pub is_steps : TellsSteps audit.most_work f.verdict f.steps
 
 -- The one finding is of the document as a whole.
 abbrev pub IsWhole : List ℕ → Verdict → List Finding → Type 0
-IsWhole name v findings = findings ≡ record { document = name; subject = Whole; verdict = v } ∷ []
+IsWhole name v findings = findings ≡ record { document = name; subject = Whole; verdict = v; steps = None } ∷ []
 
 -- The text is a document with operations, and there is one finding for each, in their order.
 abbrev pub FindsOperations : AskedAudit → List ℕ → List ℕ → List ℕ → List Finding → Type 0
@@ -121,9 +130,9 @@ abbrev pub verdict_text : Verdict → List ℕ
 verdict_text (Priced cost) = cost_text cost
 verdict_text (Refused text) = text
 
--- the name of the document's file, that of the operation, and its price or its refusal
+-- the name of the document's file, that of the operation, and its price or its refusal, and how many steps the price took
 abbrev pub finding_text : Finding → List ℕ
-finding_text f = shown_in_line f.document ++ (subject_text f.subject ++ (32 ∷ verdict_text f.verdict))
+finding_text f = shown_in_line f.document ++ (subject_text f.subject ++ (32 ∷ (verdict_text f.verdict ++ steps_text (codes " ") f.steps)))
 
 abbrev pub is_operation : Subject → Bool
 is_operation Whole = false

@@ -1,5 +1,5 @@
 -- What an explain command comes to.
-use Rattle.std.specs.Prelude.{◌≡◌, ◌⊎◌, ℕ, List, ◌++◌, codes, Option, None}
+use Rattle.std.specs.Prelude.{◌≡◌, ◌⊎◌, ℕ, List, ◌++◌, codes, Option, None, IsSome}
 use Rattle.cost_num.specs.declared.Cost.{Cost}
 use Rattle.cost_num.specs.CostText.{cost_text}
 use Rattle.plan_table.specs.declared.table.Plan.{Plan}
@@ -13,7 +13,7 @@ use Rattle.command_outcomes.specs.PassedOn.{Local, IsAnsweredHere}
 use Rattle.command_outcomes.specs.declared.outcome.Outcome.{Outcome}
 use Rattle.command_outcomes.specs.declared.outcome.Outcome.TheVariants.{Refused, Memory}
 use Rattle.command_outcomes.specs.Known.{AreKnownOf}
-use Rattle.command_outcomes.specs.Outcomes.{FilesTold, NoFileFailed, IsDone}
+use Rattle.command_outcomes.specs.Outcomes.{FilesTold, NoFileFailed, IsDone, work_text}
 use Rattle.operation_commands.specs.declared.asked.AskedTexts.{AskedTexts}
 use Rattle.operation_commands.specs.declared.asking.Inputs.{Inputs}
 use Rattle.operation_commands.specs.declared.own_answers.OwnRefusal.{OwnRefusal}
@@ -21,6 +21,7 @@ use Rattle.operation_commands.specs.Asked.{HoldTexts, HaveNoTexts, HoldInputs, r
 use Rattle.operation_commands.specs.OwnAnswers.{own_text}
 use Rattle.operation_commands.specs.Price.{IsPriceRefusal}
 use Rattle.operation_commands.specs.Places.{IsSpotIn}
+use Rattle.operation_commands.specs.Steps.{AreSteps, steps_text}
 
 -- what is said of an operation that asks for the schema
 abbrev pub own_price_text : Cost → List ℕ
@@ -55,10 +56,18 @@ TellsUnread unread told = told ≡ unread
 abbrev pub IsExplainRefused : Asked → AskedTexts → Outcome → Type 0
 IsExplainRefused asked texts outcome = (r : OwnRefusal) × IsPriceRefusal asked texts r × IsRefusedTelling (own_text asked r) (IsSpotIn texts r) outcome
 
--- By the texts: its price is explained, or it is told why it has none, or there was no memory.
+-- There was no memory; or it was told that the operation takes more steps than it may, where a number of them was given.
+abbrev pub IsWantingTold : Option ℕ → Outcome → Type 0
+IsWantingTold most outcome = (outcome ≡ Memory) ⊎ (IsSome most × IsRefusedTelling work_text (λ spot. spot ≡ None) outcome)
+
+-- The output is the text that explains the price, and how many steps it took, where a number of them was given.
+abbrev pub IsExplainDone : Option ℕ → List ℕ → Outcome → Type 0
+IsExplainDone most text outcome = (steps : Option ℕ) × AreSteps most steps × IsDone (text ++ steps_text (codes "\n") steps) outcome
+
+-- By the texts: its price is explained, or it is told why it has none, or there was no memory, or it takes more steps than it may.
 abbrev pub ExplainOf : Asked → AskedTexts → Outcome → Type 0
-ExplainOf asked texts outcome = (outcome ≡ Memory)
-    ⊎ ((text : List ℕ) × IsExplained asked texts text × IsDone text outcome)
+ExplainOf asked texts outcome = IsWantingTold asked.most_work outcome
+    ⊎ ((text : List ℕ) × IsExplained asked texts text × IsExplainDone asked.most_work text outcome)
     ⊎ IsExplainRefused asked texts outcome
 
 -- The files hold no texts, as for a price; or they do, and came to that, and none failed.

@@ -9,8 +9,7 @@ use Rattle.acceptance.specs.Forwarding.{IsFreeIn, sent_body}
 use Rattle.operation_commands.specs.declared.asked.AskedTexts.{AskedTexts}
 use Rattle.operation_commands.specs.declared.asking.Inputs.{Inputs}
 use Rattle.command_outcomes.specs.declared.outcome.Outcome.{Outcome}
-use Rattle.command_outcomes.specs.declared.outcome.Outcome.TheVariants.{Memory}
-use Rattle.command_outcomes.specs.Outcomes.{FilesTold, NoFileFailed, IsDone}
+use Rattle.command_outcomes.specs.Outcomes.{FilesTold, NoFileFailed, IsDone, IsWanting}
 use Rattle.operation_commands.specs.Asked.{HoldTexts, HaveNoTexts, HoldInputs, request_in, IsAskedRefused}
 
 -- The operation is accepted, and this is the text of the body that is sent for it.
@@ -19,9 +18,9 @@ IsSent asked texts text = (inputs : Inputs) × HoldInputs asked texts inputs
     × ((plan : Plan) × (bound : Cost) × (accepted : IsAccepted (request_in asked inputs) plan bound)
     × ((alias : List ℕ) × IsFreeIn (request_in asked inputs) alias × (text ≡ compact_text (sent_body (request_in asked inputs) accepted.is_planned.prepared alias))))
 
--- By the texts: what is sent is the output, or the operation is refused, or there was no memory.
+-- By the texts: what is sent is the output, or the operation is refused, or there was no memory, or it takes more steps than it may.
 abbrev pub ForwardOf : Asked → AskedTexts → Outcome → Type 0
-ForwardOf asked texts outcome = (outcome ≡ Memory)
+ForwardOf asked texts outcome = IsWanting asked.most_work outcome
     ⊎ ((text : List ℕ) × IsSent asked texts text × IsDone text outcome)
     ⊎ IsAskedRefused asked texts outcome
 

@@ -10,8 +10,7 @@ use Rattle.operation_class.specs.Routes.{IsPicked}
 use Rattle.command_outcomes.specs.PassedOn.{Local, IsAnsweredHere, IsRefusedHere}
 use Rattle.command_words.specs.declared.command.Asked.{Asked}
 use Rattle.command_outcomes.specs.declared.outcome.Outcome.{Outcome}
-use Rattle.command_outcomes.specs.declared.outcome.Outcome.TheVariants.{Memory}
-use Rattle.command_outcomes.specs.Outcomes.{FilesTold, NoFileFailed, IsDone, IsRefusedAs}
+use Rattle.command_outcomes.specs.Outcomes.{FilesTold, NoFileFailed, IsDone, IsRefusedAs, IsWanting}
 use Rattle.command_outcomes.specs.Known.{AreKnownOf}
 use Rattle.operation_commands.specs.declared.asked.AskedTexts.{AskedTexts}
 use Rattle.operation_commands.specs.declared.asking.Inputs.{Inputs}
@@ -38,9 +37,9 @@ IsIntrospectRefusal asked texts (refusal.Asked other) = IsRefusalOf asked texts 
 IsIntrospectRefusal asked texts (refusal.NotAnswered fault) = (inputs : Inputs) × HoldInputs asked texts inputs × IsRefusedHere (AreKnownOf texts.schema) fault (request_in asked inputs)
 IsIntrospectRefusal asked texts refusal.NotLocal = (inputs : Inputs) × HoldInputs asked texts inputs × ((place : ℕ) × IsPicked asked.operation inputs.document.definitions.items place Upstream)
 
--- By the texts: the answer is the output, or the operation is refused, or there was no memory.
+-- By the texts: the answer is the output, or the operation is refused, or there was no memory, or it takes more steps than it may.
 abbrev pub IntrospectOf : Asked → AskedTexts → Outcome → Type 0
-IntrospectOf asked texts outcome = (outcome ≡ Memory)
+IntrospectOf asked texts outcome = IsWanting asked.most_work outcome
     ⊎ ((answer : Local) × HasAnswer asked texts answer × IsDone (answer_lines answer) outcome)
     ⊎ ((r : OwnRefusal) × IsIntrospectRefusal asked texts r × IsRefusedAs (own_text asked r) outcome)
 

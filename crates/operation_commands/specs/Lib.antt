@@ -10,5 +10,6 @@ pub mod Worst
 pub mod Forward
 pub mod ReplyTexts
 pub mod Meter
+pub mod Steps
 -- What is passed on.
 pub mod Subjects

@@ -22,7 +22,7 @@ use Rattle.command_outcomes.specs.Statuses.{SIZE_BROKEN, NOT_RESPONSE, NO_MEMORY
 use Rattle.operation_commands.specs.ReplyTexts.{meter_text}
 use Rattle.command_outcomes.specs.Texts.{too_large_text}
 use Rattle.command_outcomes.specs.Reading.{IsRead}
-use Rattle.command_outcomes.specs.Outcomes.{FilesTold, NoFileFailed, IsStopped, IsDone, IsRefusedAs, IsFaultyAs}
+use Rattle.command_outcomes.specs.Outcomes.{FilesTold, NoFileFailed, IsStopped, IsDone, IsRefusedAs, IsFaultyAs, IsWanting}
 use Rattle.operation_commands.specs.Asked.{HoldTexts, HoldOperation, HaveNoOperation, HasNoVariables, HoldInputs, request_in, IsAskedRefused}
 
 -- ---- the files
@@ -90,9 +90,10 @@ HasReplyFault asked texts reply fault = OfAccepted asked texts (λ plan alias tr
 abbrev pub MeterOfAccepted : Asked → AskedTexts → List ℕ → Outcome → Type 0
 MeterOfAccepted asked texts reply outcome = OfAccepted asked texts (λ plan alias tree. MeterOfPlan plan alias tree reply outcome)
 
--- By the texts and the reply: the operation is accepted, and its reply measured or faulty; or it is refused, or there was no memory.
+-- By the texts and the reply: the operation is accepted, and its reply measured or faulty; or it is refused, or there was no memory,
+-- or it takes more steps than it may.
 abbrev pub MeterOf : Asked → AskedTexts → List ℕ → Outcome → Type 0
-MeterOf asked texts reply outcome = (outcome ≡ Memory) ⊎ MeterOfAccepted asked texts reply outcome ⊎ IsAskedRefused asked texts outcome
+MeterOf asked texts reply outcome = IsWanting asked.most_work outcome ⊎ MeterOfAccepted asked texts reply outcome ⊎ IsAskedRefused asked texts outcome
 
 -- The files don't hold what they must; or they do, and came to that, and none failed. So a reply that is too large is told before
 -- anything of the operation.

@@ -17,8 +17,7 @@ use Rattle.operation_commands.specs.OwnAnswers.{own_text}
 use Rattle.operation_commands.specs.declared.asked.AskedTexts.{AskedTexts}
 use Rattle.operation_commands.specs.declared.asking.Inputs.{Inputs}
 use Rattle.command_outcomes.specs.declared.outcome.Outcome.{Outcome}
-use Rattle.command_outcomes.specs.declared.outcome.Outcome.TheVariants.{Memory}
-use Rattle.command_outcomes.specs.Outcomes.{FilesTold, NoFileFailed, IsDone, IsRefusedAs}
+use Rattle.command_outcomes.specs.Outcomes.{FilesTold, NoFileFailed, IsDone, IsRefusedAs, IsWanting}
 use Rattle.command_outcomes.specs.Known.{AreKnownOf}
 use Rattle.operation_commands.specs.Asked.{HoldTexts, HaveNoTexts, HoldInputs, request_in, IsRefusalOf, IsUnreadOf}
 
@@ -48,9 +47,10 @@ IsPriceRefusal asked texts refusal.NotLocal = ⊥
 abbrev pub IsPriceRefused : Asked → AskedTexts → Outcome → Type 0
 IsPriceRefused asked texts outcome = (r : OwnRefusal) × IsPriceRefusal asked texts r × IsRefusedAs (own_text asked r) outcome
 
--- By the texts: the price is within the cap and is the output, or the operation is refused, or there was no memory.
+-- By the texts: the price is within the cap and is the output, or the operation is refused, or there was no memory, or it takes more steps than
+-- it may.
 abbrev pub PriceOf : Asked → AskedTexts → Outcome → Type 0
-PriceOf asked texts outcome = (outcome ≡ Memory)
+PriceOf asked texts outcome = IsWanting asked.most_work outcome
     ⊎ ((cost : Cost) × HasPrice asked texts cost × IsWithin cost × IsDone (cost_text cost) outcome)
     ⊎ IsPriceRefused asked texts outcome
 

@@ -18,7 +18,7 @@ use Rattle.operation_commands.specs.declared.asked.AskedTexts.{AskedTexts}
 use Rattle.operation_commands.specs.declared.asking.Inputs.{Inputs}
 use Rattle.command_outcomes.specs.declared.outcome.Outcome.{Outcome}
 use Rattle.command_outcomes.specs.declared.outcome.Outcome.TheVariants.{Memory}
-use Rattle.command_outcomes.specs.Outcomes.{FilesTold, NoFileFailed, IsDone, IsRefusedAs}
+use Rattle.command_outcomes.specs.Outcomes.{FilesTold, NoFileFailed, IsDone, IsRefusedAs, IsWanting}
 use Rattle.operation_commands.specs.Asked.{HoldTexts, HaveNoTexts, HoldInputs, request_in, IsAskedRefused}
 
 -- The operation of the texts is accepted, and this holds of its plan.
@@ -47,9 +47,10 @@ WorstOfAccepted asked part texts outcome = (inputs : Inputs) × HoldInputs asked
     × WorstOfTree part (plan_tree (request_in asked inputs) accepted.is_planned.prepared) outcome
     × IsWorstFor (request_in asked inputs) accepted.is_planned.prepared bound part)
 
--- By the texts: the operation is accepted, and its response told or too large; or it is refused, or there was no memory.
+-- By the texts: the operation is accepted, and its response told or too large; or it is refused, or there was no memory, or it takes
+-- more steps than it may.
 abbrev pub WorstOf : Asked → Part → AskedTexts → Outcome → Type 0
-WorstOf asked part texts outcome = (outcome ≡ Memory) ⊎ WorstOfAccepted asked part texts outcome ⊎ IsAskedRefused asked texts outcome
+WorstOf asked part texts outcome = IsWanting asked.most_work outcome ⊎ WorstOfAccepted asked part texts outcome ⊎ IsAskedRefused asked texts outcome
 
 -- The files hold no texts; or they do, and came to that, and none failed.
 abbrev pub WorstCameTo : Asked → Part → FilesTold → Outcome → Type 0

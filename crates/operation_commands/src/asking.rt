@@ -151,8 +151,8 @@ pub fn inputs_in(alloc: Global, asked: &Asked, texts: &AskedTexts) -> Result<Inp
     }
 }
 
-/// What is asked.
-pub fn request_of<'a>(asked: &'a Asked, inputs: &'a Inputs) -> Request<'a, 'a>
+/// What is asked, by steps that are counted.
+pub fn request_of<'a>(asked: &'a Asked, inputs: &'a Inputs, work: Work<'a>) -> Request<'a, 'a>
     ensures data { request_data result ≡ request_in asked.now inputs.now }
     ensures schema { result.schema.now ≡ inputs.now.weighed.schema }
 {
@@ -166,7 +166,7 @@ pub fn request_of<'a>(asked: &'a Asked, inputs: &'a Inputs) -> Request<'a, 'a>
         document: &inputs.document,
         name,
         given: &inputs.given,
-        work: Work::free(),
+        work,
     }
 }
 

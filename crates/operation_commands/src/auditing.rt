@@ -1,25 +1,26 @@
 //! The command `audit SCHEMA DOCUMENT..`.
 
-ghost use Rattle.std.specs.Prelude.{◌≡◌, ◌≤◌, ℕ, List, Contains, length, map, option_map, IfOk, IfErr, OnOk};
+ghost use Rattle.std.specs.Prelude.{◌≡◌, ◌≤◌, ℕ, List, Contains, length, map, option_map, IsSome, IfOk, IfErr, OnOk};
 ghost use Rattle.outside.specs.Faults.{StayAll};
 ghost use Rattle.acceptance.specs.Requests.{request_data};
 ghost use Rattle.acceptance.specs.Texts.{naming};
 ghost use Rattle.document_reader.specs.DocumentAnswers.{IsDocumentOf};
 ghost use Rattle.command_outcomes.specs.Reading.{IsText};
-ghost use Rattle.command_outcomes.specs.Outcomes.{files_told, IsStopped};
+ghost use Rattle.command_outcomes.specs.Outcomes.{files_told, IsStopped, work_text};
 ghost use Rattle.operation_commands.specs.Asked.{HoldInputs, request_in};
 ghost use Rattle.operation_commands.specs.OwnAnswers.{own_text};
-ghost use Rattle.operation_commands.specs.Audit.{asked_alone, IsVerdict, subject_of, operation_names, names_in, IsFinding, FindEach, IsWhole, AreFoundIn, AreFound, IsReady, Adds, inputs_of, AddsRead, AreRead, AuditOf, AuditCameTo};
+ghost use Rattle.operation_commands.specs.Audit.{asked_alone, IsVerdict, TellsSteps, subject_of, operation_names, names_in, IsFinding, FindEach, IsWhole, AreFoundIn, AreFound, IsReady, Adds, inputs_of, AddsRead, AreRead, AuditOf, AuditCameTo};
 
 use crate::asked::AskedTexts;
 use crate::asking::{AskedFault, document_in};
 use crate::findings::{Finding, Subject, Verdict, audited};
 use crate::own_answers::{OwnFault, OwnRefusal, refused_own};
 use crate::pricing::price_of;
-use acceptance::Request;
+use crate::steps::steps_taken;
+use acceptance::{Request, work_up_to};
 use command_outcomes::{
     CheckFault, DOCUMENT_LIMIT, Outcome, SCHEMA_LIMIT, Weighed, read_file, read_text,
-    refused_naming, refused_schema, weighed_in,
+    refused_naming, refused_schema, wanting, weighed_in,
 };
 use command_words::{Asked, AskedAudit};
 use counted_work::Work;
@@ -29,6 +30,7 @@ use outside::Files;
 use plan_model::laws::built_schemas_can_be_filled;
 use serde_json::{Map, Value};
 use std::alloc::{AllocError, Global};
+use std::cell::Cell;
 
 /// What the documents of an audit are looked at by.
 #[derive(Clone, Copy)]
@@ -60,11 +62,17 @@ fn asked_alone(
         variables: None,
         operation,
         undeclared: audit.undeclared,
+        most_work: audit.most_work,
     })
 }
 
 // What is asked of a document that was read.
-fn request_alone<'a>(of: &Auditing<'a>, asked: &'a Asked, document: &'a Document) -> Request<'a, 'a>
+fn request_alone<'a>(
+    of: &Auditing<'a>,
+    asked: &'a Asked,
+    document: &'a Document,
+    work: Work<'a>,
+) -> Request<'a, 'a>
     ensures { request_data result ≡ request_in asked.now (inputs_of of.now document.now) }
 {
     let name = match &asked.operation {
@@ -77,7 +85,7 @@ fn request_alone<'a>(of: &Auditing<'a>, asked: &'a Asked, document: &'a Document
         document,
         name,
         given: of.given,
-        work: Work::free(),
+        work,
     }
 }
 
@@ -91,9 +99,20 @@ fn refusal_of(alloc: Global, asked: &Asked, refusal: OwnRefusal) -> Result<Verdi
     }
 }
 
+// The verdict on an operation for which there is no memory, or that takes more steps than it may.
+fn wanting_verdict(alloc: Global, most: Option<u32>, work: Work<'_>) -> Result<Verdict, AllocError>
+    ensures { IfOk result (λ verdict. IsSome most × (verdict ≡ Verdict.Refused work_text)) }
+{
+    match wanting(alloc, most, work) {
+        Outcome::Refused(text) => Ok(Verdict::Refused(text)),
+        _ => Err(AllocError),
+    }
+}
+
 // The price of an operation of a document that was read, or why it has none.
 fn verdict_of(
     alloc: Global,
+    work: Work<'_>,
     of: &Auditing,
     texts: &AskedTexts,
     document: &Document,
@@ -104,11 +123,21 @@ fn verdict_of(
     ensures verdict { IfOk result (IsVerdict asked.now texts.now) }
 {
     built_schemas_can_be_filled();
-    let request = request_alone(of, asked, document);
+    let request = request_alone(of, asked, document, work);
     match price_of(alloc, texts, &request) {
         Ok(cost) => Ok(Verdict::Priced(cost)),
         Err(OwnFault::Refused(refusal)) => refusal_of(alloc, asked, refusal),
-        Err(OwnFault::Memory) => Err(AllocError),
+        Err(OwnFault::Memory) => wanting_verdict(alloc, asked.most_work, work),
+    }
+}
+
+// How many steps a verdict took, where they are counted.
+fn steps_of(most: Option<u32>, left: &Cell<u64>, verdict: &Verdict) -> Option<u64>
+    ensures { TellsSteps most verdict.now result }
+{
+    match verdict {
+        Verdict::Priced(_) => steps_taken(most, left),
+        Verdict::Refused(_) => None,
     }
 }
 
@@ -145,10 +174,14 @@ fn finding_of(
     ensures { IfOk result (IsFinding of.now.asked.now texts.now.schema name.now texts.now.document (option_map (λ n. n.text) operation.now.name)) }
 {
     let asked = asked_alone(alloc, of.asked, name, name_of(operation))?;
+    let left = Cell::new(0u64);
+    let work = work_up_to(of.asked.most_work, &left);
+    let verdict = verdict_of(alloc, work, of, texts, document, &asked)?;
     Ok(Finding {
         document: Text::copy_of(alloc, name.as_str())?,
         subject: subject_of(alloc, name_of(operation))?,
-        verdict: verdict_of(alloc, of, texts, document, &asked)?,
+        steps: steps_of(of.asked.most_work, &left, &verdict),
+        verdict,
     })
 }
 
@@ -218,6 +251,7 @@ fn push_whole(
         document,
         subject: Subject::Whole,
         verdict,
+        steps: None,
     })?;
     Ok(())
 }
@@ -242,7 +276,9 @@ fn find_in_document(
         return Ok(());
     }
     let asked = asked_alone(alloc, of.asked, name, None)?;
-    let verdict = verdict_of(alloc, of, texts, document, &asked)?;
+    let left = Cell::new(0u64);
+    let work = work_up_to(of.asked.most_work, &left);
+    let verdict = verdict_of(alloc, work, of, texts, document, &asked)?;
     push_whole(alloc, name, verdict, into)
 }
 

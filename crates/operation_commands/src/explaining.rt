@@ -1,32 +1,36 @@
 //! The command `explain SCHEMA DOCUMENT`.
 
-ghost use Rattle.std.specs.Prelude.{◌≡◌, ◌≤◌, IfOk, IfErr, Option};
+ghost use Rattle.std.specs.Prelude.{◌≡◌, ◌≤◌, ◌++◌, IfOk, IfErr, Option, codes};
 ghost use Rattle.acceptance.specs.Requests.{request_data, IsOfSchema};
 ghost use Rattle.static_cost.specs.CostBound.{IsWithin};
 ghost use Rattle.told_refusals.specs.Told.{Spot, spot_seen};
 ghost use Rattle.command_outcomes.specs.Reading.{IsText};
-ghost use Rattle.command_outcomes.specs.Outcomes.{files_told};
+ghost use Rattle.command_outcomes.specs.Outcomes.{files_told, IsDone};
 ghost use Rattle.operation_commands.specs.Asked.{request_in};
 ghost use Rattle.operation_commands.specs.OwnAnswers.{IfOwnRefused, own_text};
 ghost use Rattle.operation_commands.specs.Price.{IsNoPriceOf, IsUnpricedAs, IsPriceRefusal};
 ghost use Rattle.operation_commands.specs.Places.{IsSpotIn};
-ghost use Rattle.operation_commands.specs.Explain.{own_price_text, TablesPlan, IsExplainedAs, IsExplained, IsRefusedTelling, TellsUnread, ExplainOf, ExplainCameTo};
+ghost use Rattle.operation_commands.specs.Explain.{own_price_text, TablesPlan, IsExplainedAs, IsExplained, IsRefusedTelling, TellsUnread, IsWantingTold, ExplainOf, ExplainCameTo};
+ghost use Rattle.operation_commands.specs.Steps.{steps_text};
 
 use crate::asked::{AskedTexts, read_asked};
 use crate::asking::{inputs_in, request_of};
 use crate::own_answers::{OwnFault, OwnRefusal, asked_fault, own_cost, refused_own};
 use crate::places::place_of;
 use crate::pricing::{accepted_request, text_of_cost};
-use acceptance::Request;
-use command_outcomes::{Outcome, SCHEMA_LIMIT};
+use crate::steps::{push_steps, steps_taken};
+use acceptance::{Request, work_up_to};
+use command_outcomes::{Outcome, SCHEMA_LIMIT, wanting};
 use command_words::Asked;
 use cost_num::Cost;
 use cost_tables::price_table;
+use counted_work::Work;
 use gql_base::Text;
 use outside::Files;
 use plan_model::laws::built_schemas_can_be_filled;
 use static_cost::laws::bounds_of_operations;
 use std::alloc::{AllocError, Global};
+use std::cell::Cell;
 use told_refusals::{Place, told_refusal};
 
 // What is said of an operation that asks for the schema.
@@ -73,7 +77,12 @@ fn explanation_of(alloc: Global, texts: &AskedTexts, request: &Request) -> Resul
 }
 
 // What explains the price of the operation of these texts.
-fn explanation_in(alloc: Global, asked: &Asked, texts: &AskedTexts) -> Result<Vec<u8>, OwnFault>
+fn explanation_in(
+    alloc: Global,
+    work: Work<'_>,
+    asked: &Asked,
+    texts: &AskedTexts,
+) -> Result<Vec<u8>, OwnFault>
     requires text { IsText SCHEMA_LIMIT texts.now.schema }
     ensures explained { IfOk result (λ text. IsExplained asked.now texts.now text.items) }
     ensures refused { IfErr result (λ fault. IfOwnRefused fault (IsPriceRefusal asked.now texts.now)) }
@@ -83,7 +92,7 @@ fn explanation_in(alloc: Global, asked: &Asked, texts: &AskedTexts) -> Result<Ve
         Ok(inputs) => inputs,
         Err(fault) => return Err(asked_fault(fault)),
     };
-    let request = request_of(asked, &inputs);
+    let request = request_of(asked, &inputs, work);
     match explanation_of(alloc, texts, &request) {
         Ok(text) => Ok(text),
         Err(fault) => Err(fault),
@@ -128,15 +137,38 @@ fn refused_explaining(
     }
 }
 
+// The outcome of an operation whose price is explained so, which took these steps.
+fn explained(alloc: Global, text: Vec<u8>, steps: Option<u64>) -> Outcome
+    ensures { IsDone (text.items ++ steps_text (codes "\n") steps) result }
+{
+    let mut text = text;
+    match push_steps(alloc, "\n", steps, &mut text) {
+        Ok(()) => Outcome::Done(text),
+        Err(AllocError) => Outcome::Memory,
+    }
+}
+
+// The outcome of an operation for which there is no memory, or that takes more steps than it may.
+fn told_wanting(alloc: Global, most: Option<u32>, work: Work<'_>) -> Outcome
+    ensures { IsWantingTold most result }
+{
+    match wanting(alloc, most, work) {
+        Outcome::Refused(line) => refused_telling(alloc, &line, None),
+        _ => Outcome::Memory,
+    }
+}
+
 // What the texts of an operation's files come to.
 fn explain_texts(alloc: Global, asked: &Asked, texts: &AskedTexts) -> Outcome
     requires text { IsText SCHEMA_LIMIT texts.now.schema }
     ensures { ExplainOf asked.now texts.now result }
 {
-    match explanation_in(alloc, asked, texts) {
-        Ok(text) => Outcome::Done(text),
+    let left = Cell::new(0u64);
+    let work = work_up_to(asked.most_work, &left);
+    match explanation_in(alloc, work, asked, texts) {
+        Ok(text) => explained(alloc, text, steps_taken(asked.most_work, &left)),
         Err(OwnFault::Refused(refusal)) => refused_explaining(alloc, asked, texts, refusal),
-        Err(OwnFault::Memory) => Outcome::Memory,
+        Err(OwnFault::Memory) => told_wanting(alloc, asked.most_work, work),
     }
 }
 

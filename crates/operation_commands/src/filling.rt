@@ -15,14 +15,16 @@ ghost use Rattle.operation_commands.specs.Worst.{WorstOfTree, WorstOfAccepted, W
 use crate::asked::{AskedTexts, read_asked};
 use crate::asking::{AskedFault, inputs_in, refused_asked};
 use crate::pricing::accepted;
-use acceptance::Accepted;
-use command_outcomes::{Outcome, SCHEMA_LIMIT, refused_as};
+use acceptance::{Accepted, work_up_to};
+use command_outcomes::{Outcome, SCHEMA_LIMIT, refused_as, wanting};
 use command_words::Asked;
+use counted_work::Work;
 use outside::Files;
 use plan_table::{Tree, response_text};
 use static_cost::laws::worst_attains_the_bound;
 use static_cost::{Part, WorstFault};
 use std::alloc::Global;
+use std::cell::Cell;
 
 // The outcome of a response.
 fn written(alloc: Global, tree: &Tree) -> Outcome
@@ -50,6 +52,7 @@ fn worst_of(alloc: Global, accepted: &Accepted, part: Part) -> Outcome
 // What the operation of these texts comes to, where it is accepted.
 fn worst_in(
     alloc: Global,
+    work: Work<'_>,
     asked: &Asked,
     part: Part,
     texts: &AskedTexts,
@@ -63,7 +66,7 @@ fn worst_in(
         Err(fault) => return Err(fault),
     };
     worst_attains_the_bound();
-    match accepted(alloc, asked, texts, &inputs) {
+    match accepted(alloc, work, asked, texts, &inputs) {
         Ok(accepted) => Ok(worst_of(alloc, &accepted, part)),
         Err(fault) => Err(fault),
     }
@@ -74,10 +77,12 @@ fn worst_texts(alloc: Global, asked: &Asked, part: Part, texts: &AskedTexts) -> 
     requires text { IsText SCHEMA_LIMIT texts.now.schema }
     ensures { WorstOf asked.now part texts.now result }
 {
-    match worst_in(alloc, asked, part, texts) {
+    let left = Cell::new(0u64);
+    let work = work_up_to(asked.most_work, &left);
+    match worst_in(alloc, work, asked, part, texts) {
         Ok(outcome) => outcome,
         Err(AskedFault::Refused(refusal)) => refused_asked(alloc, asked, refusal),
-        Err(AskedFault::Memory) => Outcome::Memory,
+        Err(AskedFault::Memory) => wanting(alloc, asked.most_work, work),
     }
 }
 

@@ -5,6 +5,7 @@ ghost use Rattle.command_outcomes.specs.Texts.{line};
 ghost use Rattle.operation_commands.specs.Audit.{subject_text, verdict_text, finding_text, is_operation, operations_of, is_priced, prices_of, IsPriceWithin, ArePricesWithin, greater, price_in, greatest, counted_text, totals_text, audit_text, is_within, passes, all_pass, IsAuditOf};
 
 use crate::pricing::text_of_cost;
+use crate::steps::push_steps;
 use command_outcomes::Outcome;
 use cost_num::{CAP, Cost};
 use gql_base::{Text, shown_in_line};
@@ -37,6 +38,8 @@ pub struct Finding {
     pub document: Text,
     pub subject: Subject,
     pub verdict: Verdict,
+    /// How many steps its price took, where they are counted.
+    pub steps: Option<u64>,
 }
 
 // ---- a line
@@ -73,6 +76,7 @@ fn push_finding(alloc: Global, finding: &Finding, into: &mut Vec<u8>) -> Result<
     push_subject(&finding.subject, into)?;
     into.push(b' ')?;
     push_verdict(alloc, &finding.verdict, into)?;
+    push_steps(alloc, " ", finding.steps, into)?;
     into.push(b'\n')?;
     Ok(())
 }

@@ -11,16 +11,19 @@ ghost use Rattle.operation_commands.specs.Forward.{IsSent, ForwardOf, ForwardCam
 use crate::asked::{AskedTexts, read_asked};
 use crate::asking::{AskedFault, Inputs, inputs_in, refused_asked, request_of};
 use crate::pricing::accepted;
-use acceptance::{Forwarded, sent_for};
-use command_outcomes::{Outcome, SCHEMA_LIMIT};
+use acceptance::{Forwarded, sent_for, work_up_to};
+use command_outcomes::{Outcome, SCHEMA_LIMIT, wanting};
 use command_words::Asked;
+use counted_work::Work;
 use document_rules::Checked;
 use outside::Files;
 use std::alloc::Global;
+use std::cell::Cell;
 
 /// What is sent for the operation of these inputs, where it was checked.
 pub fn forwarded_in(
     alloc: Global,
+    work: Work<'_>,
     asked: &Asked,
     inputs: &Inputs,
     checked: &Checked,
@@ -30,7 +33,7 @@ pub fn forwarded_in(
     ensures body { IfOk result (λ f. (p : Prepared (request_in asked.now inputs.now)) → IsSentText (request_in asked.now inputs.now) p f.alias (string_bytes f.body)) }
     ensures memory { IfErr result (λ fault. fault ≡ AskedFault.Memory) }
 {
-    let request = request_of(asked, inputs);
+    let request = request_of(asked, inputs, work);
     match sent_for(alloc, &request, checked) {
         Ok(forwarded) => Ok(forwarded),
         Err(_) => Err(AskedFault::Memory),
@@ -38,7 +41,12 @@ pub fn forwarded_in(
 }
 
 // What is sent for the operation of these texts.
-fn sent_of(alloc: Global, asked: &Asked, texts: &AskedTexts) -> Result<String, AskedFault>
+fn sent_of(
+    alloc: Global,
+    work: Work<'_>,
+    asked: &Asked,
+    texts: &AskedTexts,
+) -> Result<String, AskedFault>
     requires text { IsText SCHEMA_LIMIT texts.now.schema }
     ensures sent { IfOk result (λ text. IsSent asked.now texts.now (string_bytes text)) }
     ensures refused { IfErr result (λ fault. IfAskedRefused fault (IsRefusalOf asked.now texts.now)) }
@@ -47,11 +55,11 @@ fn sent_of(alloc: Global, asked: &Asked, texts: &AskedTexts) -> Result<String, A
         Ok(inputs) => inputs,
         Err(fault) => return Err(fault),
     };
-    let accepted = match accepted(alloc, asked, texts, &inputs) {
+    let accepted = match accepted(alloc, work, asked, texts, &inputs) {
         Ok(accepted) => accepted,
         Err(fault) => return Err(fault),
     };
-    match forwarded_in(alloc, asked, &inputs, &accepted.checked) {
+    match forwarded_in(alloc, work, asked, &inputs, &accepted.checked) {
         Ok(forwarded) => Ok(forwarded.body),
         Err(fault) => Err(fault),
     }
@@ -62,10 +70,12 @@ fn forward_texts(alloc: Global, asked: &Asked, texts: &AskedTexts) -> Outcome
     requires text { IsText SCHEMA_LIMIT texts.now.schema }
     ensures { ForwardOf asked.now texts.now result }
 {
-    match sent_of(alloc, asked, texts) {
+    let left = Cell::new(0u64);
+    let work = work_up_to(asked.most_work, &left);
+    match sent_of(alloc, work, asked, texts) {
         Ok(text) => Outcome::Done(text.into_bytes()),
         Err(AskedFault::Refused(refusal)) => refused_asked(alloc, asked, refusal),
-        Err(AskedFault::Memory) => Outcome::Memory,
+        Err(AskedFault::Memory) => wanting(alloc, asked.most_work, work),
     }
 }
 

@@ -12,12 +12,14 @@ use crate::asked::{AskedTexts, read_asked};
 use crate::asking::{AskedRefusal, inputs_in, request_of};
 use crate::own_answers::{OwnFault, OwnRefusal, asked_fault, own_answer, refused_own};
 use crate::pricing::text_of_cost;
-use acceptance::{Refusal, Request};
-use command_outcomes::{Local, Outcome, SCHEMA_LIMIT};
+use acceptance::{Refusal, Request, work_up_to};
+use command_outcomes::{Local, Outcome, SCHEMA_LIMIT, wanting};
 use command_words::Asked;
+use counted_work::Work;
 use document_reader::pick;
 use outside::Files;
 use std::alloc::{AllocError, Global};
+use std::cell::Cell;
 
 // The lines of an answer.
 fn lines_of(alloc: Global, answer: &Local) -> Result<Vec<u8>, AllocError>
@@ -60,7 +62,12 @@ fn answer_of(alloc: Global, texts: &AskedTexts, request: &Request) -> Result<Loc
 }
 
 // What is answered of the operation of these texts.
-fn answer_in(alloc: Global, asked: &Asked, texts: &AskedTexts) -> Result<Local, OwnFault>
+fn answer_in(
+    alloc: Global,
+    work: Work<'_>,
+    asked: &Asked,
+    texts: &AskedTexts,
+) -> Result<Local, OwnFault>
     requires text { IsText SCHEMA_LIMIT texts.now.schema }
     ensures answer { IfOk result (HasAnswer asked.now texts.now) }
     ensures within { IfOk result (λ answer. IsWithin answer.cost) }
@@ -70,7 +77,7 @@ fn answer_in(alloc: Global, asked: &Asked, texts: &AskedTexts) -> Result<Local, 
         Ok(inputs) => inputs,
         Err(fault) => return Err(asked_fault(fault)),
     };
-    let request = request_of(asked, &inputs);
+    let request = request_of(asked, &inputs, work);
     match answer_of(alloc, texts, &request) {
         Ok(answer) => Ok(answer),
         Err(fault) => Err(fault),
@@ -82,10 +89,12 @@ fn introspect_texts(alloc: Global, asked: &Asked, texts: &AskedTexts) -> Outcome
     requires text { IsText SCHEMA_LIMIT texts.now.schema }
     ensures { IntrospectOf asked.now texts.now result }
 {
-    match answer_in(alloc, asked, texts) {
+    let left = Cell::new(0u64);
+    let work = work_up_to(asked.most_work, &left);
+    match answer_in(alloc, work, asked, texts) {
         Ok(answer) => answered(alloc, &answer),
         Err(OwnFault::Refused(refusal)) => refused_own(alloc, asked, refusal),
-        Err(OwnFault::Memory) => Outcome::Memory,
+        Err(OwnFault::Memory) => wanting(alloc, asked.most_work, work),
     }
 }
 

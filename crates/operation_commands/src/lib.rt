@@ -18,6 +18,7 @@ mod places;
 mod price_laws;
 mod pricing;
 mod reply_texts;
+mod steps;
 
 pub use auditing::audit;
 pub use explaining::explain;

@@ -16,14 +16,17 @@ use crate::asking::{AskedFault, inputs_in, refused_asked};
 use crate::forwarding::forwarded_in;
 use crate::pricing::{accepted, text_of_cost};
 use crate::reply_texts::{no_response, size_broken, too_large};
-use command_outcomes::{Outcome, REPLY_LIMIT, SCHEMA_LIMIT, read_file};
+use acceptance::work_up_to;
+use command_outcomes::{Outcome, REPLY_LIMIT, SCHEMA_LIMIT, read_file, wanting};
 use command_words::Asked;
 use cost_num::CAP;
+use counted_work::Work;
 use gql_base::Text;
 use outside::Files;
 use plan_table::Plan;
 use response_meter::{MeterFault, Metered, print_answer};
 use std::alloc::{AllocError, Global};
+use std::cell::Cell;
 
 // The files of the command.
 #[derive(Drop)]
@@ -125,6 +128,7 @@ fn meter_plan(alloc: Global, plan: &Plan, alias: &str, reply: &[u8]) -> Outcome
 // What a reply to the operation of these texts comes to, where it is accepted.
 fn meter_in(
     alloc: Global,
+    work: Work<'_>,
     asked: &Asked,
     texts: &AskedTexts,
     reply: &[u8],
@@ -137,11 +141,11 @@ fn meter_in(
         Ok(inputs) => inputs,
         Err(fault) => return Err(fault),
     };
-    let accepted = match accepted(alloc, asked, texts, &inputs) {
+    let accepted = match accepted(alloc, work, asked, texts, &inputs) {
         Ok(accepted) => accepted,
         Err(fault) => return Err(fault),
     };
-    match forwarded_in(alloc, asked, &inputs, &accepted.checked) {
+    match forwarded_in(alloc, work, asked, &inputs, &accepted.checked) {
         Ok(forwarded) => Ok(meter_plan(alloc, &accepted.plan, forwarded.alias.as_str(), reply)),
         Err(fault) => Err(fault),
     }
@@ -152,10 +156,12 @@ fn meter_texts(alloc: Global, asked: &Asked, texts: &AskedTexts, reply: &[u8]) -
     requires text { IsText SCHEMA_LIMIT texts.now.schema }
     ensures { MeterOf asked.now texts.now reply.now result }
 {
-    match meter_in(alloc, asked, texts, reply) {
+    let left = Cell::new(0u64);
+    let work = work_up_to(asked.most_work, &left);
+    match meter_in(alloc, work, asked, texts, reply) {
         Ok(outcome) => outcome,
         Err(AskedFault::Refused(refusal)) => refused_asked(alloc, asked, refusal),
-        Err(AskedFault::Memory) => Outcome::Memory,
+        Err(AskedFault::Memory) => wanting(alloc, asked.most_work, work),
     }
 }
 

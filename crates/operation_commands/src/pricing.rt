@@ -16,13 +16,15 @@ ghost use Rattle.plan_table.specs.declared.table.Plan.{Plan};
 use crate::asked::{AskedTexts, read_asked};
 use crate::asking::{AskedFault, AskedRefusal, Inputs, inputs_in, request_of};
 use crate::own_answers::{OwnFault, asked_fault, own_cost, refused_own};
-use acceptance::{AcceptFault, Accepted, Request, accept};
-use command_outcomes::{Outcome, SCHEMA_LIMIT};
+use acceptance::{AcceptFault, Accepted, Request, accept, work_up_to};
+use command_outcomes::{Outcome, SCHEMA_LIMIT, wanting};
 use command_words::Asked;
 use cost_num::{CAP, Cost, cost_bytes};
+use counted_work::Work;
 use outside::Files;
 use plan_model::laws::built_schemas_can_be_filled;
 use std::alloc::{AllocError, Global};
+use std::cell::Cell;
 
 /// The text of a cost.
 pub fn text_of_cost(alloc: Global, cost: Cost) -> Result<Vec<u8>, AllocError>
@@ -71,6 +73,7 @@ pub(crate) fn accepted_request<'a>(
 /// The operation of these inputs, where it is accepted.
 pub fn accepted<'a>(
     alloc: Global,
+    work: Work<'a>,
     asked: &'a Asked,
     texts: &AskedTexts,
     inputs: &'a Inputs,
@@ -83,7 +86,7 @@ pub fn accepted<'a>(
     ensures refused { IfErr result (λ fault. IfAskedRefused fault (IsRefusalOf asked.now texts.now)) }
 {
     built_schemas_can_be_filled();
-    let request = request_of(asked, inputs);
+    let request = request_of(asked, inputs, work);
     match accepted_request(alloc, &request) {
         Ok(accepted) => Ok(accepted),
         Err(fault) => Err(fault),
@@ -125,7 +128,12 @@ pub(crate) fn price_of(
 }
 
 // The price of the operation of these texts.
-fn price_in(alloc: Global, asked: &Asked, texts: &AskedTexts) -> Result<Cost, OwnFault>
+fn price_in(
+    alloc: Global,
+    work: Work<'_>,
+    asked: &Asked,
+    texts: &AskedTexts,
+) -> Result<Cost, OwnFault>
     requires text { IsText SCHEMA_LIMIT texts.now.schema }
     ensures price { IfOk result (HasPrice asked.now texts.now) }
     ensures types_within { IfOk result (λ cost. cost.types ≤ CAP) }
@@ -137,7 +145,7 @@ fn price_in(alloc: Global, asked: &Asked, texts: &AskedTexts) -> Result<Cost, Ow
         Ok(inputs) => inputs,
         Err(fault) => return Err(asked_fault(fault)),
     };
-    let request = request_of(asked, &inputs);
+    let request = request_of(asked, &inputs, work);
     match price_of(alloc, texts, &request) {
         Ok(cost) => Ok(cost),
         Err(fault) => Err(fault),
@@ -149,10 +157,12 @@ fn price_texts(alloc: Global, asked: &Asked, texts: &AskedTexts) -> Outcome
     requires text { IsText SCHEMA_LIMIT texts.now.schema }
     ensures { PriceOf asked.now texts.now result }
 {
-    match price_in(alloc, asked, texts) {
+    let left = Cell::new(0u64);
+    let work = work_up_to(asked.most_work, &left);
+    match price_in(alloc, work, asked, texts) {
         Ok(cost) => priced(alloc, cost),
         Err(OwnFault::Refused(refusal)) => refused_own(alloc, asked, refusal),
-        Err(OwnFault::Memory) => Outcome::Memory,
+        Err(OwnFault::Memory) => wanting(alloc, asked.most_work, work),
     }
 }
 

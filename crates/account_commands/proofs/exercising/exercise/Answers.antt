@@ -1,5 +1,5 @@
 -- The report of the end is summed up.
-use Rattle.std.proofs.Common.{inl, inr, subst}
+use Rattle.std.proofs.Common.{inl, inr, subst, None}
 use Rattle.command_words.specs.declared.command.TheConstants.{UNDECLARED}
 use Rattle.command_outcomes.specs.Outcomes.{IsDone}
 use Rattle.account_commands.specs.Replay.{IsReplayed}
@@ -9,5 +9,5 @@ use Rattle.account_commands.proofs.exercising.exercise.Goals as goal
 
 pub returns-in-Ok-replay_texts : goal.returns-in-Ok-replay_texts
 returns-in-Ok-replay_texts g c =
-    inr (inl (subst (λ texts. IsReplayed texts UNDECLARED (λ end. IsDone (summary_text end.report) c.summed_up.result)) c.in-Ok.ensures
-    (replayed_that c.in-Ok.texts UNDECLARED c.in-Ok-replay_texts.end (λ end. IsDone (summary_text end.report) c.summed_up.result) c.in-Ok-replay_texts.ensures.replayed c.summed_up.ensures)))
+    inr (inl (subst (λ texts. IsReplayed texts UNDECLARED None (λ end. IsDone (summary_text end.report) c.summed_up.result)) c.in-Ok.ensures
+    (replayed_that c.in-Ok.texts UNDECLARED None c.in-Ok-replay_texts.end (λ end. IsDone (summary_text end.report) c.summed_up.result) c.in-Ok-replay_texts.ensures.replayed c.summed_up.ensures)))

@@ -17,4 +17,4 @@ pub returns-in-Ok-replay_by-clause-replayed : goal.returns-in-Ok-replay_by-claus
 returns-in-Ok-replay_by-clause-replayed g c = (c.in-Ok.inputs, c.in-Ok.ensures.held, (c.in-Ok-replay_by.end, c.in-Ok-replay_by.ensures, refl))
 
 pub returns-in-Ok-replay_by-clause-printable : goal.returns-in-Ok-replay_by-clause-printable
-returns-in-Ok-replay_by-clause-printable g c = printable (rules_in c.in-Ok.inputs.rules c.in-Ok.inputs.list None) (steps_of c.in-Ok.inputs.script) c.in-Ok-replay_by.end c.in-Ok-replay_by.ensures c.in-Ok.ensures.served
+returns-in-Ok-replay_by-clause-printable g c = printable (rules_in c.in-Ok.inputs.rules c.in-Ok.inputs.list None c.args.work) (steps_of c.in-Ok.inputs.script) c.in-Ok-replay_by.end c.in-Ok-replay_by.ensures c.in-Ok.ensures.served

@@ -30,6 +30,6 @@ returns g c =
           (disks_told g.J.Disks c.args.disks.now) (disks_told g.J.Disks c.serve_journal-came_to.new.disks)
           (doors_told g.D.Doors c.args.doors.now) (doors_told g.D.Doors c.serve_journal-came_to.new.doors) came_to
           (same_service kept_slots gate asked inputs c.in-Ok-settings_of.settings rules c.in-Ok-made.ensures.settings c.in-Ok-settings_of.ensures.host c.in-Ok-settings_of.ensures.target c.in-Ok-settings_of.ensures.passed
-          c.in-Ok-settings_of.ensures.hints) (same_limits gate inputs asked.most_answer rules) c.in-Ok.ensures c.as_str-journal.ensures c.serve_journal-came_to.ensures.came_to,
+          c.in-Ok-settings_of.ensures.hints) (same_limits gate inputs asked.most_answer asked.most_work rules) c.in-Ok.ensures c.as_str-journal.ensures c.serve_journal-came_to.ensures.came_to,
       subst (λ (listed : List Client). IsKeptTold listed came_to c.kept_told.result) (c.clients.ensures ∙ ap (λ (r : Rules). r.clients) rules) c.kept_told.ensures,
     )

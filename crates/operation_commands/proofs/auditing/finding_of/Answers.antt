@@ -10,6 +10,7 @@ returns c =
     record {
       document = c.in_ok-copy_of.ensures ∙ c.as_str.ensures;
       subject = c.in_ok-subject_of.ensures ∙ ap subject_of c.name_of-2.ensures;
-      verdict = verdict_alone audit name (option_map (λ n. n.text) c.args.operation.now.name) c.in_ok-asked.asked c.args.texts.now c.in_ok-verdict_of.field-0
-          (c.in_ok-asked.ensures ∙ ap (asked_alone audit name) c.name_of.ensures) c.requires.ready.alone c.in_ok-verdict_of.ensures.verdict;
+      verdict = verdict_alone audit name (option_map (λ n. n.text) c.args.operation.now.name) c.in_ok-asked.asked c.args.texts.now c.in_ok-verdict.verdict
+          (c.in_ok-asked.ensures ∙ ap (asked_alone audit name) c.name_of.ensures) c.requires.ready.alone c.in_ok-verdict.ensures.verdict;
+      is_steps = c.steps_of.ensures;
     }

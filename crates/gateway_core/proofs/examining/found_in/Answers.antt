@@ -3,7 +3,7 @@ use Rattle.serde_json.specs.View.{view}
 use Rattle.request_bodies.specs.Bodies.{request_data}
 use Rattle.gateway_core.specs.Gates.{rules_of}
 use Rattle.gateway_core.proofs.ExaminedBodies.{once, unread_is_unfit, found_of_body, unfit_of_body}
-use Rattle.gateway_core.proofs.examining.examine.Goals as goal
+use Rattle.gateway_core.proofs.examining.found_in.Goals as goal
 
 pub returns-in-Err-clause-unfit : goal.returns-in-Err-clause-unfit
 returns-in-Err-clause-unfit c = c.in-Err.ensures.unfit
