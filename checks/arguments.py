@@ -16,8 +16,8 @@ import tempfile
 TOP = os.path.dirname(os.path.dirname(os.path.abspath(__file__)))
 RELEASED = f"{TOP}/release/tellcrock"
 OPTIONS = ["variables", "operation", "unsized", "listen", "upstream", "target", "workers", "connections", "endless", "idle", "stop", "journal",
-           "trusted", "trusted-only", "pass", "hints", "most-answer", "most", "variables-none", "help", "limit"]
-NUMBERS = ["0", "1", "00010", "16", "17", "5000", "5001", "1000000", "1000001", "1000000000", "1000000001", "99999999999999999999", "+4", "-1", "1.0", "", "ten"]
+           "trusted", "trusted-only", "pass", "hints", "most-answer", "most-work", "most", "variables-none", "help", "limit"]
+NUMBERS = ["0", "1", "00010", "16", "17", "5000", "5001", "999", "1000", "1000000", "1000001", "1000000000", "1000000001", "99999999999999999999", "+4", "-1", "1.0", "", "ten"]
 AMOUNTS = ["0", "0.5", "21", "007.125000000", "1000000000000", "1000000000000.0", "1000000000000.1", "1000000000001", "0.0000001", "1.", ".5", "1.2.3", "-1", "x", ""]
 FILES = ["books.graphql", "titles.graphql", "search.json", "reply.json", "day.clients", "minute.script", "trusted.json", "not_there", "-", ""]
 # What an option takes, so that most lists are nearly right.
@@ -32,6 +32,7 @@ VALUES = {
     "connections": NUMBERS,
     "idle": NUMBERS,
     "most-answer": NUMBERS,
+    "most-work": NUMBERS,
     "stop": ["not_there", ""],
     "journal": ["not_there/journal", ""],
     "trusted": ["trusted.json", "trusted.json", *FILES],
@@ -54,11 +55,11 @@ USUAL = {
 }
 # The options of each command, each of which comes as often as all others together.
 OWN = {
-    **dict.fromkeys(["price", "explain", "worst", "forward", "meter"], ["variables", "operation", "unsized"]),
-    "audit": ["most", "most", "variables-none", "unsized"],
-    "introspect": ["variables", "operation"],
-    "replay": ["unsized", "trusted", "trusted-only"],
-    "serve": ["target", "workers", "connections", "endless", "idle", "stop", "journal", "trusted", "trusted-only", "pass", "pass", "hints", "most-answer", "unsized"],
+    **dict.fromkeys(["price", "explain", "worst", "forward", "meter"], ["variables", "operation", "unsized", "most-work"]),
+    "audit": ["most", "most", "variables-none", "unsized", "most-work"],
+    "introspect": ["variables", "operation", "most-work"],
+    "replay": ["unsized", "trusted", "trusted-only", "most-work"],
+    "serve": ["target", "workers", "connections", "endless", "idle", "stop", "journal", "trusted", "trusted-only", "pass", "pass", "hints", "most-answer", "unsized", "most-work"],
 }
 
 

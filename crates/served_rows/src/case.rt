@@ -145,6 +145,8 @@ pub(crate) struct Case<'a> {
     pub(crate) passed: &'a str,
     /// Whether hints are told.
     pub(crate) hints: bool,
+    /// How many steps the examination of a request may take, where that is said.
+    pub(crate) most_work: Option<u32>,
     pub(crate) doors: Vec<PlannedDoor<'a>>,
     /// How many bytes the reply has for which two connections wait.
     pub(crate) bytes: usize,

@@ -36,6 +36,8 @@ pub(crate) struct Rules<'a> {
     pub(crate) passed: &'a str,
     /// Whether hints are told.
     pub(crate) hints: bool,
+    /// How many steps the examination of a request may take, where that is said.
+    pub(crate) most_work: Option<u32>,
 }
 
 /// The size of lists that declare none.
@@ -177,6 +179,6 @@ pub(crate) fn gate_of(alloc: Global, rules: Rules<'_>) -> Result<(Gate, Passes),
     let trusted = list_of(alloc, rules)?;
     let facts = facts_of(alloc, rules)?;
     let (gate, passes) = bare_gate(alloc, rules)?;
-    let gate = with_schema(with_list(gate, trusted), facts);
+    let gate = with_schema(with_list(gate, trusted), facts).with_most_work(rules.most_work);
     Ok((gate, passes))
 }

@@ -115,6 +115,7 @@ fn read_word<'a>(
         "knows_schema" => to.knows_schema = true,
         "passes" => to.passed = texts.find(value)?,
         "hints" => to.hints = true,
+        "most_work" => to.most_work = Some(number_in(value)? as u32),
         "bytes" => to.bytes = number_in(value)? as usize,
         "door" => to.doors.push(door_of(alloc))?,
         _ => {
@@ -145,6 +146,7 @@ pub(crate) fn read_case<'a>(
         knows_schema: false,
         passed: "",
         hints: false,
+        most_work: None,
         doors: Vec::new(alloc),
         bytes: 0,
     };

@@ -27,6 +27,7 @@ fn run<R: Threads + Wait + Sync>(
         knows_schema: case.knows_schema,
         passed: case.passed,
         hints: case.hints,
+        most_work: case.most_work,
     };
     let Some(door) = case.doors.first() else {
         return Err(RowFault::Wrong("no door was begun"));

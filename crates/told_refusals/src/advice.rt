@@ -34,6 +34,7 @@ pub const STAGES: &[(&str, &str)] = &[
     ("bound", "bound"),
     ("local", "local"),
     ("worst", "worst"),
+    ("work", "work"),
     ("clients", "clients"),
     ("script", "script"),
     ("trusted", "trusted"),
@@ -58,6 +59,7 @@ pub(crate) fn advice_of(stage: &str) -> &'static [Advice] {
         "bound" => BOUND,
         "local" => LOCAL,
         "worst" => WORST,
+        "work" => WORK,
         "clients" => CLIENTS,
         "script" => SCRIPT,
         "trusted" => TRUSTED,
@@ -632,6 +634,14 @@ const WORST: &[Advice] = &[Advice {
     inner: "",
     wrong: "The response has more than 100,000 values.",
     helps: "Take smaller lists; `price` and `explain` tell its cost without writing it.",
+}];
+
+/// Operations that take many steps.
+const WORK: &[Advice] = &[Advice {
+    fault: "1 TooMuch",
+    inner: "",
+    wrong: "To price the operation takes more steps than `--most-work` says.",
+    helps: "Write it shorter, with fewer fragments on interfaces, or give a greater number.",
 }];
 
 /// Client files.

@@ -52,6 +52,11 @@ const ROWS: &[(&str, Option<Place<'_>>, &str)] = &[
         }),
         "local 2 Rule 12 UnknownField 13\nline 1, column 14:\n{ __schema { kinds } }\n             ^\nThe type at this place has no field kinds.\nAsk for a field that it has, or put this one into a fragment on the type that has it.",
     ),
+    (
+        "work 1 TooMuch",
+        None,
+        "work 1 TooMuch\nTo price the operation takes more steps than `--most-work` says.\nWrite it shorter, with fewer fragments on interfaces, or give a greater number.",
+    ),
     ("no refusal", None, "no refusal"),
 ];
 
