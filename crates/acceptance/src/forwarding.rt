@@ -5,6 +5,7 @@ ghost use Rattle.acceptance.specs.Requests.{RequestData, Prepared, request_data,
 ghost use Rattle.acceptance.specs.Forwarding.{IsFreeIn, IsSentText};
 
 use crate::request::Request;
+use counted_work::steps_of_text;
 use document_rules::Checked;
 use gql_base::Text;
 use std::alloc::{AllocError, Global};
@@ -24,7 +25,7 @@ pub struct Forwarded {
 ///
 /// # Errors
 ///
-/// `AllocError` where there was not enough memory.
+/// `AllocError` where there was not enough memory, or no step was left, where they are counted.
 pub fn sent_for(
     alloc: Global,
     request: &Request,
@@ -35,6 +36,9 @@ pub fn sent_for(
     ensures body { IfOk result (λ f. (p : Prepared (request_data request.now)) → IsSentText (request_data request.now) p f.alias (string_bytes f.body)) }
 {
     let rewritten = rewrite(alloc, request.schema, checked)?;
+    request
+        .work
+        .take(steps_of_text(rewritten.text.as_str().len()))?;
     let body = forwarded_body(alloc, checked.operation(), &rewritten, request.given)?;
     Ok(Forwarded {
         body,
