@@ -1,31 +1,33 @@
 #!/usr/bin/env python3
-"""Prices documents that are made to be slow, and says how the time and memory for it grow with the length of the body.
+"""Prices documents that are made to be slow under a bound on the work of a request, and says what they take.
 
-    python3 checks/hostile_documents.py [--program PROGRAM] [--longest BYTES] [NAME..]
+    python3 checks/hostile_documents.py [--program PROGRAM] [--most-work N] [NAME..]
+    python3 checks/hostile_documents.py --without [--program PROGRAM] [NAME..]
 
-Each family is built at four lengths of a body (document and variables together), the longest of them the longest that the gateway takes, and priced by the
-built program (`crates/gateway_cli/out/gateway_cli`, or the one that is named) under a bound of time and memory. A line says the processor seconds and
-the megabytes at each length, and by what factor the seconds grow from the last length but one, which is half as long. The seconds are those of `price` less
-those of `{ __typename }` by the same schema, which a gateway reads once; the megabytes are all, and never fewer than this script has itself.
+Each family is built for bodies (document and variables together) of 16,384 bytes and of 262,144, the longest that the gateway takes, and priced with
+`--most-work 3000000` by the built program (`crates/gateway_cli/out/gateway_cli`, or the one that is named). A line says the processor seconds and the megabytes
+at each length, whether the document was refused for its work, and how long a step took. The seconds are those of `price` less those of
+`{ __typename }` by the same schema, which a gateway reads once; the megabytes are all, and never fewer than this script has itself.
 
-A family may take 2 seconds and 200 MB at the longest length. Those that take more are told in a table of docs/operating.md, with the length up to which
-they take less than a second and 200 MB; the table is read, and each of them is held to that. The status is 0 exactly where all families are so.
+A family may take 0.25 seconds and 200 MB at the shorter length, and a second at the longer one. Where checking, planning and pricing take more than a
+twentieth of a second, a step of them may take a microsecond: so a loop whose steps aren't counted is seen. The status is 0 exactly where all families are so.
 With names, only these families are tried.
+
+With `--without`, no bound is set, and a line says how time and memory grow over four lengths: a report, whose status is 0.
 """
 import argparse
 import itertools
 import json
 import os
 import re
-import resource
-import subprocess
 import sys
 import tempfile
 
-SECONDS, MEGABYTES, TOLD_SECONDS = 2.0, 200, 1.0
-BOUND = 20
+import steps
+
+WITHIN = {16384: (0.25, 200), 262144: (1.0, None)}
+SEEN, MICROSECONDS = 0.05, 1.0
 ALONE = {}
-PAGE = os.path.join(os.path.dirname(os.path.dirname(os.path.abspath(__file__))), "docs", "operating.md")
 ONE = "type Query { n: N } type N { a: Int b(x: Int): Int n: N }"
 TWO = "type Query { n: I } interface I { a: Int } type N implements I { a: Int } type M implements I { a: Int }"
 
@@ -1015,6 +1017,28 @@ def ids_below_sizes(length):
     return "{%s}%s" % (filled(length - len(fragment) - 2, lambda i: "k%d:o{...F}" % i), fragment)
 
 
+def at_fifty_places(call, head=""):
+    """Fifty keys at an interface, each with a key of its own beside a fragment of equal calls that are each written otherwise."""
+    def build(length):
+        places = "".join("k%d:n{x%d:a ...F}" % (i, i) for i in range(50))
+        return "%s{%s}fragment F on I{%s}" % (head, places, filled(length - len(places) - len(head) - 30, call))
+    return build
+
+
+def pairs_of_interfaces(count, types):
+    """An interface of so many types, each of which implements some of so many others by the digits of its number."""
+    each = lambda i: "".join(" & J%d" % at for at in range(count) if (i * 2654435761 >> at) & 1)
+    return "type Query { n: I } interface I { a: Int n: I } %s%s" % (
+        " ".join("interface J%d { a: Int n: I }" % at for at in range(count)), "".join(" type T%d implements I%s { a: Int n: I }" % (i, each(i)) for i in range(types)))
+
+
+def conditions_on_pairs(count):
+    """Keys that each have conditions on pairs of so many interfaces, with a key of their own in each."""
+    pairs = list(itertools.permutations(range(count), 2))
+    return lambda n: "{%s}" % filled(n - 2, lambda i: "k%d:n{%s}" % (i, "".join("...on J%d{...on J%d{x%d:a}}" % (*pairs[(i * 5 + j) % len(pairs)], i) for j in range(5))))
+
+
+NODES = types_of(120, lambda i: "a: Int n: I p(f: F ids: [ID!] d: Int = 7): Int", "input F { %s and: [F!] }" % " ".join("%s: Int" % it for it in "abcdefg"))
 INPUTS = "type Query { o(i: I): Int } input I { z: Int i: I l: [I] d: Int = 1 }"
 SCALARS = "type Query { o(x: [S]): Int } scalar S"
 THIRTY = "type Query { n: N o(i: [I]): Int } type N { n: N o(i: [I]): Int } input I { z: Int %s }" % " ".join("f%d: Int = 1" % i for i in range(30))
@@ -1190,6 +1214,16 @@ FAMILIES = {
     "a fragment of sets at every level": (EIGHT, at_every_level),
     "defaults of fields with long names": (lambda: "type Query { o(i: [I]): Int } input I { z: Int %s }" % " ".join("%s%d: Int = 1" % ("f" * 100000, i) for i in range(19)), lambda n: "{%s}" % filled(n - 2, lambda i: "k%d:o(i:[%s])" % (i, "{}" * max(1, 940 - i)))),
     "keys below long keys": (ONE, below_long_keys),
+    "filters in orders at fifty places": (NODES, at_fifty_places(lambda i: "p(f:{%s})" % ",".join("%s:1" % it for it in permutation(i, "abcdefg")))),
+    "ids in two ways at fifty places": (NODES, at_fifty_places(lambda i: "p(ids:[%s])" % ids(i))),
+    "defaults written at fifty places": (NODES, at_fifty_places(lambda i: "p(f:{%s}%s)" % (",".join("%s:1" % it for it in permutation(i // 2, "abcdefg")), " d:7" if i % 2 else ""))),
+    "arguments left out at fifty places": (NODES, at_fifty_places(lambda i: "p(f:{%s}%s)" % (",".join("%s:$v" % it for it in permutation(i // 14, "abcdefg")[:1 + i // 2 % 7]), " d:7" if i % 2 else ""), "query($v:Int)")),
+    "nulls at fifty places": (NODES, at_fifty_places(lambda i: "p(f:{%s})" % ",".join("%s:%s" % (it, "$n" if i >> at & 1 else "null") for at, it in enumerate(permutation(i, "abcdefg"))), "query($n:Int=null)")),
+    "conditions on pairs of twelve interfaces": (pairs_of_interfaces(12, 120), conditions_on_pairs(12)),
+    "a default of a megabyte": (lambda: 'type Query { o(s: String = "%s" x: Int): Int }' % ("x" * 1000000), own_calls("x:%d")),
+    "a default of a megabyte in objects": (lambda: 'type Query { o(i: [I]): Int } input I { s: String = "%s" x: Int }' % ("x" * 1000000), lambda n: "{%s}" % filled(n - 2, lambda i: "k%d:o(i:{x:%d})" % (i, i))),
+    "a default of a megabyte in a list": (lambda: 'type Query { o(i: [I]): Int } input I { s: String = "%s" x: Int }' % ("x" * 1000000), lambda n: "{o(i:[%s])}" % ("{}" * min(9990, (n - 12) // 2))),
+    "a list of strings at thousands of types": (lambda: types_of(4900, lambda i: "o(i: [String]): Int"), lists_of_own_lengths(4, '"ab" ')),
     "a filter as a variable and as a literal": ("type Query { n: N } type N { n: N a: Int p(f: F): Int } input F { ids: [ID!] text: String inStock: Boolean = true and: [F!] }", filters),
 }
 
@@ -1213,95 +1247,83 @@ def texts(name, length):
     return schema, document, variables
 
 
-def bounded():
-    resource.setrlimit(resource.RLIMIT_CPU, (BOUND, BOUND))
-    resource.setrlimit(resource.RLIMIT_AS, (2 << 30, 2 << 30))
+PRICED = ["price", "schema", "document", "--variables", "variables"]
 
 
-def priced(program, folder, schema, document, variables):
-    """The seconds and the megabytes of pricing a document, and whether the program has ended by itself. A document that isn't one, or breaks a rule, would say nothing of its family."""
+def priced(program, folder, schema, document, variables, most=None):
+    """What pricing a document takes. A document that isn't one, or breaks a rule, would say nothing of its family."""
     for name, text in (("schema", schema), ("document", document), ("variables", variables)):
         with open(os.path.join(folder, name), "w") as file:
             file.write(text)
-    with open(os.path.join(folder, "told"), "w+b") as told:
-        ran = subprocess.Popen([program, "price", "schema", "document", "--variables", "variables"], cwd=folder, stdout=subprocess.DEVNULL, stderr=told, preexec_fn=bounded)
-        _, status, used = os.wait4(ran.pid, 0)
-        ran.returncode = status
-        told.seek(0)
-        line = told.read().decode(errors="replace").strip()
-    if os.WIFEXITED(status) and line and not re.fullmatch(r"(plan 5|local 5|local 4 Plan 5) TooLarge", line):
-        sys.exit("a document is refused for what it isn't made for: " + line)
-    return used.ru_utime + used.ru_stime, used.ru_maxrss / 1024, os.WIFEXITED(status)
+    ran = steps.run(program, PRICED, folder, most)
+    if ran.ended and ran.told and not re.fullmatch(r"(plan 5|local 5|local 4 Plan 5) TooLarge|work 1 TooMuch", ran.told):
+        sys.exit("a document is refused for what it isn't made for: " + ran.told)
+    return ran
 
 
-def alone(program, folder, name, schema):
-    """The seconds for the schema of a family and a document that costs nothing."""
-    if (program, name) not in ALONE:
-        ALONE[program, name] = priced(program, folder, schema, "{__typename}", "{}")[0]
-    return ALONE[program, name]
-
-
-def told_lengths():
-    """By the families that operating.md tells: the bytes up to which each takes less than a second and 200 MB."""
-    with open(PAGE) as file:
-        rows = re.findall(r"^\| `([^`]+)` \|.*\| (\d+) kB \|", file.read(), re.M)
-    return {name: int(kilobytes) * 1024 for name, kilobytes in rows}
-
-
-def measured(program, folder, name, length):
-    """The seconds that a body of a family takes beside its schema, the megabytes, and whether the program has ended by itself."""
+def measured(program, folder, name, length, most=None):
+    """What a body of a family takes beside its schema."""
     schema, document, variables = texts(name, length)
-    seconds, megabytes, ended = priced(program, folder, schema, document, variables)
-    return max(0.0, seconds - alone(program, folder, name, schema)), megabytes, ended
+    if (program, name) not in ALONE:
+        ALONE[program, name] = priced(program, folder, schema, "{__typename}", "{}").seconds
+    ran = priced(program, folder, schema, document, variables, most)
+    ran.beside = max(0.0, ran.seconds - ALONE[program, name])
+    return ran
 
 
-def shown(run):
-    seconds, megabytes, ended = run
-    return "%.2f s %.0f MB%s" % (seconds, megabytes, "" if ended else " stopped")
+def shown(ran):
+    return "%.2f s %.0f MB%s" % (ran.beside, ran.megabytes, "" if not ran.ended else " refused" if ran.refused else "")
 
 
-def keeps(run, most):
-    seconds, megabytes, ended = run
-    return ended and seconds <= most and megabytes <= MEGABYTES
+def microseconds(program, folder, ran, most):
+    """How long a step of the last body took, behind reading; none where all steps took no time that could be measured."""
+    read = steps.run(program, PRICED, folder, steps.LEAST)
+    spent = ran.seconds - read.seconds
+    if not read.refused or spent < SEEN:
+        return None
+    taken = most if ran.refused else steps.least_steps(program, PRICED, folder, most, 0.05)
+    return spent / (taken or most) * 1e6
+
+
+def within(program, folder, name, most):
+    """Whether a family keeps to what it may take; and its line."""
+    told, good = [], True
+    for length, (seconds, megabytes) in WITHIN.items():
+        ran = measured(program, folder, name, length, most)
+        each = microseconds(program, folder, ran, most) if ran.ended else None
+        good = good and ran.ended and ran.beside <= seconds and (not megabytes or ran.megabytes <= megabytes) and (each is None or each <= MICROSECONDS)
+        told.append("%d kB: %s%s" % (length // 1024, shown(ran), "" if each is None else ", %.2f microseconds a step" % each))
+    return good, "%-48s %s" % (name, "   ".join(told))
+
+
+def growing(program, folder, name):
+    """A family's line without a bound."""
+    runs = [measured(program, folder, name, max(WITHIN) // part) for part in (8, 4, 2, 1)]
+    return "%-48s %s   grows by %.1f" % (name, "  ".join(shown(ran) + ("" if ran.ended else " stopped") for ran in runs), runs[-1].beside / max(runs[-2].beside, 0.001))
 
 
 def main():
     words = argparse.ArgumentParser(description=__doc__, formatter_class=argparse.RawDescriptionHelpFormatter)
     words.add_argument("--program", default="crates/gateway_cli/out/gateway_cli")
-    words.add_argument("--longest", type=int, default=262144)
+    words.add_argument("--most-work", type=int, default=3000000)
+    words.add_argument("--without", action="store_true")
     words.add_argument("names", nargs="*")
     given = words.parse_args()
-    told = told_lengths()
-    unknown = [it for it in [*given.names, *told] if it not in FAMILIES]
+    unknown = [it for it in given.names if it not in FAMILIES]
     if unknown:
         sys.exit("there is no family " + ", ".join(unknown))
-    program, late, broken, cured = os.path.abspath(given.program), [], [], []
+    program, late = os.path.abspath(given.program), []
     with tempfile.TemporaryDirectory() as folder:
         for name in given.names or FAMILIES:
-            runs = []
-            for part in (8, 4, 2, 1):
-                runs.append(measured(program, folder, name, given.longest // part))
-                if not runs[-1][2]:
-                    break
-            line = "%-36s %s" % (name, "  ".join(map(shown, runs)))
-            if len(runs) > 1:
-                line += "   grows by %.1f" % (runs[-1][0] / max(runs[-2][0], 0.001))
-            good = len(runs) == 4 and keeps(runs[-1], SECONDS)
-            if name in told:
-                run = measured(program, folder, name, told[name])
-                line += "   told: %s at %d kB" % (shown(run), told[name] // 1024)
-                (broken if not keeps(run, TOLD_SECONDS) else cured if good else []).append(name)
-            elif not good:
-                late.append(name)
-            print(line, flush=True)
-    for names, what in (
-        (cured, "told in operating.md, and within %.0f s and %d MB" % (SECONDS, MEGABYTES)),
-        (broken, "above %.0f s or %d MB at the length that operating.md tells" % (TOLD_SECONDS, MEGABYTES)),
-        (late, "above %.0f s or %d MB, and not told in operating.md" % (SECONDS, MEGABYTES)),
-    ):
-        if names:
-            print("%s: %s" % (what, ", ".join(names)))
-    return 1 if late or broken else 0
+            if given.without:
+                print(growing(program, folder, name), flush=True)
+                continue
+            good, line = within(program, folder, name, given.most_work)
+            print(line + ("" if good else "   TOO MUCH"), flush=True)
+            late += [] if good else [name]
+    if late:
+        print("%d of %d families take too much: %s" % (len(late), len(given.names or FAMILIES), ", ".join(late)))
+    return 1 if late else 0
 
 
 if __name__ == "__main__":

@@ -148,4 +148,5 @@ def main():
     sys.exit(0 if kept and (asked.names or "429" in statuses) else 1)
 
 
-main()
+if __name__ == "__main__":
+    main()
