@@ -85,7 +85,7 @@ fn take_value(alloc: Global, work: Work<'_>, thing: Thing<'_>) -> Result<(), All
         Thing::Word(text) => work.take(steps_of_text(text.len())),
         Thing::Default(value) => {
             let text = print_value(alloc, value)?;
-            work.take(text.len() / BYTES_IN_A_TOKEN)
+            work.take(text.as_str().len() / BYTES_IN_A_TOKEN)
         }
         _ => Ok(()),
     }
