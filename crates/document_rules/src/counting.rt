@@ -34,7 +34,7 @@ fn take_part(work: Work<'_>, site: Site<'_>) -> Result<(), AllocError> {
 }
 
 /// Takes the steps of parts, once for all rules that look at them.
-pub fn count_parts(work: Work<'_>, sites: &[Site<'_>]) -> Result<(), AllocError> {
+pub(crate) fn count_parts(work: Work<'_>, sites: &[Site<'_>]) -> Result<(), AllocError> {
     work.take(sites.len())?;
     for site in sites {
         take_part(work, *site)?;
