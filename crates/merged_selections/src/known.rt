@@ -137,6 +137,11 @@ fn numbers_in(groups: &[Group<'_>], lists: usize) -> usize {
     numbers
 }
 
+/// The same of groups that are kept.
+fn numbers_kept(known: &KnownGroups<'_>) -> usize {
+    numbers_in(known.groups.as_slice(), known.lists.len())
+}
+
 fn copied(alloc: Global, numbers: &[usize]) -> Result<Vec<usize>, AllocError>
     ensures { IfOk result (λ copy. copy.items ≡ numbers.now) }
 {
@@ -365,8 +370,7 @@ impl<'a> Known<'a> {
         match self.made.get(at) {
             Some(one) => {
                 if is_for(one, of, lists, spread) {
-                    self.work
-                        .take(numbers_in(one.groups.as_slice(), lists.len()))?;
+                    self.work.take(numbers_kept(one))?;
                     let groups = all_shortened(alloc, schema, one.groups.as_slice())?;
                     let looked = taken_looked(alloc, one, handed)?;
                     Ok(Some(FoundGroups { groups, looked }))
