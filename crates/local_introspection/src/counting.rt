@@ -8,9 +8,9 @@ ghost use Rattle.schema_facts.specs.FactsViews.{facts_data};
 ghost use Rattle.local_introspection.specs.declared.counting.Stop.TheVariants.{TooLarge as LargeStop};
 ghost use Rattle.local_introspection.specs.Counting.{what_of, TellsLeaf, CountsThing, CountsEntries, CountsEntry, CountsHeld, CountsThings, IsCount};
 
+use crate::steps::{take_entry, take_thing};
 use cost_num::{CAP, Cost, UNIT};
-use counted_work::{Work, steps_of_text};
-use gql_base::print_value;
+use counted_work::Work;
 use meta_schema::{AskedNode, weight_of, what_asked};
 use schema_facts::{Held, SchemaFacts, Thing, What, look_up};
 use std::alloc::{AllocError, Global};
@@ -75,28 +75,6 @@ fn take_one(left: &mut usize) -> Result<(), Stop>
     Ok(())
 }
 
-/// So many bytes of a printed default are a step: most of them are tokens.
-const BYTES_IN_A_TOKEN: usize = 8;
-
-// Takes the steps of a value of the answer: itself, and what will be written of it. How long a default is is seen by printing it.
-fn take_value(alloc: Global, work: Work<'_>, thing: Thing<'_>) -> Result<(), AllocError> {
-    work.take(1)?;
-    match thing {
-        Thing::Word(text) => work.take(steps_of_text(text.len())),
-        Thing::Default(value) => {
-            let text = print_value(alloc, value)?;
-            work.take(text.as_str().len() / BYTES_IN_A_TOKEN)
-        }
-        _ => Ok(()),
-    }
-}
-
-// Takes the steps of an entry: looking it up, and what will be written of its key.
-fn take_entry(work: Work<'_>, node: &AskedNode) -> Result<(), AllocError> {
-    work.take(1)?;
-    work.take(steps_of_text(node.key.as_str().len()))
-}
-
 // Whether a thing is a leaf.
 fn is_leaf(thing: Thing<'_>) -> bool
     ensures { TellsLeaf (leaf_of (thing_data thing.entry)) result }
@@ -119,7 +97,7 @@ fn count_thing(
     ensures { CountsThing (facts_data facts.now) left.old left.new result (thing_data thing.entry) (asked_nodes nodes.now) }
 {
     take_one(left)?;
-    take_value(alloc, work, thing)?;
+    take_thing(work, thing)?;
     if is_leaf(thing) {
         return Ok(NOTHING);
     }

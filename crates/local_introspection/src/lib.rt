@@ -12,6 +12,7 @@ pub mod laws;
 mod measuring;
 mod plain;
 mod sharing;
+mod steps;
 mod telling;
 mod walk;
 

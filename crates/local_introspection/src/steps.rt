@@ -1,0 +1,57 @@
+//! The steps of an answer. They are taken while it is counted, also those that it will take to measure and to write it: each text is looked at
+//! for either, and a default is printed for either before.
+
+use counted_work::{Work, steps_of_text};
+use gql_base::{Argument, Value};
+use meta_schema::AskedNode;
+use schema_facts::Thing;
+use std::alloc::AllocError;
+
+// The steps of so many bytes that are looked at so often.
+fn steps_of(bytes: usize, times: usize) -> usize {
+    steps_of_text(bytes.saturating_mul(times))
+}
+
+#[cycle(values)]
+fn count_value(work: Work<'_>, value: &Value) {
+    work.count(2);
+    match value {
+        Value::Var(name) => work.count(steps_of(name.text.as_str().len(), 4)),
+        Value::Str(text) => work.count(steps_of(text.as_str().len(), 4)),
+        Value::EnumName(name) => work.count(steps_of(name.text.as_str().len(), 4)),
+        Value::List(items) => count_items(work, items.as_slice()),
+        Value::Object(fields) => count_fields(work, fields.as_slice()),
+        Value::Int(_) | Value::Bool(_) | Value::Null => {}
+    }
+}
+
+#[cycle(values)]
+fn count_items(work: Work<'_>, items: &[Value]) {
+    'items: for item in items {
+        count_value(work, item);
+    }
+}
+
+#[cycle(values)]
+fn count_fields(work: Work<'_>, fields: &[Argument]) {
+    'fields: for field in fields {
+        work.count(steps_of(field.name.text.as_str().len(), 4));
+        count_value(work, &field.value);
+    }
+}
+
+/// Takes the steps of a value of an answer.
+pub(crate) fn take_thing(work: Work<'_>, thing: Thing<'_>) -> Result<(), AllocError> {
+    match thing {
+        Thing::Word(text) => work.count(steps_of(text.len(), 2)),
+        Thing::Default(value) => count_value(work, value),
+        _ => {}
+    }
+    work.take(1)
+}
+
+/// Takes the steps of an entry: looking it up, and writing its key.
+pub(crate) fn take_entry(work: Work<'_>, node: &AskedNode) -> Result<(), AllocError> {
+    work.take(1)?;
+    work.take(steps_of(node.key.as_str().len(), 2))
+}
