@@ -278,11 +278,11 @@ impl Kinds {
         if !self.may_find(walked) {
             return Ok(of);
         }
-        tables.planning.work.take(self.conditions.len())?;
+        let places = of.number.saturating_sub(self.stand_ins.len());
         tables
             .planning
             .work
-            .take(of.number.saturating_sub(self.stand_ins.len()))?;
+            .take(self.conditions.len().saturating_add(places))?;
         self.find(tables.planning.schema, of)
     }
 }

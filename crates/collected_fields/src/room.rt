@@ -13,6 +13,9 @@ use std::alloc::AllocError;
 /// So many steps are taken for types that are marked.
 const STEPS: usize = 200000000;
 
+/// So many marks that are joined are one step of what a request may take.
+const MARKS_IN_A_STEP: usize = 8;
+
 /// So many marks are kept.
 const MARKS: usize = 64000000;
 
@@ -50,7 +53,7 @@ impl Room {
         ensures { OnOk result (MissesMore reach.old reach.new (reaches other.now)) }
     {
         work.take(other.listed().saturating_add(1))?;
-        work.take(other.steps())?;
+        work.take(other.steps() / MARKS_IN_A_STEP)?;
         if !self.takes(other.steps()) {
             reach.widen();
             return Ok(());
@@ -77,7 +80,7 @@ impl Room {
         }
         let before = reach.steps();
         reach.join_where(schema, on, other)?;
-        work.take(reach.steps().saturating_sub(before))
+        work.take(reach.steps().saturating_sub(before) / MARKS_IN_A_STEP)
     }
 
     /// Takes all types in the place of many, where no room is left to keep them.

@@ -6,6 +6,9 @@ use Rattle.collected_fields.proofs.kinds.Kinds.kind_of.Goals as goal
 pub returns-then-not-may_find-clause-still : goal.returns-then-not-may_find-clause-still
 returns-then-not-may_find-clause-still c = λ knows. knows_same c.args.tables.now c.begin.new.self c.may_find.new.self c.may_find.ensures.conditions c.may_find.ensures.begun c.may_find.ensures.stand_ins (c.begin.ensures.still knows)
 
+pub returns-in_err-take-clause-still : goal.returns-in_err-take-clause-still
+returns-in_err-take-clause-still c = λ knows. knows_same c.args.tables.now c.begin.new.self c.may_find.new.self c.may_find.ensures.conditions c.may_find.ensures.begun c.may_find.ensures.stand_ins (c.begin.ensures.still knows)
+
 pub returns-then-not-may_find-clause-kind : goal.returns-then-not-may_find-clause-kind
 returns-then-not-may_find-clause-kind c = λ knows. kind_itself c.args.tables.now c.args.of.number
 
