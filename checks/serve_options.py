@@ -141,6 +141,16 @@ def hints(runs):
         expect(("\r\nretry-after: " in reply.head, "\r\nx-cost-left: 1.000 2.000" in reply.head) == (wanted, wanted), f"{words}: {reply.head}")
 
 
+def most_work(runs):
+    """A request that takes more steps than that is refused, and the upstream isn't asked; in a document of few fields there are few."""
+    many = "{ " + " ".join(f"u{number}: user {{ id }}" for number in range(300)) + " }"
+    hangs_up = lambda client, text: None
+    for words, document, wanted in ((), many, 502), (("--most-work", "1000000"), many, 502), (("--most-work", "1000"), many, 400), (("--most-work", "1000"), PLAIN, 502):
+        reply, got, _ = runs.once(*words, text=request("reader", document), answer=hangs_up)
+        expect(reply and reply.status == wanted and bool(got) == (wanted == 502), f"{words}: {reply and reply.status}, and the upstream got {got!r}")
+        expect((reply.charged is None and "work 1 TooMuch" in reply.body) == (wanted == 400), f"{words}: {reply.head} {reply.body}")
+
+
 def hashed():
     head = f"POST /graphql HTTP/1.1\r\nhost: g\r\nx-client-key: reader\r\ncontent-type: application/json\r\nconnection: close\r\ncontent-length: {len(BY_HASH)}\r\n\r\n"
     return head.encode() + BY_HASH
@@ -293,7 +303,7 @@ def stop(runs):
 
 
 OPTIONS = {
-    "--listen": listen, "--upstream": upstream, "--target": target, "--unsized": unsized, "--pass": passed, "--hints": hints, "--trusted and --trusted-only": trusted,
+    "--listen": listen, "--upstream": upstream, "--target": target, "--unsized": unsized, "--pass": passed, "--hints": hints, "--most-work": most_work, "--trusted and --trusted-only": trusted,
     "--journal": journal, "--workers": workers, "--connections": connections, "--endless": endless, "--idle": idle, "the number of --idle": idle_number, "its order": idle_order, "leave there": idle_leaving, "--stop": stop,
 }
 
