@@ -8,7 +8,7 @@
 - serving: requests a second and how long they wait, by `wrk` on 1, 16 and 256 connections with 1, 4 and 16 workers, beside nginx as a proxy
   before the same upstream (Debian's wrk and nginx-light);
 - waiting: the same before an upstream that answers 50 milliseconds after a request;
-- hostile: processor seconds for documents that are made to be slow, by their length; N of them at a time (one without it);
+- hostile: processor seconds for documents that are made to be slow, by their length, under a bound on their work; N of them at a time (one without it);
 - memory: what the gateway holds while 1,000,000 requests are served.
 
 What was measured goes into docs/figures/measures.json, every run of it; the page and the plots are written from that file, and with --plot-only
@@ -327,14 +327,12 @@ def waiting(program, folder, quick):
 # ---- documents made to be slow
 
 def family(program, quick, name):
-    """Of each length of a family: processor seconds, megabytes, and whether the run was stopped; behind a stopped one none."""
-    hostile_documents.BOUND, found = 10, []
+    """Of each length of a family, under the bound that docs/operating.md advises: processor seconds, megabytes, and whether it was refused for its work."""
+    found = []
     with tempfile.TemporaryDirectory() as own:
         for length in (16384, 32768, 65536, 131072, 262144)[: 2 if quick else 5]:
-            seconds, megabytes, by_itself = hostile_documents.measured(program, own, name, length)
-            found.append((length, seconds, megabytes, not by_itself))
-            if not by_itself:
-                break
+            ran = hostile_documents.measured(program, own, name, length, hostile_documents.ADVISED)
+            found.append((length, ran.beside, ran.megabytes, ran.refused))
     say(f"hostile {name}: " + ", ".join(f"{it[1]:.2f} s" for it in found))
     return found
 

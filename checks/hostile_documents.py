@@ -25,6 +25,7 @@ import tempfile
 
 import steps
 
+ADVISED = 3000000
 WITHIN = {16384: (0.25, 200), 262144: (1.0, None)}
 SEEN, MICROSECONDS = 0.05, 1.0
 ALONE = {}
@@ -1305,7 +1306,7 @@ def growing(program, folder, name):
 def main():
     words = argparse.ArgumentParser(description=__doc__, formatter_class=argparse.RawDescriptionHelpFormatter)
     words.add_argument("--program", default="crates/gateway_cli/out/gateway_cli")
-    words.add_argument("--most-work", type=int, default=3000000)
+    words.add_argument("--most-work", type=int, default=ADVISED)
     words.add_argument("--without", action="store_true")
     words.add_argument("names", nargs="*")
     given = words.parse_args()

@@ -97,21 +97,18 @@ def waiting_page(found):
 # ---- documents made to be slow
 
 def slowest(found):
-    """The families, those first that took longest, or were stopped at the shortest length."""
-    def weight(name):
-        last = found[name][-1]
-        return (last[3], -last[0] if last[3] else 0, last[1])
-    return sorted(found, key=weight, reverse=True)
+    """The families, those first that took longest at any length."""
+    return sorted(found, key=lambda name: max(it[1] for it in found[name]), reverse=True)
 
 
 def hostile_plot(found):
     ordered = slowest(found)
-    lines = [Line(name if n < SLOWEST else "", [(it[0], 10 if it[3] else min(max(it[1], 0.01), 10)) for it in found[name]], n if n < SLOWEST else None, stopped=found[name][-1][3]) for n, name in enumerate(ordered)]
+    lines = [Line(name if n < SLOWEST else "", [(it[0], max(it[1], 0.01)) for it in found[name]], n if n < SLOWEST else None, stopped=found[name][-1][3]) for n, name in enumerate(ordered)]
     lines = lines[SLOWEST:] + lines[:SLOWEST]
     if len(ordered) > SLOWEST:
         lines.append(Line(f"{len(ordered) - SLOWEST} others", [], None))
     return plot("Processor time for documents made to be slow", Scale("bytes of the document", [it[0] for it in max(found.values(), key=len)], True),
-                Scale("processor seconds (open: stopped after 10)", powers([y for line in lines for _, y in line.points]), True), lines)
+                Scale("processor seconds (open: refused for its work)", powers([y for line in lines for _, y in line.points]), True), lines)
 
 
 def together(part):
@@ -122,13 +119,12 @@ def together(part):
 def hostile_page(found):
     lengths = [it[0] for it in max(found.values(), key=len)]
     ordered = slowest(found)
-    quick = [name for name in ordered if not found[name][-1][3] and max(it[1] for it in found[name]) <= 0.5]
-    rows = [[name, *(("over 10" if it[3] else f"{it[1]:.2f}") for it in found[name]), *([""] * (len(lengths) - len(found[name]))), f"{max(it[2] for it in found[name]):,.0f}"] for name in ordered if name not in quick]
-    others = f"The {len(quick)} others took at most {max(it[1] for name in quick for it in found[name]):.2f} seconds and {max(it[2] for name in quick for it in found[name]):,.0f} MB at each length." if quick else ""
-    return {"hostile": table(["", *(f"{it:,} bytes" for it in lengths), "most MB"], rows), "others": others, "families": str(len(found))}
+    told, others = ordered[:20], ordered[20:]
+    rows = [[name, *(f"{it[1]:.2f}" + (" refused" if it[3] else "") for it in found[name]), f"{max(it[2] for it in found[name]):,.0f}"] for name in told]
+    rest = f"The {len(others)} others took at most {max(it[1] for name in others for it in found[name]):.2f} seconds at each length." if others else ""
+    refused = sum(any(it[3] for it in found[name]) for name in found)
+    return {"hostile": table(["", *(f"{it:,} bytes" for it in lengths), "most MB"], rows), "others": f"{rest} {refused} families were refused for their work at some length.".strip(), "families": str(len(found))}
 
-
-# ---- memory
 
 def memory_plot(found):
     lines = [Line(name, [tuple(it) for it in line], n) for n, (name, line) in enumerate(found.items())]
@@ -210,8 +206,8 @@ Measured {about_serving}.
 
 Measured {about_hostile}.
 
-`checks/hostile_documents.py` makes {families} families of documents that cost much for their length, up to the longest body that the gateway takes, 262,144 bytes. Told are processor seconds of `price`, of one run, less those of a document that costs nothing by the same schema{together}. A run is stopped
-after 10 seconds, and where one was stopped no longer one was tried; in the plot an open mark is such a run. Lines at 0.01 seconds are at or below it. Limits for those who run a gateway are in [operating.md](operating.md#behind-a-proxy).
+`checks/hostile_documents.py` makes {families} families of documents that cost much for their length, up to the longest body that the gateway takes, 262,144 bytes. Told are processor seconds of `price --most-work 3000000`, of one run, less those of a document that costs nothing by the same schema{together}.
+A document that takes more steps is refused; in the plot an open mark is such a run. Lines at 0.01 seconds are at or below it. Those that took longest at any length are told; what the bound is good for, and what happens without it, is in [operating.md](operating.md#behind-a-proxy).
 
 {hostile}
 
