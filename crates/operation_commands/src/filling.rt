@@ -23,7 +23,7 @@ use outside::Files;
 use plan_table::{Tree, response_text};
 use static_cost::laws::worst_attains_the_bound;
 use static_cost::{Part, WorstFault};
-use std::alloc::Global;
+use std::alloc::{AllocError, Global};
 use std::cell::Cell;
 
 // The outcome of a response.
@@ -37,15 +37,20 @@ fn written(alloc: Global, tree: &Tree) -> Outcome
     }
 }
 
-// What an operation that is accepted comes to.
-fn worst_of(alloc: Global, accepted: &Accepted, part: Part) -> Outcome
+// What an operation that is accepted comes to. It fails for want of memory alone, or of steps.
+fn worst_of(
+    alloc: Global,
+    work: Work<'_>,
+    accepted: &Accepted,
+    part: Part,
+) -> Result<Outcome, AllocError>
     requires counted { (some : PartOfCost) → IsWithinCap accepted.now.plan some }
-    ensures { (tree : PlanTree) → HoldsSound accepted.now.plan tree → WorstOfTree part tree result }
+    ensures { IfOk result (λ outcome. (tree : PlanTree) → HoldsSound accepted.now.plan tree → WorstOfTree part tree outcome) }
 {
-    match static_cost::worst(alloc, &accepted.plan, part) {
-        Ok(tree) => written(alloc, &tree),
-        Err(WorstFault::TooLarge) => refused_as(alloc, "worst 1 TooLarge"),
-        Err(WorstFault::Memory) => Outcome::Memory,
+    match static_cost::worst(alloc, work, &accepted.plan, part) {
+        Ok(tree) => Ok(written(alloc, &tree)),
+        Err(WorstFault::TooLarge) => Ok(refused_as(alloc, "worst 1 TooLarge")),
+        Err(WorstFault::Memory) => Err(AllocError),
     }
 }
 
@@ -67,7 +72,10 @@ fn worst_in(
     };
     worst_attains_the_bound();
     match accepted(alloc, work, asked, texts, &inputs) {
-        Ok(accepted) => Ok(worst_of(alloc, &accepted, part)),
+        Ok(accepted) => match worst_of(alloc, work, &accepted, part) {
+            Ok(outcome) => Ok(outcome),
+            Err(_) => Err(AskedFault::Memory),
+        },
         Err(fault) => Err(fault),
     }
 }

@@ -18,6 +18,8 @@ ghost use Rattle.static_cost.specs.Filling.{FillsObject, Fills, entries_from_row
 
 use crate::choices::chosen_types;
 use crate::leaves::{fill_leaf, text_value};
+use crate::steps::steps_of;
+use counted_work::Work;
 use gql_base::Text;
 use input_values::TypeId;
 use plan_table::{Below, Entry, NodeRow, Plan, Tree, copy_tree};
@@ -94,9 +96,10 @@ fn take_items(left: &mut u64, each: u64, items: u64) -> Result<(), WorstFault>
 }
 
 /// So many copies of a response.
-fn copies(alloc: Global, item: &Tree, count: u64) -> Result<Vec<Tree>, AllocError>
+fn copies(alloc: Global, work: Work<'_>, item: &Tree, count: u64) -> Result<Vec<Tree>, AllocError>
     ensures { IfOk result (λ items. elements_from (map tree_of items.items) ≡ repeated count (tree_of item.now)) }
 {
+    work.take(steps_of(item).saturating_mul(count as usize))?;
     let mut items = Vec::new(alloc);
     for _ in 0..count {
         items.push(copy_tree(alloc, item)?)?;
@@ -144,6 +147,7 @@ fn entry(key: Text, value: Tree) -> Entry
 #[cycle(filling)]
 fn fill_object(
     alloc: Global,
+    work: Work<'_>,
     of: &Plan,
     choices: &[usize],
     node: &Node,
@@ -152,7 +156,7 @@ fn fill_object(
     ensures { FillsObject of.now choices.now node.now result left.old left.new }
 {
     let depth = node.row.depth + 1;
-    match fill_entries(alloc, of, choices, node.next, depth, node.on, left) {
+    match fill_entries(alloc, work, of, choices, node.next, depth, node.on, left) {
         Ok(entries) => Ok(object_tree(node.on, entries)),
         Err(fault) => Err(fault),
     }
@@ -162,6 +166,7 @@ fn fill_object(
 #[cycle(filling)]
 fn fill_item(
     alloc: Global,
+    work: Work<'_>,
     of: &Plan,
     choices: &[usize],
     node: &Node,
@@ -175,7 +180,7 @@ fn fill_item(
     match of.below(node.row) {
         Below::TypeName => Ok(leaf_tree(type_name(alloc, of, node.row.on)?)),
         Below::Leaf(on) => Ok(leaf_tree(leaf_value(alloc, of, on)?)),
-        Below::Objects(_) => fill_object(alloc, of, choices, node, left),
+        Below::Objects(_) => fill_object(alloc, work, of, choices, node, left),
     }
 }
 
@@ -183,6 +188,7 @@ fn fill_item(
 #[cycle(filling)]
 fn fill_items(
     alloc: Global,
+    work: Work<'_>,
     of: &Plan,
     choices: &[usize],
     node: &Node,
@@ -196,11 +202,11 @@ fn fill_items(
         return Ok(Vec::new(alloc));
     }
     let before = *left;
-    match fill_item(alloc, of, choices, node, left) {
+    match fill_item(alloc, work, of, choices, node, left) {
         Err(fault) => Err(fault),
         Ok(item) => match take_items(left, before - *left, count - 1) {
             Err(fault) => Err(fault),
-            Ok(()) => Ok(copies(alloc, &item, count)?),
+            Ok(()) => Ok(copies(alloc, work, &item, count)?),
         },
     }
 }
@@ -209,6 +215,7 @@ fn fill_items(
 #[cycle(filling)]
 fn fill_list(
     alloc: Global,
+    work: Work<'_>,
     of: &Plan,
     choices: &[usize],
     node: &Node,
@@ -219,7 +226,15 @@ fn fill_list(
     if let Err(fault) = take_values(left, 1) {
         return Err(fault);
     }
-    match fill_items(alloc, of, choices, node, node.row.size.unwrap_or(0), left) {
+    match fill_items(
+        alloc,
+        work,
+        of,
+        choices,
+        node,
+        node.row.size.unwrap_or(0),
+        left,
+    ) {
         Ok(items) => Ok(list_tree(items)),
         Err(fault) => Err(fault),
     }
@@ -229,6 +244,7 @@ fn fill_list(
 #[cycle(filling)]
 fn fill_value(
     alloc: Global,
+    work: Work<'_>,
     of: &Plan,
     choices: &[usize],
     node: &Node,
@@ -237,9 +253,9 @@ fn fill_value(
     ensures { Fills result left.old left.new (values (value_of of.now choices.now node.now)) (λ t. tree_of t ≡ value_of of.now choices.now node.now) }
 {
     if of.is_list(node.row) {
-        fill_list(alloc, of, choices, node, left)
+        fill_list(alloc, work, of, choices, node, left)
     } else {
-        fill_item(alloc, of, choices, node, left)
+        fill_item(alloc, work, of, choices, node, left)
     }
 }
 
@@ -247,6 +263,7 @@ fn fill_value(
 #[cycle(filling)]
 fn fill_entry(
     alloc: Global,
+    work: Work<'_>,
     of: &Plan,
     choices: &[usize],
     node: &Node,
@@ -255,7 +272,7 @@ fn fill_entry(
     ensures { Fills result left.old left.new (values (value_of of.now choices.now node.now))
         (λ e. keyed_tree e ≡ (node.now.row.now.key, value_of of.now choices.now node.now)) }
 {
-    match fill_value(alloc, of, choices, node, left) {
+    match fill_value(alloc, work, of, choices, node, left) {
         Ok(value) => Ok(entry(Text::copy_of(alloc, node.row.key.as_str())?, value)),
         Err(fault) => Err(fault),
     }
@@ -265,6 +282,7 @@ fn fill_entry(
 #[cycle(filling)]
 fn fill_entries(
     alloc: Global,
+    work: Work<'_>,
     of: &Plan,
     choices: &[usize],
     from: usize,
@@ -292,7 +310,7 @@ fn fill_entries(
             on: choice_at(choices, at),
             next: at + 1,
         };
-        match fill_entry(alloc, of, choices, &node, left) {
+        match fill_entry(alloc, work, of, choices, &node, left) {
             Ok(entry) => entries.push(entry)?,
             Err(fault) => return Err(fault),
         }
@@ -324,8 +342,8 @@ fn choice_at(choices: &[usize], at: usize) -> usize
 ///
 /// # Errors
 ///
-/// `TooLarge` where the response has more than `VALUE_LIMIT` values; `Memory` where there was not enough memory.
-pub fn worst(alloc: Global, of: &Plan, part: Part) -> Result<Tree, WorstFault>
+/// `TooLarge` where the response has more than `VALUE_LIMIT` values; `Memory` where there was not enough memory, or no step was left.
+pub fn worst(alloc: Global, work: Work<'_>, of: &Plan, part: Part) -> Result<Tree, WorstFault>
     requires { IsWithinCap of.now (part_of part) }
     ensures filled { IfOk result (IsWorst of.now (part_of part)) }
     ensures floatless { IfOk result (λ tree. IsFloatless (tree_of tree)) }
@@ -334,7 +352,7 @@ pub fn worst(alloc: Global, of: &Plan, part: Part) -> Result<Tree, WorstFault>
     let choices = chosen_types(alloc, of, part)?;
     let mut left = VALUE_LIMIT - 1;
     let on = of.root().number;
-    match fill_entries(alloc, of, &choices, 0, 1, on, &mut left) {
+    match fill_entries(alloc, work, of, &choices, 0, 1, on, &mut left) {
         Ok(entries) => Ok(object_tree(on, entries)),
         Err(fault) => Err(fault),
     }

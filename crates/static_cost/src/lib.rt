@@ -9,6 +9,7 @@ mod choices;
 mod filling;
 pub mod laws;
 mod leaves;
+mod steps;
 mod too_costly;
 mod totals;
 
