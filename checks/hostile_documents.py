@@ -1282,7 +1282,7 @@ def microseconds(program, folder, ran, most):
     spent = ran.seconds - read.seconds
     if not read.refused or spent < SEEN:
         return None
-    taken = most if ran.refused else steps.least_steps(program, PRICED, folder, most, 0.05)
+    taken = most if ran.refused else steps.least_steps(program, PRICED, folder, most, 0.2)
     return spent / (taken or most) * 1e6
 
 

@@ -40,13 +40,9 @@ def least_steps(program, words, folder, most=MOST, part=0.0):
         return None
     low, high = LEAST - 1, most
     while high - low > max(1, part * high):
-        middle = (low + high) // 2 if high < 8 * max(low, 1) else 4 * max(low, 1)
-        if middle < LEAST:
-            middle = LEAST
+        middle = max(LEAST, (low + high) // 2 if high < 4 * low else int((low * high) ** 0.5))
         if run(program, words, folder, middle).refused:
             low = middle
         else:
             high = middle
-        if high == LEAST:
-            break
     return high
