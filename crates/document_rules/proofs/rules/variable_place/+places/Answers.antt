@@ -66,7 +66,7 @@ in_fields-returns t c = sym (use_fields_end (schema_data c.args.rule.now.schema.
 
 pub in_field-returns-in-Some : goal.in_field-returns-in-Some
 in_field-returns-in-Some t c = c.in_value.ensures ∙ (ap (λ d. first_of (misplaced (schema_data c.args.rule.now.schema.now) (map declared_tree c.args.rule.now.variables.now.items.items)) (uses_in (schema_data c.args.rule.now.schema.now) (shape_tree c.in-Some.input.now.shape) d (value_tree c.args.field.now.value))) (c.is_some.ensures ∙ sym (defaults_seen coerced_tree c.in-Some.input.now.default))
-    ∙ in_input (schema_data c.args.rule.now.schema.now) (misplaced (schema_data c.args.rule.now.schema.now) (map declared_tree c.args.rule.now.variables.now.items.items)) (input_in (schema_data c.args.rule.now.schema.now) c.args.inputs) c.args.field.now c.as_str.result.now (Some (input_data c.in-Some.input.now)) c.as_str.ensures (ap maybe_input (sym c.in-Some.is) ∙ c.input_named.ensures))
+    ∙ in_input (schema_data c.args.rule.now.schema.now) (misplaced (schema_data c.args.rule.now.schema.now) (map declared_tree c.args.rule.now.variables.now.items.items)) (input_in (schema_data c.args.rule.now.schema.now) c.args.inputs) c.args.field.now c.as_str-name.result.now (Some (input_data c.in-Some.input.now)) c.as_str-name.ensures (ap maybe_input (sym c.in-Some.is) ∙ c.input_named.ensures))
 
 pub in_field-returns-in-None : goal.in_field-returns-in-None
-in_field-returns-in-None t c = in_input (schema_data c.args.rule.now.schema.now) (misplaced (schema_data c.args.rule.now.schema.now) (map declared_tree c.args.rule.now.variables.now.items.items)) (input_in (schema_data c.args.rule.now.schema.now) c.args.inputs) c.args.field.now c.as_str.result.now None c.as_str.ensures (ap maybe_input (sym c.in-None.is) ∙ c.input_named.ensures)
+in_field-returns-in-None t c = in_input (schema_data c.args.rule.now.schema.now) (misplaced (schema_data c.args.rule.now.schema.now) (map declared_tree c.args.rule.now.variables.now.items.items)) (input_in (schema_data c.args.rule.now.schema.now) c.args.inputs) c.args.field.now c.as_str-name.result.now None c.as_str-name.ensures (ap maybe_input (sym c.in-None.is) ∙ c.input_named.ensures)
