@@ -9,9 +9,8 @@ ghost use Rattle.collected_fields.specs.Lists.{HasMore};
 ghost use Rattle.asked_fields.specs.Asking.{frame, AsksType, AsksGroups, AsksGroup, AsksNode, AsksBelow};
 
 use crate::asked::AskedNode;
-use crate::lookups::{argument_of, key_of, name_of, type_below};
+use crate::lookups::{argument_of, key_of, name_of, take_texts, type_below};
 use collected_fields::{Collected, Collector, Group};
-use counted_work::steps_of_text;
 use gql_base::{Indexed, Named, Text};
 use input_values::TypeId;
 use std::alloc::{AllocError, Global};
@@ -103,8 +102,7 @@ fn ask_node<'a, N: Named + Drop>(
     ensures asked { IfOk result (λ node. IsReady collector.old → AsksNode (place_of_name N.name_of names.now.items.items) collector.old levels of.number first.now below.now node) }
 {
     let planning = collector.planning();
-    planning.work.take(steps_of_text(key_of(first).len()))?;
-    planning.work.take(steps_of_text(name_of(first).len()))?;
+    take_texts(&planning, first)?;
     let key = Text::copy_of(alloc, key_of(first))?;
     let name = Text::copy_of(alloc, name_of(first))?;
     let argument = argument_of(alloc, names, &planning, of, first)?;

@@ -13,6 +13,7 @@ ghost use Rattle.asked_fields.specs.Asking.{first_type, coerced_in, kept_at};
 use crate::arguments::argument_kept;
 use crate::asked::Argument;
 use collected_fields::{Collected, Planning};
+use counted_work::steps_of_text;
 use document_rules::lookups::{Meaning, is_composite, meaning_on, type_of_field};
 use gql_base::{Indexed, Named};
 use input_values::TypeId;
@@ -35,6 +36,12 @@ pub fn name_of<'a>(field: &Collected<'a>) -> &'a str
     ensures { result.now ≡ (collected_field field.now).call.name }
 {
     field.field.name.text.as_str()
+}
+
+/// Takes the steps of copying the response key and the name of a field.
+pub fn take_texts(planning: &Planning<'_>, field: &Collected<'_>) -> Result<(), AllocError> {
+    planning.work.take(steps_of_text(key_of(field).len()))?;
+    planning.work.take(steps_of_text(name_of(field).len()))
 }
 
 /// What arguments come to. None are left where one is refused.
