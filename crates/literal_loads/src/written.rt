@@ -3,10 +3,13 @@
 use counted_work::steps_of_text;
 use gql_base::{Argument, Value};
 
+/// So many names, about, are compared with that of a variable that is looked for.
+const LOOKED_AT: usize = 4;
+
 /// How many steps it is to look at a literal, less those of what stands inside of it.
 pub(crate) fn steps_of(literal: &Value) -> usize {
     match literal {
-        Value::Var(name) => steps_of_text(name.text.as_str().len()).saturating_add(1),
+        Value::Var(name) => steps_of_text(name.text.as_str().len()).saturating_add(LOOKED_AT),
         _ => 1,
     }
 }
