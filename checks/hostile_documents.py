@@ -9,7 +9,7 @@ Each family is built for bodies (document and variables together) of 16,384 byte
 at each length, whether the document was refused for its work, and how long a step took. The seconds are those of `price` less those of
 `{ __typename }` by the same schema, which a gateway reads once; the megabytes are all, and never fewer than this script has itself.
 
-A family may take 0.25 seconds and 200 MB at the shorter length, and a second at the longer one. Where checking, planning and pricing take more than a
+A family may take 0.25 seconds and 200 MB at the shorter length, and a second at the longer one; one that takes more is measured again, and the quickest of three runs counts. Where checking, planning and pricing take more than a
 twentieth of a second, a step of them may take a microsecond: so a loop whose steps aren't counted is seen. The status is 0 exactly where all families are so.
 With names, only these families are tried.
 
@@ -1251,23 +1251,23 @@ def texts(name, length):
 PRICED = ["price", "schema", "document", "--variables", "variables"]
 
 
-def priced(program, folder, schema, document, variables, most=None):
-    """What pricing a document takes. A document that isn't one, or breaks a rule, would say nothing of its family."""
-    for name, text in (("schema", schema), ("document", document), ("variables", variables)):
+def priced(program, folder, texts, most=None, times=1):
+    """What pricing a document takes, as the quickest of so many runs has it. A document that isn't one, or breaks a rule, would say nothing of its family."""
+    for name, text in zip(("schema", "document", "variables"), texts):
         with open(os.path.join(folder, name), "w") as file:
             file.write(text)
-    ran = steps.run(program, PRICED, folder, most)
+    ran = min((steps.run(program, PRICED, folder, most) for _ in range(times)), key=lambda it: it.seconds)
     if ran.ended and ran.told and not re.fullmatch(r"(plan 5|local 5|local 4 Plan 5) TooLarge|work 1 TooMuch", ran.told):
         sys.exit("a document is refused for what it isn't made for: " + ran.told)
     return ran
 
 
-def measured(program, folder, name, length, most=None):
+def measured(program, folder, name, length, most=None, times=1):
     """What a body of a family takes beside its schema."""
     schema, document, variables = texts(name, length)
-    if (program, name) not in ALONE:
-        ALONE[program, name] = priced(program, folder, schema, "{__typename}", "{}").seconds
-    ran = priced(program, folder, schema, document, variables, most)
+    if times > 1 or (program, name) not in ALONE:
+        ALONE[program, name] = priced(program, folder, (schema, "{__typename}", "{}"), None, times).seconds
+    ran = priced(program, folder, (schema, document, variables), most, times)
     ran.beside = max(0.0, ran.seconds - ALONE[program, name])
     return ran
 
@@ -1276,22 +1276,21 @@ def shown(ran):
     return "%.2f s %.0f MB%s" % (ran.beside, ran.megabytes, "" if not ran.ended else " refused" if ran.refused else "")
 
 
-def microseconds(program, folder, ran, most):
+def microseconds(program, folder, ran, most, times):
     """How long a step of the last body took, behind reading; none where all steps took no time that could be measured."""
-    read = steps.run(program, PRICED, folder, steps.LEAST)
-    spent = ran.seconds - read.seconds
-    if not read.refused or spent < SEEN:
+    read = min(steps.run(program, PRICED, folder, steps.LEAST).seconds for _ in range(times))
+    if ran.seconds - read < SEEN:
         return None
     taken = most if ran.refused else steps.least_steps(program, PRICED, folder, most, 0.2)
-    return spent / (taken or most) * 1e6
+    return (ran.seconds - read) / (taken or most) * 1e6
 
 
-def within(program, folder, name, most):
+def within(program, folder, name, most, times=1):
     """Whether a family keeps to what it may take; and its line."""
     told, good = [], True
     for length, (seconds, megabytes) in WITHIN.items():
-        ran = measured(program, folder, name, length, most)
-        each = microseconds(program, folder, ran, most) if ran.ended else None
+        ran = measured(program, folder, name, length, most, times)
+        each = microseconds(program, folder, ran, most, times) if ran.ended else None
         good = good and ran.ended and ran.beside <= seconds and (not megabytes or ran.megabytes <= megabytes) and (each is None or each <= MICROSECONDS)
         told.append("%d kB: %s%s" % (length // 1024, shown(ran), "" if each is None else ", %.2f microseconds a step" % each))
     return good, "%-48s %s" % (name, "   ".join(told))
@@ -1320,6 +1319,8 @@ def main():
                 print(growing(program, folder, name), flush=True)
                 continue
             good, line = within(program, folder, name, given.most_work)
+            if not good:
+                good, line = within(program, folder, name, given.most_work, 3)
             print(line + ("" if good else "   TOO MUCH"), flush=True)
             late += [] if good else [name]
     if late:
