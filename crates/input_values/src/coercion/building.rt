@@ -7,6 +7,7 @@ ghost use Rattle.input_values.specs.coercion.Left.{one_item, one_field, EndsList
 
 use crate::values::coerced::{Coerced, CoercedField};
 use crate::values::made;
+use counted_work::{Work, steps_of_text};
 use gql_base::Text;
 use std::alloc::{AllocError, Global};
 
@@ -23,9 +24,10 @@ pub fn push_item(built: &mut Vec<Coerced>, value: Option<Coerced>) -> Result<(),
     Ok(())
 }
 
-/// One field more, where it was built.
+/// One field more, where it was built. The length of its name is counted.
 pub fn push_field(
     alloc: Global,
+    work: Work<'_>,
     built: &mut Vec<CoercedField>,
     name: &str,
     value: Option<Coerced>,
@@ -34,6 +36,7 @@ pub fn push_field(
 {
     match value {
         Some(value) => {
+            work.take(steps_of_text(name.len()))?;
             built.push(made::field(Text::copy_of(alloc, name)?, value))?;
         }
         None => (),

@@ -129,7 +129,7 @@ fn any_fields(
     'fields: for field in fields {
         work.take(steps_of_text(field.name.text.as_str().len()))?;
         match any_literal(alloc, work, &field.value, limit, count) {
-            Ok(value) => push_field(alloc, &mut built, field.name.text.as_str(), value)?,
+            Ok(value) => push_field(alloc, work, &mut built, field.name.text.as_str(), value)?,
             Err(fault) => return Err(fault),
         }
     }

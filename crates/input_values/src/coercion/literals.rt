@@ -349,7 +349,7 @@ fn push_field_at<T: InputTypes>(
 {
     match scope.types.field(of, at) {
         Some(input) => match coerce_field(alloc, scope, &input, given, count) {
-            Ok(value) => Ok(push_field(alloc, built, input.name, value)?),
+            Ok(value) => Ok(push_field(alloc, scope.work, built, input.name, value)?),
             Err(fault) => Err(fault.at_key(alloc, input.name)),
         },
         None => Ok(()),

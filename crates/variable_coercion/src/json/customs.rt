@@ -89,7 +89,7 @@ pub(crate) fn any_members(
     'members: for (name, member) in members.iter() {
         work.take(steps_of_text(name.len()))?;
         let value = any_json(alloc, work, member, limit, count)?;
-        push_field(alloc, &mut built, name.as_str(), value)?;
+        push_field(alloc, work, &mut built, name.as_str(), value)?;
     }
     Ok(object_within(built, limit, *count))
 }
