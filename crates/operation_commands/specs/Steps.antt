@@ -1,5 +1,5 @@
 -- How many steps an operation took, where they are counted.
-use Rattle.std.specs.Prelude.{ℕ, ◌≤◌, ◌++◌, List, [], Option, None, Some, ⊤, ⊥, codes}
+use Rattle.std.specs.Prelude.{ℕ, ◌≤◌, ◌++◌, List, [], Option, None, Some, ⊤, codes}
 use Rattle.std.specs.Fmt.{decimal}
 
 -- Where a number of steps was given they are told, and there are no more.
