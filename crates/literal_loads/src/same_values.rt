@@ -3,8 +3,22 @@
 ghost use Rattle.std.specs.Prelude.{◌≡◌, map, IsTrue};
 ghost use Rattle.input_values.specs.values.Coerced.{coerced_tree, named_tree};
 
-use counted_work::Work;
+use counted_work::{Work, steps_of_text};
 use input_values::{Coerced, CoercedField};
+
+/// How many steps it is to compare a value, less those of what stands inside of it.
+fn steps_of(value: &Coerced) -> usize {
+    match value {
+        Coerced::Str(text) => steps_of_text(text.as_str().len()).saturating_add(1),
+        Coerced::EnumName(name) => steps_of_text(name.as_str().len()).saturating_add(1),
+        _ => 1,
+    }
+}
+
+/// How many steps it is to compare the name of a field with so many.
+pub(crate) fn steps_of_name(field: &CoercedField, names: usize) -> usize {
+    steps_of_text(field.name.as_str().len()).saturating_mul(names)
+}
 
 /// Whether two values are the same that are neither lists nor objects; of values that are shared it says no.
 #[tactic(auto, using(crate::proofs::OpenedTrees::opened_values))]
@@ -53,7 +67,7 @@ fn opened(value: &Coerced) -> &Coerced
 pub fn same_value(work: Work<'_>, value: &Coerced, other: &Coerced) -> bool
     ensures { IsTrue result → coerced_tree value.now ≡ coerced_tree other.now }
 {
-    work.count(1);
+    work.count(steps_of(value));
     match value {
         Coerced::Shared(held) => same_value(work, held, other),
         Coerced::List(items) => match opened(other) {
@@ -105,6 +119,7 @@ fn same_fields(work: Work<'_>, fields: &[CoercedField], others: &[CoercedField])
 fn same_field(work: Work<'_>, field: &CoercedField, other: &CoercedField) -> bool
     ensures { IsTrue result → named_tree field.now ≡ named_tree other.now }
 {
+    work.count(steps_of_name(field, 1));
     if field.name.as_str() == other.name.as_str() {
         same_value(work, &field.value, &other.value)
     } else {

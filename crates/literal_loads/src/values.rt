@@ -14,6 +14,7 @@ ghost use Rattle.literal_loads.specs.KnownInputs.{scale_of};
 use crate::load::{
     Load, Sum, both_loads, both_sums, cost_at, leaf_of, list_of, object_of, object_with,
 };
+use crate::same_values::steps_of_name;
 use crate::weighing::Weighing;
 use cost_directives::InputWeight;
 use cost_num::CAP;
@@ -214,6 +215,7 @@ impl<'p> Weighing<'p> {
     fn field_sum(&self, field: &CoercedField, inputs: &[InputWeight]) -> Option<Sum>
         ensures { IfSome result (IsField (scale_of self.now) (map input_weight inputs.now) (named_tree field.now)) }
     {
+        self.work.count(steps_of_name(field, inputs.len()));
         match input_named(inputs, field.name.as_str()) {
             Some(input) => {
                 let load = self.value_load(&field.value, &input.shape)?;

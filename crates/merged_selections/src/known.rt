@@ -441,7 +441,7 @@ impl<'a> Known<'a> {
         ensures kept { AreKept (setting_of_planning planning.now) calls.old → AreKept (setting_of_planning planning.now) calls.new }
         ensures known { (c : Collector) → planning_of c ≡ planning.now → AreKept (setting_of_planning planning.now) calls.old → MayBeKnown c of.number lists.now (name_in spread.entry) groups.now → AreKnown c self.old → AreKnown c self.new }
     {
-        self.work.take(groups.len())?;
+        self.work.take(fields_in(groups))?;
         let many = are_many(groups);
         if !many && !have_great(groups) {
             return Ok(());
