@@ -11,3 +11,4 @@ mod AuditedPrices
 mod AuditTotals
 mod ReadDocuments
 mod Verdicts
+mod Wanting

@@ -1,4 +1,4 @@
-use Rattle.std.proofs.Common.{subst}
+use Rattle.std.proofs.Common.{inr, refl, sym, subst}
 use Rattle.std.proofs.lemmas.Result.{IfOk-weaker}
 use Rattle.acceptance.specs.Requests.{request_data}
 use Rattle.operation_commands.specs.OwnAnswers.{IfOwnRefused}
@@ -23,4 +23,11 @@ returns-in-Err-Refused c =
     record {
       verdict = IfOk-weaker c.refusal_of.result _ (λ v. IsVerdict asked texts v)
           (λ v told. refused_alone asked texts c.in-Err-Refused.refusal v (subst (λ f. IfOwnRefused f (IsPriceRefusal asked texts)) c.in-Err-Refused.field-0-is why) told) c.refusal_of.ensures;
+    }
+
+pub returns-in-Err-Memory : goal.returns-in-Err-Memory
+returns-in-Err-Memory c =
+    record {
+      verdict = IfOk-weaker c.wanting_verdict.result _ (λ v. IsVerdict c.args.asked.now c.args.texts.now v)
+          (λ v told. subst (IsVerdict c.args.asked.now c.args.texts.now) (sym told.1) (inr (told.0, refl))) c.wanting_verdict.ensures;
     }
