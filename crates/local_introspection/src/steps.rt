@@ -40,18 +40,18 @@ fn count_fields(work: Work<'_>, fields: &[Argument]) {
     }
 }
 
-/// Takes the steps of a value of an answer.
+/// Takes the steps of a value of an answer: it is counted, and then written.
 pub(crate) fn take_thing(work: Work<'_>, thing: Thing<'_>) -> Result<(), AllocError> {
     match thing {
         Thing::Word(text) => work.count(steps_of(text.len(), 2)),
         Thing::Default(value) => count_value(work, value),
         _ => {}
     }
-    work.take(1)
+    work.take(2)
 }
 
-/// Takes the steps of an entry: looking it up, and writing its key.
+/// Takes the steps of an entry: it is looked up to be counted, and again to be written, with its key.
 pub(crate) fn take_entry(work: Work<'_>, node: &AskedNode) -> Result<(), AllocError> {
-    work.take(1)?;
+    work.take(2)?;
     work.take(steps_of(node.key.as_str().len(), 2))
 }
