@@ -1,6 +1,6 @@
 #!/usr/bin/env bash
 # Runs the whole gate, says what it cost, in a line that begins with 'Measured:', holds the program that was built to the rows of its
-# library, to its options and to what it owes its sockets and its disk, and the released one to it; ends with the gate's last line and its status, or with status 1
+# library, to its options, to bounds on its work and to what it owes its sockets and its disk, and the released one to it; ends with the gate's last line and its status, or with status 1
 # where the program does otherwise, or the release isn't the program of the sources that it names.
 #
 #     checks/gate_minutes.sh          at least an hour on four processors
@@ -77,6 +77,8 @@ fi
 if [ "$status" -eq 0 ]; then
     python3 checks/program_rows.py || status=1
     python3 checks/serve_options.py || status=1
+    python3 checks/everyday_work.py || status=1
+    python3 checks/any_work.py || status=1
     python3 checks/socket_calls.py || status=1
     python3 checks/disk_calls.py || status=1
     python3 checks/journal_files.py || status=1
