@@ -140,7 +140,7 @@ fn count_entry(
 ) -> Result<Cost, Stop>
     ensures { CountsEntry (facts_data facts.now) left.old left.new result (thing_data thing.entry) (asked_node node.now) }
 {
-    take_entry(work, node)?;
+    take_entry(work, thing, node)?;
     let what = what_of(node);
     let found = look_up(alloc, facts, thing, what)?;
     let below = count_held(alloc, work, facts, found, node.below.as_slice(), left)?;

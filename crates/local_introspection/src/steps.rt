@@ -5,7 +5,11 @@ use counted_work::{Work, steps_of_text};
 use gql_base::{Argument, Value};
 use meta_schema::AskedNode;
 use schema_facts::Thing;
+use schema_reader::{DefBody, SchemaDef};
 use std::alloc::AllocError;
+
+// A location is compared with each that GraphQL knows, when it is counted, measured and written.
+const LOCATION_STEPS: usize = 6;
 
 // The steps of so many bytes that are looked at so often.
 fn steps_of(bytes: usize, times: usize) -> usize {
@@ -50,8 +54,25 @@ pub(crate) fn take_thing(work: Work<'_>, thing: Thing<'_>) -> Result<(), AllocEr
     work.take(2)
 }
 
+// Takes the steps of going through the locations of a directive, those that GraphQL doesn't know too, of which the answer has none.
+fn count_locations(work: Work<'_>, directive: &SchemaDef) {
+    if let DefBody::Directive { locations, .. } = &directive.body {
+        work.count(locations.len().saturating_mul(LOCATION_STEPS));
+    }
+}
+
 /// Takes the steps of an entry: it is looked up to be counted, and again to be written, with its key.
-pub(crate) fn take_entry(work: Work<'_>, node: &AskedNode) -> Result<(), AllocError> {
+pub(crate) fn take_entry(
+    work: Work<'_>,
+    thing: Thing<'_>,
+    node: &AskedNode,
+) -> Result<(), AllocError> {
+    match thing {
+        Thing::Directive(directive) if node.name.as_str() == "locations" => {
+            count_locations(work, directive);
+        }
+        _ => {}
+    }
     work.take(2)?;
     work.take(steps_of(node.key.as_str().len(), 2))
 }
