@@ -7,7 +7,7 @@
 Each family is built for bodies (document and variables together) of 16,384 bytes and of 262,144, the longest that the gateway takes, and priced with
 `--most-work 3000000` by the built program (`crates/gateway_cli/out/gateway_cli`, or the one that is named). A line says the processor seconds and the megabytes
 at each length, whether the document was refused for its work, and how long a step took. The seconds are those of `price` less those of
-`{ __typename }` by the same schema, which a gateway reads once; the megabytes are all, and never fewer than this script has itself.
+`{ __typename }` by the same schema (of a question about the schema, less those of `{ __schema { __typename } }`), which a gateway reads once; the megabytes are all, and never fewer than this script has itself.
 
 A family may take 0.25 seconds and 200 MB at the shorter length, and a second at the longer one; one that takes more is measured again, and the quickest of three runs counts. Where checking, planning and pricing take more than a
 twentieth of a second, a step of them may take a microsecond: so a loop whose steps aren't counted is seen. The status is 0 exactly where all families are so.
@@ -1266,7 +1266,8 @@ def measured(program, folder, name, length, most=None, times=1):
     """What a body of a family takes beside its schema."""
     schema, document, variables = texts(name, length)
     if times > 1 or (program, name) not in ALONE:
-        ALONE[program, name] = priced(program, folder, (schema, "{__typename}", "{}"), None, times).seconds
+        short = "{__schema{__typename}}" if "{__schema{" in document or "{__type(" in document else "{__typename}"
+        ALONE[program, name] = priced(program, folder, (schema, short, "{}"), None, times).seconds
     ran = priced(program, folder, (schema, document, variables), most, times)
     ran.beside = max(0.0, ran.seconds - ALONE[program, name])
     return ran
