@@ -32,8 +32,8 @@ facts_shared = search (sendable, crosses, maps_cross, facts_sync) depth 40 fits 
 
 pub gate_send : IsSend the_row
 gate_send = recorded_send (the_field).row _ _ (the_type).to_one (struct_send (shape the_type)
-    (trusted_send, (facts_sent, (schema_field_send, (weights_field_send, (indexed.the_field_send client_row names client.the_send, (settings.the_field_send, (accounts.the_send, tt))))))))
+    (trusted_send, (facts_sent, (schema_field_send, (weights_field_send, (indexed.the_field_send client_row names client.the_send, (settings.the_field_send, (accounts.the_send, (search (sendable, crosses) depth 40 fits 20000, tt)))))))))
 
 pub gate_sync : IsSync the_row
 gate_sync = recorded_sync (the_field).row _ _ (the_type).to_one (struct_sync (shape the_type)
-    (trusted_sync, (facts_shared, (schema_field_sync, (weights_field_sync, (indexed.the_field_sync client_row names client.the_sync, (settings.the_field_sync, (accounts.the_sync, tt))))))))
+    (trusted_sync, (facts_shared, (schema_field_sync, (weights_field_sync, (indexed.the_field_sync client_row names client.the_sync, (settings.the_field_sync, (accounts.the_sync, (search (sendable, crosses) depth 40 fits 20000, tt)))))))))
