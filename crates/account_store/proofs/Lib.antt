@@ -1,0 +1,3 @@
+pub mod SameRows
+pub mod CallSteps
+pub mod Settlings

@@ -1,0 +1,35 @@
+//! What keeps steps: each batch of them is kept whole or not at all.
+
+ghost use Rattle.std.specs.Prelude.{◌≡◌, ◌⊎◌, ◌≤◌, ◌++◌, List, ℕ, OnOk, OnErr};
+ghost use Rattle.outside.specs.Faults.{Rose};
+ghost use Rattle.account_store.specs.declared.step.Step.{Step as StepType};
+
+use crate::step::Step;
+use thiserror::Error;
+
+/// That a keeper failed. It is unknown then whether the batch is kept, and no further call may be made.
+#[derive(Clone, Copy, Debug, Drop, PartialEq, Eq, Error)]
+#[error("the accounts can't be kept")]
+pub struct KeeperFault;
+
+/// What keeps steps, on a disk or in memory.
+pub trait Keeper {
+    /// What it has is what these steps leave, one after the other.
+    ghost holds: { Self → List StepType → Type 0 };
+    /// Whatever a crash now leaves is what steps with this leave.
+    ghost leaves: { Self → (List StepType → Type 0) → Type 0 };
+    /// How often it failed.
+    ghost faults: { Self → ℕ };
+
+    /// Keeps a batch of steps behind those before it. Once that is answered, a crash leaves them all; a crash before leaves all of them or none.
+    ///
+    /// # Errors
+    ///
+    /// `KeeperFault` where it failed. Whether the batch is kept is found when the keeper is opened again.
+    fn commit(&mut self, batch: &[Step]) -> Result<(), KeeperFault>
+        ensures holds { OnOk result ((before : List StepType) → holds self.old before → holds self.new (before ++ batch.now)) }
+        ensures durable { OnOk result ((before : List StepType) → holds self.old before → leaves self.old (λ left. left ≡ before) → leaves self.new (λ left. left ≡ before ++ batch.now)) }
+        ensures crash { (before : List StepType) → holds self.old before → leaves self.old (λ left. left ≡ before) → leaves self.new (λ left. (left ≡ before) ⊎ (left ≡ before ++ batch.now)) }
+        ensures count { faults self.old ≤ faults self.new }
+        ensures cause { OnErr result (Rose (faults self.old) (faults self.new)) };
+}
