@@ -7,7 +7,7 @@ Operations that are made here (fragments, variables, conditions, interfaces, a u
 rows of `crates/worked_rows` that take files alone are given to `price`, `explain`, `audit`, `worst`, `forward`, `meter`, `introspect` and `replay` without `--most-work`, and with it:
 with the greatest number, with the steps that `explain` tells and one more and one fewer, with numbers at random between, and with 1000. What comes out has to be, letter for letter,
 what comes without the option, but for the steps that `explain` and `audit` tell; or the refusal `work 1 TooMuch`, with nothing charged. With more steps than were enough, it may not be
-refused; nor with as many as `explain` tells. So no comparison that is given up for want of steps becomes another price or another refusal.
+refused; nor `explain` and `audit` with as many as they tell. Each command has to be refused in some run. So no comparison that is given up for want of steps becomes another price or another refusal.
 
 With `--beside`, another program without the option is run on each operation and row too, and has to write the same. The status is 0 exactly where all is so.
 """
@@ -278,7 +278,7 @@ def main():
     words.add_argument("--beside")
     given = words.parse_args()
     program, other = os.path.abspath(given.program), given.beside and os.path.abspath(given.beside)
-    rng, faults, refused, runs = random.Random(given.seed), [], 0, 0
+    rng, faults, refused, runs = random.Random(given.seed), [], dict.fromkeys(COMMANDS, 0), 0
     with tempfile.TemporaryDirectory() as folder, tempfile.TemporaryDirectory() as rows, concurrent.futures.ThreadPoolExecutor(os.cpu_count()) as pool:
         made = make(folder, rng, given.documents)
         nothing = ran(program, ["replay", "schema", "clients", "none.script"], folder)[1].partition("\n")[2]
@@ -286,15 +286,16 @@ def main():
         for at, (name, values) in enumerate(made):
             for command in COMMANDS:
                 words_asked, about = words_of(command, name, values, made[at - 1][0]), abouts[at]
-                asked.append(pool.submit(faults_of, program, other, command, words_asked, folder, random.Random(rng.random()), about, nothing))
-        asked += [pool.submit(row_faults, program, other, it, rows) for it in rows_in(rows)]
-        for it in asked:
+                asked.append((command, pool.submit(faults_of, program, other, command, words_asked, folder, random.Random(rng.random()), about, nothing)))
+        asked += [(it[0], pool.submit(row_faults, program, other, it, rows)) for it in rows_in(rows)]
+        for command, it in asked:
             found, gone = it.result()
-            faults, refused, runs = faults + found, refused + gone, runs + 1
+            faults, runs = faults + found, runs + 1
+            refused[command] += gone
     for line in faults[:20]:
         print(line[:600])
-    print("%d commands, %d runs refused for their steps, %d faults" % (runs, refused, len(faults)))
-    return 1 if faults or not refused else 0
+    print("%d commands, %d faults; runs refused for their steps: %s" % (runs, len(faults), ", ".join("%s %d" % it for it in refused.items())))
+    return 1 if faults or not all(refused.values()) else 0
 
 
 if __name__ == "__main__":

@@ -1018,6 +1018,12 @@ def ids_below_sizes(length):
     return "{%s}%s" % (filled(length - len(fragment) - 2, lambda i: "k%d:o{...F}" % i), fragment)
 
 
+def spreads_in_the_deepest(length):
+    """A chain of fragments, the last of which spreads one fragment again and again."""
+    chain = filled(length // 2, lambda i: "fragment F%d on N{...F%d}" % (i, i + 1))
+    return "{n{...F0}}%sfragment G on N{a}fragment F%d on N{%s}" % (chain, chain.count("fragment"), filled(length // 2 - 60, lambda i: "...G"))
+
+
 def at_fifty_places(call, head=""):
     """Fifty keys at an interface, each with a key of its own beside a fragment of equal calls that are each written otherwise."""
     def build(length):
@@ -1215,6 +1221,7 @@ FAMILIES = {
     "a fragment of sets at every level": (EIGHT, at_every_level),
     "defaults of fields with long names": (lambda: "type Query { o(i: [I]): Int } input I { z: Int %s }" % " ".join("%s%d: Int = 1" % ("f" * 100000, i) for i in range(19)), lambda n: "{%s}" % filled(n - 2, lambda i: "k%d:o(i:[%s])" % (i, "{}" * max(1, 940 - i)))),
     "keys below long keys": (ONE, below_long_keys),
+    "spreads in the deepest of a chain": (ONE, spreads_in_the_deepest),
     "filters in orders at fifty places": (NODES, at_fifty_places(lambda i: "p(f:{%s})" % ",".join("%s:1" % it for it in permutation(i, "abcdefg")))),
     "ids in two ways at fifty places": (NODES, at_fifty_places(lambda i: "p(ids:[%s])" % ids(i))),
     "defaults written at fifty places": (NODES, at_fifty_places(lambda i: "p(f:{%s}%s)" % (",".join("%s:1" % it for it in permutation(i // 2, "abcdefg")), " d:7" if i % 2 else ""))),
@@ -1278,8 +1285,8 @@ def shown(ran):
 
 
 def microseconds(program, folder, ran, most, times):
-    """How long a step of the last body took, behind reading; none where all steps took no time that could be measured."""
-    read = min(steps.run(program, PRICED, folder, steps.LEAST).seconds for _ in range(times))
+    """How long a step of the last body took, behind reading; none where all steps took no time that could be measured. What is read is seen where an operation is asked that there isn't."""
+    read = min(steps.run(program, PRICED + ["--operation", "none"], folder).seconds for _ in range(times))
     if ran.seconds - read < SEEN:
         return None
     taken = most if ran.refused else steps.least_steps(program, PRICED, folder, most, 0.2)
