@@ -1,3 +1,0 @@
-pub mod SameRows
-pub mod CallSteps
-pub mod Settlings
