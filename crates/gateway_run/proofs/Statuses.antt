@@ -192,7 +192,7 @@ module _ (IsName : List ℕ → Type 0) (files : FilesTold) where
 
   explain_answer : (asked : Asked) (texts : AskedTexts) (outcome : Outcome) → ExplainOf asked texts outcome → IsAnswer IsName files outcome
   explain_answer asked texts outcome (inl (inl memory)) = memory_answer outcome memory
-  explain_answer asked texts outcome (inl (inr told)) = telling_answer _ _ outcome told.1
+  explain_answer asked texts outcome (inl (inr told)) = telling_answer (codes "work 1 TooMuch") _ outcome told.1
   explain_answer asked texts outcome (inr (inl done)) = done_answer _ outcome done.2.2
   explain_answer asked texts outcome (inr (inr refused)) = telling_answer _ _ outcome refused.2
 
