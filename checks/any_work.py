@@ -3,7 +3,7 @@
 
     python3 checks/any_work.py [--program PROGRAM] [--documents N] [--seed N] [--beside OTHER]
 
-Operations that are made here (fragments, variables, conditions, interfaces, a union, literals, questions about the schema; a part of them with one fault), those of examples/, and the
+Operations that are made here (fragments, variables, conditions, interfaces, a union, literals, questions about the schema; a part of them with one fault), and the
 rows of `crates/worked_rows` that take files alone are given to `price`, `explain`, `audit`, `worst`, `forward`, `meter`, `introspect` and `replay` without `--most-work`, and with it:
 with the greatest number, with the steps that `explain` tells and one more and one fewer, with numbers at random between, and with 1000. What comes out has to be, letter for letter,
 what comes without the option, but for the steps that `explain` and `audit` tell; or the refusal `work 1 TooMuch`, with nothing charged. With more steps than were enough, it may not be

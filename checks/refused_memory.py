@@ -3,7 +3,8 @@
     python3 checks/refused_memory.py [PROGRAM]
 
 A command must then end with the status of want of memory and have written nothing, or come to the same as with all its memory. In a
-replay a step may answer 500 instead: then everything else must be as if that step had not found its memory, and the budgets too."""
+replay a step may answer 500 instead: then everything else must be as if that step had not found its memory, and the budgets too.
+With a number of steps, of which enough are left, it is told as want of memory all the same."""
 
 import os
 import subprocess
@@ -26,6 +27,8 @@ COMMANDS = [
     ["migrate", "budgets.clients"],
     ["check", "misspelt.graphql"],
 ]
+COUNTED = ["--most-work", "100000"]
+COMMANDS += [[*it, *COUNTED] for it in COMMANDS if it[0] not in ("check", "migrate")]
 
 
 def run(words, refused, shim, told="/dev/null"):
@@ -133,7 +136,7 @@ def main():
         for words in COMMANDS:
             ended, without = plain(words, shim, folder)
             print(f"{' '.join(words)}: refused in turn {ended + without}, status 5 at {ended}, done without at {without}")
-        for script, *options in (["minute.script"], ["trusted.script", "--trusted", "trusted.json", "--trusted-only"]):
+        for script, *options in (["minute.script"], ["minute.script", *COUNTED], ["trusted.script", "--trusted", "trusted.json", "--trusted-only"]):
             words = ["replay", "books.graphql", "budgets.clients", script, *options]
             counts = replay(words, shim, folder)
             print(f"{' '.join(words)}: refused in turn {sum(counts.values())}, status 5 at {counts['ended']}, done without at "
