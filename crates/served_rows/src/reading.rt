@@ -12,6 +12,14 @@ fn number_in(word: &str) -> Result<u64, RowFault> {
     }
 }
 
+// The number of steps that a word is.
+fn steps_in(word: &str) -> Result<u32, RowFault> {
+    match word.parse::<u32>() {
+        Ok(number) => Ok(number),
+        Err(_) => Err(RowFault::Wrong("a number is none")),
+    }
+}
+
 // The form that the first word of a row names.
 fn form_in(word: &str) -> Result<Form, RowFault> {
     match word {
@@ -115,7 +123,7 @@ fn read_word<'a>(
         "knows_schema" => to.knows_schema = true,
         "passes" => to.passed = texts.find(value)?,
         "hints" => to.hints = true,
-        "most_work" => to.most_work = Some(number_in(value)? as u32),
+        "most_work" => to.most_work = Some(steps_in(value)?),
         "bytes" => to.bytes = number_in(value)? as usize,
         "door" => to.doors.push(door_of(alloc))?,
         _ => {
