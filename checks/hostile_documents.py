@@ -10,7 +10,7 @@ at each length, whether the document was refused for its work, and how long a st
 `{ __typename }` by the same schema (of a question about the schema, less those of `{ __schema { __typename } }`), which a gateway reads once; the megabytes are all, and never fewer than this script has itself.
 
 A family may take 0.25 seconds and 200 MB at the shorter length, and a second at the longer one; one that takes more is measured again, and the quickest of three runs counts. Where checking, planning and pricing take more than a
-twentieth of a second, a step of them may take a microsecond: so a loop whose steps aren't counted is seen; `UNCOUNTED` names the families in which one is known. The status is 0 exactly where all families are so.
+twentieth of a second, a step of them may take a microsecond: so a loop whose steps aren't counted is seen. The status is 0 exactly where all families are so.
 With names, only these families are tried.
 
 With `--without`, no bound is set, and a line says how time and memory grow over four lengths: a report, whose status is 0.
@@ -28,8 +28,6 @@ import steps
 ADVISED = 3000000
 WITHIN = {16384: (0.25, 200), 262144: (1.0, None)}
 SEEN, MICROSECONDS = 0.05, 1.0
-# Families in which something isn't counted, and what: they are held to time and memory alone.
-UNCOUNTED = {"variables of deep lists": "the lists that are put around a value that is no list"}
 ALONE = {}
 ONE = "type Query { n: N } type N { a: Int b(x: Int): Int n: N }"
 TWO = "type Query { n: I } interface I { a: Int } type N implements I { a: Int } type M implements I { a: Int }"
@@ -1302,7 +1300,7 @@ def within(program, folder, name, most, times=1):
     for length, (seconds, megabytes) in WITHIN.items():
         ran = measured(program, folder, name, length, most, times)
         each = microseconds(program, folder, ran, most, times) if ran.ended else None
-        counted = each is None or each <= MICROSECONDS or name in UNCOUNTED
+        counted = each is None or each <= MICROSECONDS
         good = good and counted and ran.ended and ran.beside <= seconds and (not megabytes or ran.megabytes <= megabytes)
         told.append("%d kB: %s%s" % (length // 1024, shown(ran), "" if each is None else ", %.2f microseconds a step" % each))
     return good, "%-48s %s" % (name, "   ".join(told))

@@ -70,6 +70,9 @@ impl<'c, 'a> SiteRule for FragmentCycle<'c, 'a> {
         match site {
             Site::Spread { within, name, .. } => {
                 let number = fragment_number(self.fragments, name.text.as_str());
+                if self.work.is_spent() {
+                    return Err(AllocError);
+                }
                 let inside = is_inside(self.work, self.met, within, number);
                 Ok(fault_where(inside, name.at))
             }

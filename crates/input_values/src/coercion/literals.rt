@@ -100,7 +100,7 @@ fn coerce_integer<T: InputTypes>(
         scope.limit,
         count,
     );
-    wrapped(alloc, shape, inner, scope.limit, count)
+    wrapped(alloc, scope.work, shape, inner, scope.limit, count)
 }
 
 /// A string.
@@ -122,7 +122,7 @@ fn coerce_string<T: InputTypes>(
         scope.limit,
         count,
     );
-    wrapped(alloc, shape, inner, scope.limit, count)
+    wrapped(alloc, scope.work, shape, inner, scope.limit, count)
 }
 
 /// A truth value.
@@ -143,7 +143,7 @@ fn coerce_boolean<T: InputTypes>(
         scope.limit,
         count,
     );
-    wrapped(alloc, shape, inner, scope.limit, count)
+    wrapped(alloc, scope.work, shape, inner, scope.limit, count)
 }
 
 /// A name.
@@ -165,7 +165,7 @@ fn coerce_name<T: InputTypes>(
         scope.limit,
         count,
     );
-    wrapped(alloc, shape, inner, scope.limit, count)
+    wrapped(alloc, scope.work, shape, inner, scope.limit, count)
 }
 
 /// A list: item by item at a list, and as one value at a named type.
@@ -243,7 +243,7 @@ fn coerce_object<T: InputTypes>(
     ensures { Coerces scope.now.limit count.old count.new result (written_object (T.forms scope.now.types.now) scope.now.variables.now.items.items fields.now shape.now) }
 {
     let inner = object_at(alloc, scope, innermost(shape), fields, count);
-    wrapped(alloc, shape, inner, scope.limit, count)
+    wrapped(alloc, scope.work, shape, inner, scope.limit, count)
 }
 
 /// An object at a named type.

@@ -13,6 +13,7 @@ use crate::inputs::shape::{Shape, ShapeLevel, TypeId, shape_level};
 use crate::values::coerced::Coerced;
 use crate::values::counting::count_node;
 use crate::values::made;
+use counted_work::Work;
 use std::alloc::{AllocError, Global};
 
 /// Whether null may stand at a place of this shape.
@@ -36,9 +37,10 @@ pub fn innermost(shape: &Shape) -> TypeId
     }
 }
 
-/// What a value that is no list came to at the innermost type, in a list of one for each list of the shape.
+/// What a value that is no list came to at the innermost type, in a list of one for each list of the shape. Each of these lists is a step.
 pub fn wrapped(
     alloc: Global,
+    work: Work<'_>,
     shape: &Shape,
     inner: Result<Option<Coerced>, CoercionFault>,
     limit: u32,
@@ -48,8 +50,8 @@ pub fn wrapped(
 {
     match shape {
         Shape::Named { .. } => inner,
-        Shape::ListOf { item, .. } => match wrapped(alloc, &**item, inner, limit, count) {
-            Ok(value) => list_of_one(alloc, value, limit, count),
+        Shape::ListOf { item, .. } => match wrapped(alloc, work, &**item, inner, limit, count) {
+            Ok(value) => list_of_one(alloc, work, value, limit, count),
             Err(fault) => Err(fault),
         },
     }
@@ -58,12 +60,14 @@ pub fn wrapped(
 /// A list of one item.
 fn list_of_one(
     alloc: Global,
+    work: Work<'_>,
     item: Option<Coerced>,
     limit: u32,
     count: &mut u64,
 ) -> Result<Option<Coerced>, CoercionFault>
     ensures { (before : ℕ) (answer : Answer CoercedTree) → Coerces limit before count.old (Ok item) answer → Coerces limit before count.new result (mapped list_of_one answer) }
 {
+    work.take(1)?;
     count_node(limit, count);
     match item {
         Some(item) => Ok(one_of(alloc, item, limit, *count)?),

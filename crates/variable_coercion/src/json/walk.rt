@@ -64,7 +64,7 @@ fn coerce_boolean<T: InputTypes>(
 {
     let of = innermost(shape);
     let inner = boolean_at(alloc, scope.types, of, truth, scope.limit, count);
-    wrapped(alloc, shape, inner, scope.limit, count)
+    wrapped(alloc, scope.work, shape, inner, scope.limit, count)
 }
 
 /// A number: one that isn't held as a whole number is refused at each type.
@@ -95,7 +95,7 @@ fn coerce_integer<T: InputTypes>(
 {
     let of = innermost(shape);
     let inner = integer_at(alloc, scope.types, of, whole, scope.limit, count);
-    wrapped(alloc, shape, inner, scope.limit, count)
+    wrapped(alloc, scope.work, shape, inner, scope.limit, count)
 }
 
 /// A string.
@@ -111,7 +111,7 @@ fn coerce_text<T: InputTypes>(
     let of = innermost(shape);
     scope.work.take(steps_of_text(text.len()))?;
     let inner = text_at(alloc, scope.types, of, text, scope.limit, count);
-    wrapped(alloc, shape, inner, scope.limit, count)
+    wrapped(alloc, scope.work, shape, inner, scope.limit, count)
 }
 
 /// A list.
@@ -189,7 +189,7 @@ fn coerce_object<T: InputTypes>(
     ensures { Coerces scope.now.limit count.old count.new result (coerced (T.forms scope.now.types.now) (given_object true (json_members (members_view members.now.entries))) (shape_tree shape.now)) }
 {
     let inner = object_at(alloc, scope, innermost(shape), members, count);
-    wrapped(alloc, shape, inner, scope.limit, count)
+    wrapped(alloc, scope.work, shape, inner, scope.limit, count)
 }
 
 /// An object at a named type.
