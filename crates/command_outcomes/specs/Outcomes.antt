@@ -1,5 +1,6 @@
 -- What commands come to.
 use Rattle.std.specs.Prelude.{◌≡◌, ◌⊎◌, ℕ, Bool, List, Option, IsSome, codes}
+use Rattle.counted_work.specs.Counted.{work_text}
 use Rattle.outside.specs.Faults.{Rose, StayAll, ChangesAlone}
 use Rattle.command_outcomes.specs.declared.outcome.Outcome.{Outcome}
 use Rattle.command_outcomes.specs.declared.outcome.Outcome.TheVariants.{Done, Refused, FileFailed, Faulty, Audited, Memory}
@@ -40,10 +41,6 @@ abbrev pub IsRefusedAs : List ℕ → Outcome → Type 0
 IsRefusedAs text (Refused told) = told ≡ text
 IsRefusedAs text Memory = Unit {0}
 IsRefusedAs text other = ⊥
-
--- the text of an operation that takes more steps than it may
-abbrev pub work_text : List ℕ
-work_text = codes "work 1 TooMuch"
 
 -- There was no memory; or it was refused since it takes more steps than it may, where a number of them was given.
 abbrev pub IsWanting : Option ℕ → Outcome → Type 0

@@ -1,6 +1,6 @@
 //! The number of steps that are left.
 
-ghost use Rattle.std.specs.Prelude.{◌≡◌, IsTrue};
+ghost use Rattle.std.specs.Prelude.{◌≡◌, IfErr, IsTrue, None};
 ghost use Rattle.counted_work.specs.Counted.{IsCounted};
 
 use std::alloc::AllocError;
@@ -19,17 +19,23 @@ pub struct Work<'a> {
 
 impl<'a> Work<'a> {
     /// Work that isn't counted.
-    pub fn free() -> Work<'a> {
+    pub fn free() -> Work<'a>
+        ensures { result.left ≡ None }
+    {
         Work { left: None }
     }
 
     /// Work for which as many steps are left as the cell holds. Copies share the cell.
-    pub fn counted(left: &'a Cell<u64>) -> Work<'a> {
+    pub fn counted(left: &'a Cell<u64>) -> Work<'a>
+        ensures { IsCounted result }
+    {
         Work { left: Some(left) }
     }
 
     /// Takes so many steps. Where fewer are left it takes these and fails as for want of memory, and so it does whenever it is asked for one more.
-    pub fn take(self, steps: usize) -> Result<(), AllocError> {
+    pub fn take(self, steps: usize) -> Result<(), AllocError>
+        ensures { IfErr result (λ _. IsCounted self.entry) }
+    {
         match self.left {
             None => Ok(()),
             Some(left) => match left.get().checked_sub(steps as u64) {

@@ -2,6 +2,7 @@
 use Rattle.std.specs.Prelude.{ℕ, List, [], ◌∷◌, ◌++◌, None, codes}
 use Rattle.std.specs.Fmt.{decimal}
 use Rattle.cost_num.specs.CostText.{cost_text}
+use Rattle.counted_work.specs.Counted.{work_text}
 use Rattle.response_model.specs.Errors.{pathless}
 use Rattle.response_model.specs.ResponseText.{response_text}
 use Rattle.response_meter.specs.declared.fault.MeterFault.{MeterFault}
@@ -22,10 +23,6 @@ message_body message = response_text None (pathless message ∷ [])
 
 abbrev pub no_memory_text : List ℕ
 no_memory_text = codes "NO_MEMORY"
-
--- more steps than a request may take
-abbrev pub work_text : List ℕ
-work_text = codes "work 1 TooMuch"
 
 -- ---- why a request is denied
 

@@ -3,7 +3,8 @@ use Rattle.std.proofs.Common.{◌≡◌, inl, inr, ℕ, List, Option, None, ap, 
 use Rattle.std.specs.Prelude.{IsSome}
 use Rattle.command_outcomes.specs.declared.outcome.Outcome.{Outcome}
 use Rattle.command_outcomes.specs.declared.outcome.Outcome.TheVariants.{Refused as RefusedOutcome}
-use Rattle.command_outcomes.specs.Outcomes.{IsWanting, work_text}
+use Rattle.command_outcomes.specs.Outcomes.{IsWanting}
+use Rattle.counted_work.specs.Counted.{work_text}
 use Rattle.operation_commands.specs.declared.findings.Verdict.{Verdict}
 use Rattle.operation_commands.specs.declared.findings.Verdict.TheVariants.{Refused}
 use Rattle.operation_commands.specs.Explain.{IsRefusedTelling, IsWantingTold}

@@ -23,7 +23,8 @@ use Rattle.command_outcomes.specs.declared.outcome.Outcome.TheVariants.{Memory}
 use Rattle.command_outcomes.specs.Texts.{too_large_text, not_text_text, line}
 use Rattle.command_outcomes.specs.SchemaTexts.{schema_refusal_text}
 use Rattle.command_outcomes.specs.Reading.{IsRead, IsText, IsTextOf, HoldsText, HasNoText}
-use Rattle.command_outcomes.specs.Outcomes.{FilesTold, NoFileFailed, IsStopped, IsRefusedAs, IsAudited, work_text}
+use Rattle.command_outcomes.specs.Outcomes.{FilesTold, NoFileFailed, IsStopped, IsRefusedAs, IsAudited}
+use Rattle.counted_work.specs.Counted.{work_text}
 use Rattle.command_outcomes.specs.Check.{HoldsWith, IsUnchecked}
 use Rattle.serde_json.specs.View.{view}
 use Rattle.operation_commands.specs.Asked.{IsGiven}

@@ -13,7 +13,8 @@ use Rattle.command_outcomes.specs.PassedOn.{Local, IsAnsweredHere}
 use Rattle.command_outcomes.specs.declared.outcome.Outcome.{Outcome}
 use Rattle.command_outcomes.specs.declared.outcome.Outcome.TheVariants.{Refused, Memory}
 use Rattle.command_outcomes.specs.Known.{AreKnownOf}
-use Rattle.command_outcomes.specs.Outcomes.{FilesTold, NoFileFailed, IsDone, work_text}
+use Rattle.command_outcomes.specs.Outcomes.{FilesTold, NoFileFailed, IsDone}
+use Rattle.counted_work.specs.Counted.{work_text}
 use Rattle.operation_commands.specs.declared.asked.AskedTexts.{AskedTexts}
 use Rattle.operation_commands.specs.declared.asking.Inputs.{Inputs}
 use Rattle.operation_commands.specs.declared.own_answers.OwnRefusal.{OwnRefusal}
