@@ -1,4 +1,4 @@
-//! Copies of the parts of documents.
+//! Copies of the parts of documents. They take no steps: what is copied was given a number, and is counted there.
 
 ghost use Rattle.std.specs.Prelude.{◌≡◌, map, IfOk};
 ghost use Rattle.gql_base.specs.parts.Trees.{value_tree, named_value};
@@ -8,14 +8,12 @@ ghost use Rattle.plan_model.specs.GivenAlike.{given_argument, AreGivenSame};
 ghost use Rattle.distinct_selections.specs.SameVariables.{AreRight};
 
 use crate::stand_ins::StandIns;
-use counted_work::{Work, steps_of_text};
 use gql_base::{Argument, Name, Text, Value};
 use std::alloc::{AllocError, Global};
 
-pub fn copy_name(alloc: Global, work: Work<'_>, name: &Name) -> Result<Name, AllocError>
+pub fn copy_name(alloc: Global, name: &Name) -> Result<Name, AllocError>
     ensures { IfOk result (λ copy. copy ≡ name.now) }
 {
-    work.take(steps_of_text(name.text.as_str().len()))?;
     Ok(Name {
         text: Text::copy_of(alloc, name.text.as_str())?,
         at: name.at,
@@ -32,31 +30,19 @@ fn copy_variable<'a>(
 {
     let own = name.text.as_str();
     let text = stand_ins.name_for(own);
-    stand_ins.work.take(steps_of_text(text.len()))?;
     Ok(Name {
         text: Text::copy_of(alloc, text)?,
         at: name.at,
     })
 }
 
-pub fn copy_maybe_name(
-    alloc: Global,
-    work: Work<'_>,
-    name: &Option<Name>,
-) -> Result<Option<Name>, AllocError>
+pub fn copy_maybe_name(alloc: Global, name: &Option<Name>) -> Result<Option<Name>, AllocError>
     ensures { IfOk result (λ copy. copy ≡ name.now) }
 {
     match name {
-        Some(name) => Ok(Some(copy_name(alloc, work, name)?)),
+        Some(name) => Ok(Some(copy_name(alloc, name)?)),
         None => Ok(None),
     }
-}
-
-fn copy_text(alloc: Global, work: Work<'_>, text: &Text) -> Result<Text, AllocError>
-    ensures { IfOk result (λ copy. copy ≡ text.now) }
-{
-    work.take(steps_of_text(text.as_str().len()))?;
-    Text::copy_of(alloc, text.as_str())
 }
 
 #[cycle(copy)]
@@ -71,10 +57,10 @@ fn copy_value<'a>(
     match value {
         Value::Var(name) => Ok(Value::Var(copy_variable(alloc, stand_ins, name)?)),
         Value::Int(number) => Ok(Value::Int(*number)),
-        Value::Str(text) => Ok(Value::Str(copy_text(alloc, stand_ins.work, text)?)),
+        Value::Str(text) => Ok(Value::Str(Text::copy_of(alloc, text.as_str())?)),
         Value::Bool(truth) => Ok(Value::Bool(*truth)),
         Value::Null => Ok(Value::Null),
-        Value::EnumName(name) => Ok(Value::EnumName(copy_name(alloc, stand_ins.work, name)?)),
+        Value::EnumName(name) => Ok(Value::EnumName(copy_name(alloc, name)?)),
         Value::List(items) => Ok(Value::List(copy_items(alloc, stand_ins, items.as_slice())?)),
         Value::Object(fields) => {
             Ok(Value::Object(copy_arguments(alloc, stand_ins, fields.as_slice())?))
@@ -90,7 +76,6 @@ fn copy_items<'a>(
 ) -> Result<Vec<Value>, AllocError>
     ensures { AreRight stand_ins.now → IfOk result (λ copies. map (literal_given (environment stand_ins.now.variables.now)) (map value_tree items.now) ≡ map (literal_given (environment stand_ins.now.variables.now)) (map value_tree copies.items)) }
 {
-    stand_ins.work.take(items.len())?;
     let mut copies = Vec::new(alloc);
     'items: for item in items {
         copies.push(copy_value(alloc, stand_ins, item)?)?;
@@ -108,7 +93,7 @@ fn copy_argument<'a>(
     ensures { AreRight stand_ins.now → IfOk result (λ copy. given_argument (environment stand_ins.now.variables.now) (named_value argument.now) ≡ given_argument (environment stand_ins.now.variables.now) (named_value copy)) }
 {
     Ok(Argument {
-        name: copy_name(alloc, stand_ins.work, &argument.name)?,
+        name: copy_name(alloc, &argument.name)?,
         value: copy_value(alloc, stand_ins, &argument.value)?,
     })
 }
@@ -121,7 +106,6 @@ pub fn copy_arguments<'a>(
 ) -> Result<Vec<Argument>, AllocError>
     ensures { AreRight stand_ins.now → IfOk result (λ copies. AreGivenSame (environment stand_ins.now.variables.now) (map named_value arguments.now) (map named_value copies.items)) }
 {
-    stand_ins.work.take(arguments.len())?;
     let mut copies = Vec::new(alloc);
     'arguments: for argument in arguments {
         copies.push(copy_argument(alloc, stand_ins, argument)?)?;

@@ -14,7 +14,7 @@ use crate::included::is_included;
 use crate::kept::Kept;
 use crate::numbers::Numbers;
 use crate::stand_ins::StandIns;
-use counted_work::Work;
+use counted_work::{Work, steps_of_text};
 use document_reader::{Field, Fragment, Selection};
 use gql_base::Name;
 use std::alloc::{AllocError, Global};
@@ -43,7 +43,6 @@ fn shorten_set<'a>(
 ) -> Result<Shortened, AllocError>
     ensures { AreRight stand_ins.now → IfOk result (λ set. AreShortened (environment stand_ins.now.variables.now) (set_tree selections.now) (set_tree set.selections.items)) }
 {
-    stand_ins.work.take(selections.len())?;
     let mut kept = Kept::new(alloc);
     'set: for selection in selections {
         add_selection(alloc, stand_ins, selection, numbers, &mut kept)?;
@@ -53,7 +52,7 @@ fn shorten_set<'a>(
         numbers: words,
         ..
     } = kept;
-    let number = numbers.of_words(words)?;
+    let number = numbers.of_words(words, 0)?;
     Ok(Shortened {
         selections: shortened,
         number,
@@ -72,7 +71,7 @@ fn add_selection<'a>(
 {
     match selection {
         Selection::Field(field) => {
-            stand_ins.work.take(field.directives.len())?;
+            stand_ins.work.take(field.directives.len().wrapping_add(1))?;
             if is_included(stand_ins.variables, field.directives.as_slice()) {
                 add_field(alloc, stand_ins, field, numbers, kept)
             } else {
@@ -80,7 +79,7 @@ fn add_selection<'a>(
             }
         }
         Selection::Spread { name, directives } => {
-            stand_ins.work.take(directives.len())?;
+            stand_ins.work.take(directives.len().wrapping_add(1))?;
             if is_included(stand_ins.variables, directives.as_slice()) {
                 add_spread(alloc, stand_ins.work, name, numbers, kept)
             } else {
@@ -92,7 +91,7 @@ fn add_selection<'a>(
             directives,
             selections,
         } => {
-            stand_ins.work.take(directives.len())?;
+            stand_ins.work.take(directives.len().wrapping_add(1))?;
             if is_included(stand_ins.variables, directives.as_slice()) {
                 add_inline(alloc, stand_ins, on, selections.as_slice(), numbers, kept)
             } else {
@@ -113,8 +112,8 @@ fn field_with<'a>(
     ensures { AreRight stand_ins.now → IfOk result (λ f. IsFieldWith (environment stand_ins.now.variables.now) field.now (set_tree selections.items) (field_tree f)) }
 {
     Ok(Field {
-        alias: copy_maybe_name(alloc, stand_ins.work, &field.alias)?,
-        name: copy_name(alloc, stand_ins.work, &field.name)?,
+        alias: copy_maybe_name(alloc, &field.alias)?,
+        name: copy_name(alloc, &field.name)?,
         arguments: copy_arguments(alloc, stand_ins, field.arguments.as_slice())?,
         directives: Vec::new(alloc),
         selections,
@@ -155,7 +154,7 @@ fn add_spread<'a>(
         work,
         number,
         Selection::Spread {
-            name: copy_name(alloc, work, name)?,
+            name: copy_name(alloc, name)?,
             directives: Vec::new(alloc),
         },
     )
@@ -182,11 +181,18 @@ fn add_inline<'a>(
         stand_ins.work,
         number,
         Selection::Inline {
-            on: copy_maybe_name(alloc, stand_ins.work, on)?,
+            on: copy_maybe_name(alloc, on)?,
             directives: Vec::new(alloc),
             selections: shortened,
         },
     )
+}
+
+/// How many steps it is to copy the names of a fragment.
+fn steps_of(fragment: &Fragment) -> usize {
+    let name = fragment.name.text.as_str();
+    let on = fragment.on.text.as_str();
+    steps_of_text(name.len().wrapping_add(on.len())).wrapping_add(1)
 }
 
 fn shorten_fragment<'a>(
@@ -197,11 +203,12 @@ fn shorten_fragment<'a>(
 ) -> Result<Fragment, AllocError>
     ensures { AreRight stand_ins.now → IfOk result (λ f. IsShortenedFragment (environment stand_ins.now.variables.now) (fragment_data fragment.now) (fragment_data f)) }
 {
+    stand_ins.work.take(steps_of(fragment))?;
     let below = shorten_set(alloc, stand_ins, fragment.selections.as_slice(), numbers)?;
     let Shortened { selections, .. } = below;
     Ok(Fragment {
-        name: copy_name(alloc, stand_ins.work, &fragment.name)?,
-        on: copy_name(alloc, stand_ins.work, &fragment.on)?,
+        name: copy_name(alloc, &fragment.name)?,
+        on: copy_name(alloc, &fragment.on)?,
         directives: Vec::new(alloc),
         selections,
     })
@@ -215,7 +222,6 @@ fn shorten_fragments<'a>(
 ) -> Result<Vec<Fragment>, AllocError>
     ensures { AreRight stand_ins.now → IfOk result (λ fs. AreShortenedFragments (environment stand_ins.now.variables.now) (map fragment_seen fragments.now) (map fragment_data fs.items)) }
 {
-    stand_ins.work.take(fragments.len())?;
     let mut shortened = Vec::new(alloc);
     for fragment in fragments {
         shortened.push(shorten_fragment(alloc, stand_ins, fragment, numbers)?)?;

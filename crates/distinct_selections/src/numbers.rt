@@ -1,4 +1,5 @@
-//! Numbers of what is written alike. They say where to look for a selection that is repeated, and nothing rests on them.
+//! Numbers of what is written alike. They say where to look for a selection that is repeated, and nothing rests on them. What is given a
+//! number is counted here, for its copy too.
 
 use crate::stand_ins::StandIns;
 use counted_work::{Work, steps_of_text};
@@ -30,7 +31,6 @@ impl<'a> Numbers<'a> {
     }
 
     fn name(&mut self, name: &'a str) -> Result<usize, AllocError> {
-        self.work.take(steps_of_text(name.len()).saturating_add(1))?;
         match self.names.get(name).copied() {
             Some(number) => Ok(number),
             None => {
@@ -52,9 +52,14 @@ impl<'a> Numbers<'a> {
         }
     }
 
-    /// The number of these words.
-    pub(crate) fn of_words(&mut self, words: Vec<usize>) -> Result<usize, AllocError> {
-        self.work.take(1 + words.len() / WORDS_IN_A_STEP)?;
+    /// The number of these words, among which are numbers of names of so many bytes.
+    pub(crate) fn of_words(
+        &mut self,
+        words: Vec<usize>,
+        bytes: usize,
+    ) -> Result<usize, AllocError> {
+        let steps = 1 + words.len() / WORDS_IN_A_STEP;
+        self.work.take(steps.wrapping_add(steps_of_text(bytes)))?;
         match self.words.get(words.as_slice()).copied() {
             Some(number) => Ok(number),
             None => {
@@ -76,6 +81,16 @@ impl<'a> Numbers<'a> {
         Ok(())
     }
 
+    fn put_text(
+        &mut self,
+        kind: usize,
+        text: &'a str,
+        words: &mut Vec<usize>,
+    ) -> Result<(), AllocError> {
+        self.work.take(steps_of_text(text.len()))?;
+        self.put_name(kind, text, words)
+    }
+
     #[cycle(words)]
     fn put_value(
         &mut self,
@@ -83,15 +98,14 @@ impl<'a> Numbers<'a> {
         value: &'a Value,
         words: &mut Vec<usize>,
     ) -> Result<(), AllocError> {
-        self.work.take(1)?;
         match value {
-            Value::Var(name) => self.put_name(1, stand_ins.name_for(name.text.as_str()), words),
+            Value::Var(name) => self.put_text(1, stand_ins.name_for(name.text.as_str()), words),
             Value::Int(number) => {
                 words.push(2)?;
                 words.push(self.integer(*number)?)?;
                 Ok(())
             }
-            Value::Str(text) => self.put_name(3, text.as_str(), words),
+            Value::Str(text) => self.put_text(3, text.as_str(), words),
             Value::Bool(truth) => {
                 words.push(if *truth { 4 } else { 5 })?;
                 Ok(())
@@ -100,7 +114,7 @@ impl<'a> Numbers<'a> {
                 words.push(6)?;
                 Ok(())
             }
-            Value::EnumName(name) => self.put_name(7, name.text.as_str(), words),
+            Value::EnumName(name) => self.put_text(7, name.text.as_str(), words),
             Value::List(items) => self.put_items(stand_ins, items.as_slice(), words),
             Value::Object(fields) => self.put_arguments(stand_ins, fields.as_slice(), words),
         }
@@ -113,6 +127,7 @@ impl<'a> Numbers<'a> {
         items: &'a [Value],
         words: &mut Vec<usize>,
     ) -> Result<(), AllocError> {
+        self.work.take(items.len())?;
         words.push(8)?;
         words.push(items.len())?;
         'items: for item in items {
@@ -131,7 +146,9 @@ impl<'a> Numbers<'a> {
         words.push(9)?;
         words.push(arguments.len())?;
         'arguments: for argument in arguments {
-            words.push(self.name(argument.name.text.as_str())?)?;
+            let name = argument.name.text.as_str();
+            self.work.take(steps_of_text(name.len()).wrapping_add(2))?;
+            words.push(self.name(name)?)?;
             self.put_value(stand_ins, &argument.value, words)?;
         }
         Ok(())
@@ -146,21 +163,24 @@ impl<'a> Numbers<'a> {
         below: usize,
     ) -> Result<usize, AllocError> {
         let mut words = Vec::new(alloc);
-        match &field.alias {
-            Some(alias) => self.put_name(10, alias.text.as_str(), &mut words)?,
-            None => self.put_name(10, field.name.text.as_str(), &mut words)?,
-        }
-        words.push(self.name(field.name.text.as_str())?)?;
+        let name = field.name.text.as_str();
+        let key = match &field.alias {
+            Some(alias) => alias.text.as_str(),
+            None => name,
+        };
+        self.put_name(10, key, &mut words)?;
+        words.push(self.name(name)?)?;
         words.push(below)?;
         self.put_arguments(stand_ins, field.arguments.as_slice(), &mut words)?;
-        self.of_words(words)
+        self.of_words(words, key.len().wrapping_add(name.len()))
     }
 
     /// The number of the spread of a fragment.
     pub(crate) fn of_spread(&mut self, alloc: Global, name: &'a Name) -> Result<usize, AllocError> {
         let mut words = Vec::new(alloc);
-        self.put_name(11, name.text.as_str(), &mut words)?;
-        self.of_words(words)
+        let name = name.text.as_str();
+        self.put_name(11, name, &mut words)?;
+        self.of_words(words, name.len())
     }
 
     /// The number of an inline fragment whose selections have a number.
@@ -171,11 +191,18 @@ impl<'a> Numbers<'a> {
         below: usize,
     ) -> Result<usize, AllocError> {
         let mut words = Vec::new(alloc);
-        match on {
-            Some(name) => self.put_name(12, name.text.as_str(), &mut words)?,
-            None => words.push(13)?,
-        }
+        let bytes = match on {
+            Some(name) => {
+                let name = name.text.as_str();
+                self.put_name(12, name, &mut words)?;
+                name.len()
+            }
+            None => {
+                words.push(13)?;
+                0
+            }
+        };
         words.push(below)?;
-        self.of_words(words)
+        self.of_words(words, bytes)
     }
 }
