@@ -48,7 +48,7 @@ fn looks_like(schema: &Schema, work: Work<'_>, field: &Collected<'_>, other: &Co
     if field.written != other.written {
         return false;
     }
-    work.count(steps_of_text(key_of(field.field).len()).saturating_add(1));
+    work.count(steps_of_text(key_of(field.field).len()).wrapping_add(1));
     if !same_key(field.field, other.field) {
         return false;
     }
@@ -74,7 +74,6 @@ fn has_like(
 {
     let mut at = 0;
     while at < fields.len() && at < MANY {
-        work.count(1);
         if looks_like(schema, work, field, &fields[at]) {
             return true;
         }
@@ -83,7 +82,7 @@ fn has_like(
     false
 }
 
-/// Fields, where some may be left out that look like one before them.
+/// Fields, where some may be left out that look like one before them. Each was counted as it was collected.
 pub fn unlike_fields<'a>(
     alloc: Global,
     schema: &Schema,
@@ -94,7 +93,6 @@ pub fn unlike_fields<'a>(
 {
     let mut unlike = Vec::new(alloc);
     for field in fields {
-        work.take(1)?;
         if !has_like(schema, work, unlike.as_slice(), field) {
             unlike.push(*field)?;
         }

@@ -8,16 +8,17 @@ use document_reader::Selection;
 use gql_base::{Argument, Value};
 use std::hash::{DefaultHasher, Hasher};
 
+/// Puts a text, which is a step, or more where it is long.
 fn put_text(work: Work<'_>, kind: u8, text: &str, into: &mut DefaultHasher) {
-    work.count(steps_of_text(text.len()));
+    work.count(steps_of_text(text.len()).wrapping_add(1));
     into.write_u8(kind);
     into.write_usize(text.len());
     into.write(text.as_bytes());
 }
 
+/// Puts a value, which is counted with the name before it or with the list around it.
 #[cycle(hashes)]
 fn put_value(work: Work<'_>, value: &Value, into: &mut DefaultHasher) {
-    work.count(1);
     match value {
         Value::Var(name) => put_text(work, 1, name.text.as_str(), into),
         Value::Int(number) => {
@@ -35,6 +36,7 @@ fn put_value(work: Work<'_>, value: &Value, into: &mut DefaultHasher) {
 
 #[cycle(hashes)]
 fn put_items(work: Work<'_>, items: &[Value], into: &mut DefaultHasher) {
+    work.count(items.len());
     into.write_usize(items.len());
     'items: for item in items {
         put_value(work, item, into);
@@ -43,7 +45,6 @@ fn put_items(work: Work<'_>, items: &[Value], into: &mut DefaultHasher) {
 
 #[cycle(hashes)]
 fn put_arguments(work: Work<'_>, arguments: &[Argument], into: &mut DefaultHasher) {
-    work.count(arguments.len());
     into.write_usize(arguments.len());
     'arguments: for argument in arguments {
         put_text(work, 8, argument.name.text.as_str(), into);
@@ -53,7 +54,6 @@ fn put_arguments(work: Work<'_>, arguments: &[Argument], into: &mut DefaultHashe
 
 #[cycle(begins)]
 fn put_selection(work: Work<'_>, selection: &Selection, into: &mut DefaultHasher) {
-    work.count(1);
     match selection {
         Selection::Field(field) => {
             put_text(work, 9, key_of(field), into);
@@ -61,7 +61,10 @@ fn put_selection(work: Work<'_>, selection: &Selection, into: &mut DefaultHasher
             put_selections(work, field.selections.as_slice(), into);
         }
         Selection::Spread { name, .. } => put_text(work, 10, name.text.as_str(), into),
-        Selection::Inline { selections, .. } => put_selections(work, selections.as_slice(), into),
+        Selection::Inline { selections, .. } => {
+            work.count(1);
+            put_selections(work, selections.as_slice(), into)
+        }
     }
 }
 

@@ -57,12 +57,14 @@ impl KeyHashing {
         let mut begun = StartHasher {
             inner: DefaultHasher::new(),
         };
+        let mut bytes: usize = 0;
         for field in fields {
             let key = key_of(field.field);
-            work.count(steps_of_text(key.len()));
+            bytes = bytes.wrapping_add(key.len());
             begun.write_usize(key.len());
             begun.write(key.as_bytes());
         }
+        work.count(steps_of_text(bytes));
         KeyHashing { begun }
     }
 }

@@ -54,11 +54,10 @@ fn add_selection<'a>(
     ensures parent { draft.new.parent ≡ draft.old.parent }
     ensures adds { OnOk result (AddsTo (source_setting source.now) (selection_tree selection.now) (map list_data lists.old.items) (map list_data lists.new.items) draft.old draft.new) }
 {
-    source.planning.work.take(1)?;
     match selection {
         Selection::Field(field) => add_field(alloc, source, field, lists, draft),
         Selection::Spread { name, directives } => {
-            source.planning.work.take(directives.len())?;
+            source.planning.work.take(directives.len().wrapping_add(1))?;
             if is_included(source.planning.variables, directives.as_slice()) {
                 add_spread(source, name.text.as_str(), draft)
             } else {
@@ -70,7 +69,7 @@ fn add_selection<'a>(
             directives,
             selections,
         } => {
-            source.planning.work.take(directives.len())?;
+            source.planning.work.take(directives.len().wrapping_add(1))?;
             if is_included(source.planning.variables, directives.as_slice()) {
                 add_inline(alloc, source, on, selections.as_slice(), lists, draft)
             } else {
@@ -78,6 +77,12 @@ fn add_selection<'a>(
             }
         }
     }
+}
+
+/// How many steps it is to look at a field and its directives, and to look for its response key.
+fn steps_of_field(field: &Field) -> usize {
+    let key = steps_of_text(key_of(field).len());
+    key.wrapping_add(field.directives.len()).wrapping_add(1)
 }
 
 #[cycle(prepare)]
@@ -92,11 +97,10 @@ fn add_field<'a>(
     ensures adds { OnOk result (AddsTo (source_setting source.now) (field_tree field.now) (map list_data lists.old.items) (map list_data lists.new.items) draft.old draft.new) }
 {
     let work = source.planning.work;
-    work.take(field.directives.len())?;
+    work.take(steps_of_field(field))?;
     if !is_included(source.planning.variables, field.directives.as_slice()) {
         return Ok(());
     }
-    work.take(steps_of_text(key_of(field).len()))?;
     if draft.repeats(field) {
         return Ok(());
     }
@@ -253,7 +257,6 @@ fn entries_of<'a>(
     ensures lists { IfOk result (λ _. Grows (source_setting source.now) [] (map list_data lists.new.items)) }
     ensures entries { IfOk result (λ entries. AreEntries (source_setting source.now).schema (map list_data lists.new.items) (map entry_data entries.items) (source_setting source.now).fragments) }
 {
-    source.planning.work.take(source.fragments.items().len())?;
     let mut entries = Vec::new(alloc);
     for reached in source.fragments.items() {
         let entry = add_entry(alloc, source, reached.fragment, lists)?;

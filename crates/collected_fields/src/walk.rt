@@ -1,4 +1,5 @@
-//! The walk over selection sets, where each fragment is entered once.
+//! The walk over selection sets, where each fragment is entered once. Its spreads and conditions are counted here; the numbers it begins with
+//! and the fields that it finds are counted by who asks for it.
 
 ghost use Rattle.std.specs.Prelude.{◌≡◌, ◌∷◌, [], ◌<◌, ◌≤◌, ◌+◌, ◌-◌, ℕ, false, true, map, length, replicate, slice_get, slice_set, nat_eq, IfOk, OnOk, get_or, option_map, if◌then◌else◌};
 ghost use Rattle.std.specs.List.{list_any};
@@ -228,7 +229,6 @@ fn walk_set<'a>(
 ) -> Result<(), AllocError>
     ensures { OnOk result (walk_data walk.new ≡ steps_from tables.now known.now reaches.now of.number depth 0 (list_steps tables.now known.now reaches.now of.number depth set) (walk_data walk.old)) }
 {
-    tables.planning.work.take(1)?;
     if reaches.misses(set, of) {
         walk.count(1);
         return Ok(());
@@ -264,10 +264,7 @@ fn walk_list<'a>(
     ensures { OnOk result (walk_data walk.new ≡ known_in tables.now known.now reaches.now of.number depth list (list ∷ []) (walk_data walk.old)) }
 {
     match known.of(list, of) {
-        Some(fields) => {
-            tables.planning.work.take(fields.len())?;
-            walk.take(fields)
-        }
+        Some(fields) => walk.take(fields),
         None => walk_set(tables, known, reaches, of, depth, list, walk),
     }
 }
@@ -335,6 +332,7 @@ fn walk_sets<'a>(
 ) -> Result<(), AllocError>
     ensures { OnOk result (walk_data walk.new ≡ sets_in tables.now known.now reaches.now of.number depth sets.now (walk_data walk.old)) }
 {
+    tables.planning.work.take(sets.len())?;
     for set in sets {
         walk_set(tables, known, reaches, of, depth, *set, walk)?;
     }
@@ -377,16 +375,12 @@ fn walk_number<'a>(
 ) -> Result<(), AllocError>
     ensures { OnOk result (walk_data walk.new ≡ (if is_missed (found_of lists.now number) of.number then walk_data walk.old else known_in tables.now known.now reaches.now of.number depth number (sets_in_joins joins.now number) (walk_data walk.old))) }
 {
-    tables.planning.work.take(1)?;
     if lists.misses(number, of) {
         walk.count(1);
         return Ok(());
     }
     match known.of(number, of) {
-        Some(fields) => {
-            tables.planning.work.take(fields.len())?;
-            walk.take(fields)
-        }
+        Some(fields) => walk.take(fields),
         None => walk_unknown(tables, joins, known, reaches, of, depth, number, walk),
     }
 }
