@@ -70,7 +70,6 @@ pub fn any_differs<'a>(
     ensures kept { AreKept (setting_of_planning planning.now) calls.old → AreKept (setting_of_planning planning.now) calls.new }
     ensures compares { AreKept (setting_of_planning planning.now) calls.old → ComparesAll planning.now of calls.old.made.items at others.now result }
 {
-    planning.work.take(others.len())?;
     let mut differ = false;
     for other in others {
         match differ_with(alloc, planning, of, at, differ, other, calls) {

@@ -15,8 +15,8 @@ use crate::lookups::{Handed, any_asks, key_of, name_of, types_below};
 use crate::node::{Looked, look_again};
 use crate::stop::{Stop, stopped, under};
 use crate::why::Why;
-use crate::written::steps_of;
 use collected_fields::{Collected, Collector, Group};
+use counted_work::steps_of_text;
 use input_values::TypeId;
 use plan_table::{NodeRow, Plan, size_from};
 use schema_model::{FieldId, Schema};
@@ -37,11 +37,10 @@ pub struct Building<'p, 'a> {
     pub known: Known<'p>,
 }
 
-/// How many steps it is to add the row of these fields.
-fn steps_of_row(field: &Collected<'_>, others: &[Collected<'_>]) -> usize {
-    steps_of(key_of(field), 1)
-        .saturating_add(steps_of(name_of(field), 1))
-        .saturating_add(others.len())
+/// How many steps it is to look at the node of a field and others, to compare them, and to add its row.
+fn steps_of_row(key: &str, name: &str, others: &[Collected<'_>]) -> usize {
+    let own = steps_of_text(key.len().wrapping_add(name.len())).wrapping_add(3);
+    own.wrapping_mul(others.len().wrapping_add(1))
 }
 
 /// The types of the objects that may stand at a field; none at `__typename`.
@@ -91,10 +90,12 @@ impl<'p, 'a> Building<'p, 'a> {
         ensures left { self.new.left ≡ self.old.left }
         ensures pushed { PushesRow self.old depth on.number first (field.now ∷ others.now) looked.now result self.new }
     {
-        self.calls.work.take(steps_of_row(field, others))?;
+        let text = key_of(field);
+        let called = name_of(field);
+        self.calls.work.take(steps_of_row(text, called, others))?;
         let asked = any_asks(self.plan.schema(), field, others);
-        let key = self.keys.row_key(alloc, key_of(field))?;
-        let name = self.keys.row_key(alloc, name_of(field))?;
+        let key = self.keys.row_key(alloc, text)?;
+        let name = self.keys.row_key(alloc, called)?;
         self.plan.push(NodeRow {
             key,
             depth,
@@ -143,9 +144,6 @@ impl<'p, 'a> Building<'p, 'a> {
         ensures ready { CanBuild self.old → CanBuild self.new }
         ensures built { BuildsTypes self.old depth result self.new types.now lists.now (handed_data handed.entry) }
     {
-        self.calls
-            .work
-            .count(types.len().saturating_mul(lists.len().saturating_add(1)));
         'types: for of in types {
             match self.build_type(alloc, depth, *of, lists, handed) {
                 Ok(()) => {}

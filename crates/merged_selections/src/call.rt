@@ -35,7 +35,7 @@ pub struct Call<'a> {
 fn hands<'a>(planning: &Planning<'a>, of: FieldId, args: &Args) -> Option<Handed<'a>>
     ensures { handed_data result ≡ handed_by (setting_of_planning planning.now) of.number (args_data args.now) }
 {
-    planning.work.count(planning.weights.slicing(of).len());
+    planning.work.count(args.list.len());
     let sized = planning.weights.sized_fields(of);
     match planning.weights.declared_size(of, args, None) {
         Ok(Size::Any) => None,

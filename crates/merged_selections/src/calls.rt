@@ -144,7 +144,6 @@ impl<'a> Calls<'a> {
         ensures grows { Grows self.old.made.items self.new.made.items }
     {
         let at = self.made.len();
-        self.work.count(call.sizes.list.len());
         let bytes = bytes_of(&call.sizes);
         self.places.insert(hash, at)?;
         self.made.push(call)?;

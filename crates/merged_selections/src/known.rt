@@ -13,9 +13,9 @@ ghost use Rattle.merged_selections.specs.Again.{IsFirstAsking, AreSome, HasSome,
 use crate::calls::Calls;
 use crate::lookups::Handed;
 use crate::node::{Looked, look};
-use crate::written::{are_more, steps_of};
+use crate::written::are_more;
 use collected_fields::{Collected, Group, Planning, asks};
-use counted_work::Work;
+use counted_work::{Work, steps_of_text};
 use gql_base::Text;
 use input_values::TypeId;
 use schema_model::Schema;
@@ -88,8 +88,8 @@ fn hash_of(of: TypeId, lists: &[usize], spread: Option<&str>) -> u64 {
 /// How many steps it is to look for a position.
 fn steps_of_place(lists: &[usize], spread: Option<&str>) -> usize {
     match spread {
-        Some(name) => steps_of(name, 2),
-        None => lists.len().saturating_add(1),
+        Some(name) => steps_of_text(name.len()).wrapping_add(1),
+        None => lists.len().wrapping_add(1),
     }
 }
 
@@ -441,7 +441,6 @@ impl<'a> Known<'a> {
         ensures kept { AreKept (setting_of_planning planning.now) calls.old → AreKept (setting_of_planning planning.now) calls.new }
         ensures known { (c : Collector) → planning_of c ≡ planning.now → AreKept (setting_of_planning planning.now) calls.old → MayBeKnown c of.number lists.now (name_in spread.entry) groups.now → AreKnown c self.old → AreKnown c self.new }
     {
-        self.work.take(fields_in(groups))?;
         let many = are_many(groups);
         if !many && !have_great(groups) {
             return Ok(());

@@ -11,7 +11,6 @@ use crate::call::Call;
 use crate::calls::Calls;
 use crate::lookups::{Handed, Meaning, handed_in, has_lists, lacks_types, meaning_on, name_of};
 use crate::why::Why;
-use crate::written::steps_of;
 use collected_fields::{Collected, Planning};
 use cost_directives::SizeSource;
 use input_values::TypeId;
@@ -33,10 +32,10 @@ pub struct Looked<'a> {
 
 /// How many steps it is to find the size of a field, and where it comes from: each looks at its slicing arguments, and one at the
 /// names to which a size is handed down.
-fn steps_of_size(planning: &Planning<'_>, of: FieldId, handed: Option<Handed<'_>>) -> usize {
-    let slicing = planning.weights.slicing(of).len().saturating_mul(2);
+fn steps_of_size(call: &Call<'_>, handed: Option<Handed<'_>>) -> usize {
+    let slicing = call.sizes.list.len();
     match handed {
-        Some(handed) => slicing.saturating_add(handed.sized.len()),
+        Some(handed) => slicing.wrapping_add(handed.sized.len()),
         None => slicing,
     }
 }
@@ -87,7 +86,7 @@ fn after_arguments<'a>(
 ) -> Result<Looked<'a>, Why>
     ensures { LooksAfterArguments planning.now of handed.entry first.now call.now result }
 {
-    planning.work.count(steps_of_size(planning, of, handed));
+    planning.work.count(steps_of_size(call, handed));
     let taken = handed_in(planning.schema, of, handed, name_of(first));
     match planning.weights.declared_size(of, &call.sizes, taken) {
         Ok(_) => {
@@ -170,7 +169,7 @@ pub fn look_again<'a>(
 }
 
 /// What is found of the node whose fields these are, for objects of a type, or the first test that it doesn't pass. `calls` are
-/// those that were made before.
+/// those that were made before. The fields are counted by who keeps what is found of them, or adds its row.
 pub fn look<'a>(
     alloc: Global,
     planning: &Planning<'a>,
@@ -184,9 +183,6 @@ pub fn look<'a>(
     ensures looks { AreKept (setting_of_planning planning.now) calls.old → LooksAt (setting_of_planning planning.now) of.number handed.entry (fields_seen first.now others.now) result }
 {
     let name = name_of(first);
-    planning
-        .work
-        .count(steps_of(name, others.len().saturating_add(1)));
     if names_differ(others, name) {
         return Err(Why::Conflict);
     }

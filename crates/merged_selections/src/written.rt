@@ -1,14 +1,6 @@
-//! How much is written: by arguments, and by texts. No promise rests on it.
+//! How much arguments write. No promise rests on it.
 
-use counted_work::steps_of_text;
 use gql_base::{Argument, Value};
-
-/// How many steps it is to compare or to write a text so many times.
-pub(crate) fn steps_of(text: &str, times: usize) -> usize {
-    steps_of_text(text.len())
-        .saturating_add(1)
-        .saturating_mul(times)
-}
 
 /// Whether some arguments write more values than so many.
 pub(crate) fn are_more(arguments: &[Argument], most: usize) -> bool {
