@@ -39,9 +39,11 @@ pub fn name_of<'a>(field: &Collected<'a>) -> &'a str
 }
 
 /// Takes the steps of copying the response key and the name of a field.
-pub fn take_texts(planning: &Planning<'_>, field: &Collected<'_>) -> Result<(), AllocError> {
-    planning.work.take(steps_of_text(key_of(field).len()))?;
-    planning.work.take(steps_of_text(name_of(field).len()))
+pub(crate) fn take_texts(planning: &Planning<'_>, field: &Collected<'_>) -> Result<(), AllocError> {
+    let key = key_of(field).len();
+    planning
+        .work
+        .take(steps_of_text(key.wrapping_add(name_of(field).len())))
 }
 
 /// What arguments come to. None are left where one is refused.
