@@ -109,6 +109,7 @@ def schemas():
     of_schema("schema 5 NoQuery", "type Root { a: Int }", "schema { query: Root } type Root { a: Int }")
     of_schema("schema 6 WrongKind", "type Query { a(by: By): Int } type By { n: Int }", "type Query { a(by: By): Int } input By { n: Int }")
     of_schema("schema 7 FloatScalar", "type Query { price: Float }", "type Query { price: Money } scalar Money")
+    of_schema("schema 7 FloatScalar", "type Query { price: Float }", "type Query { price: Float } scalar Float @floats")
     of_schema("schema 8 NestedList", "type Query { rows: [[Int]] }", "type Query { rows: [Row] } type Row { cells: [Int] }")
     of_schema("schema 9 EmptyType", "type Query { a: Page } type Page", "type Query { a: Page } type Page { n: Int }")
     of_schema("schema 10 NotImplemented", "interface I { a: Int } type Query implements I { b: Int }", "interface I { a: Int } type Query implements I { a: Int b: Int }")

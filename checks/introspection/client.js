@@ -5,11 +5,17 @@
 //
 // What isn't compared: the types of the schema of schemas, built-in scalars, and directives that the text doesn't define. graphql-js knows later fields
 // there, and it takes no definition of a built-in scalar. Possible types are compared as a set, since the gateway lists them in the order of types,
-// and defaults as values, since it prints them with other spaces.
+// and defaults as values, since it prints them with other spaces, and numbers with a fraction as they are written.
 const fs = require("fs");
 const graphql = require(process.env.GRAPHQL_JS || "/usr/share/nodejs/graphql");
 
 const usual = graphql.getIntrospectionQuery({ descriptions: true, specifiedByUrl: true, directiveIsRepeatable: true, schemaDescription: true });
+
+// A default as a text of its value: numbers with a fraction or an exponent by their doubles.
+function written(text) {
+  const number = (node) => ({ ...node, value: String(Number(node.value)) });
+  return graphql.print(graphql.visit(graphql.parseConstValue(text), { FloatValue: number }));
+}
 
 // The same whatever the order of possible types and the spaces of a default.
 function alike(value) {
@@ -18,7 +24,7 @@ function alike(value) {
   const found = {};
   for (const [key, it] of Object.entries(value)) {
     if (key === "possibleTypes" && it) found[key] = it.map((type) => type.name).sort();
-    else if (key === "defaultValue" && it) found[key] = graphql.print(graphql.parseConstValue(it));
+    else if (key === "defaultValue" && it) found[key] = written(it);
     else found[key] = alike(it);
   }
   return found;

@@ -1,11 +1,10 @@
 -- What is sent for a request is what is sent for each that asks the same.
-use Rattle.std.proofs.Common.{◌≡◌, ◌∙◌, ℕ, List, ◌∷◌, map, Option, Some, refl, ap, ap₂}
-use Rattle.gql_base.specs.ways.Reading.{Identifier}
+use Rattle.std.proofs.Common.{◌≡◌, ◌∙◌, ℕ, List, ◌∷◌, map, Some, refl, ap, ap₂}
 use Rattle.gql_base.specs.parts.Trees.{directive_tree}
 use Rattle.gql_base.specs.printing.Printing.{printed}
 use Rattle.serde_json.specs.Data.{Data}
 use Rattle.document_reader.specs.declared.trees.Operation.{Operation}
-use Rattle.document_reader.specs.Documents.{SelectionTrees, VariableTree, DefinitionTree, operation_tree}
+use Rattle.document_reader.specs.Documents.{operation_tree}
 use Rattle.document_reader.specs.Trees.{maybe_identifier, variable_tree, set_tree}
 use Rattle.document_reader.specs.PrintedDocuments.{document_symbols}
 use Rattle.document_rules.specs.Parts.{FragmentData}
@@ -19,7 +18,7 @@ use Rattle.acceptance.specs.Requests.{RequestData, Prepared, setting}
 use Rattle.acceptance.specs.Forwarding.{sent_body}
 use Rattle.acceptance.specs.AskAlike.{AskAlike}
 use Rattle.acceptance.proofs.AlikeOperations.{AreAlike}
-use Rattle.acceptance.proofs.AlikeRequests.{kept_alike, other, planning, planned_alike}
+use Rattle.acceptance.proofs.AlikeRequests.{kept_alike, other, planned_alike}
 use Rattle.acceptance.proofs.OneVerdict.{moved}
 
 -- the body of an operation with these fragments

@@ -1,18 +1,19 @@
--- What is coerced holds no float: a float is a fraction, and no type takes one (GraphQL October 2021, 3.5).
+-- What is coerced holds no float where no type takes one.
 use Rattle.std.proofs.Common.{◌≡◌, ◌∙◌, ℕ, List, [], ◌∷◌, Bool, true, false, ◌||◌, Option, Some, None, Ok, Err, bytes_eq, true≢false, refl, sym, ap, subst}
 use Rattle.std.specs.List.{list_all}
 use Rattle.std.proofs.lemmas.Bool.{or_from, and_parts}
 use Rattle.std.proofs.lemmas.Option.{none-some}
 use Rattle.serde_json.specs.Data.{Data, null, boolean, number, string, array, object, unsigned, negative, float, Items, no_items, item, Members, no_members, member}
-use Rattle.serde_json.specs.Find.{get_member}
+use Rattle.serde_json.specs.Find.{get_member, to_float}
 use Rattle.serde_json.specs.Written.{has_float, items_have_float, members_have_float}
 use Rattle.input_values.specs.values.Coerced.{CoercedTree, coerced_list, coerced_object, CoercedTrees, CoercedFields, coerced_then, coerced_field_then}
 use Rattle.input_values.specs.inputs.Shapes.{ShapeTree, named_shape, list_shape}
 use Rattle.input_values.specs.coercion.Answers.{Answer, both}
-use Rattle.input_values.specs.coercion.Given.{GivenFields, given_names, is_nothing}
+use Rattle.input_values.specs.coercion.Given.{GivenFields, bits_given, given_names, is_nothing}
+use Rattle.input_values.specs.values.Floats.{finite_bits}
 use Rattle.input_values.specs.coercion.Customs.{any_value, any_items, any_fields}
-use Rattle.input_values.specs.coercion.Forms.{FieldForm, is_field, InputForm, integer_form, string_form, boolean_form, id_form, custom_form, enum_form, object_form, no_form}
-use Rattle.input_values.specs.coercion.Leaves.{custom_at}
+use Rattle.input_values.specs.coercion.Forms.{FieldForm, is_field, InputForm, integer_form, string_form, boolean_form, id_form, float_form, custom_form, lax_form, enum_form, object_form, no_form}
+use Rattle.input_values.specs.coercion.Leaves.{custom_at, float_at}
 use Rattle.input_values.specs.coercion.Relation.{IsSingle, IsThere, Either, AreFields, NamesAreRight, IsObject, IsCoerced, AreCoerced, IsField}
 use Rattle.input_values.proofs.CoercionLaws.Found.{mapped_ok, no_ok}
 use Rattle.variable_coercion.specs.Json.{json_given, json_items, json_members}
@@ -26,38 +27,62 @@ both_are_ok f (Ok x) (Ok y) t is = (x, y, refl, refl)
 both_are_ok f (Ok x) (Err path) t is = no_ok path t is
 both_are_ok f (Err path) b t is = no_ok path t is
 
+no_bits : {P : Type 0} (bits : Option ℕ) (t : CoercedTree) → any_value false (bits_given bits) ≡ Ok t → P
+no_bits None t is = no_ok [] t is
+no_bits (Some bits) t is = no_ok [] t is
+
 mutual
-  any_floatless : (json : Data) (t : CoercedTree) → any_value (json_given json) ≡ Ok t → has_float json ≡ false
+  any_floatless : (json : Data) (t : CoercedTree) → any_value false (json_given json) ≡ Ok t → has_float json ≡ false
   any_floatless null t is = refl
   any_floatless (boolean b) t is = refl
   any_floatless (number (unsigned n)) t is = refl
   any_floatless (number (negative z)) t is = refl
-  any_floatless (number (float x)) t is = no_ok [] t is
+  any_floatless (number (float x)) t is = no_bits (finite_bits (to_float (float x))) t is
   any_floatless (string s) t is = refl
-  any_floatless (array items) t is = let m = mapped_ok coerced_list (any_items (json_items items)) t is in any_items_floatless items m.0 m.1
-  any_floatless (object ms) t is = let m = mapped_ok coerced_object (any_fields (json_members ms)) t is in any_members_floatless ms m.0 m.1
+  any_floatless (array items) t is = let m = mapped_ok coerced_list (any_items false (json_items items)) t is in any_items_floatless items m.0 m.1
+  any_floatless (object ms) t is = let m = mapped_ok coerced_object (any_fields false (json_members ms)) t is in any_members_floatless ms m.0 m.1
 
-  any_items_floatless : (items : Items) (ts : CoercedTrees) → any_items (json_items items) ≡ Ok ts → items_have_float items ≡ false
+  any_items_floatless : (items : Items) (ts : CoercedTrees) → any_items false (json_items items) ≡ Ok ts → items_have_float items ≡ false
   any_items_floatless no_items ts is = refl
   any_items_floatless (item json others) ts is =
-      let m = both_are_ok coerced_then (any_value (json_given json)) (any_items (json_items others)) ts is in
+      let m = both_are_ok coerced_then (any_value false (json_given json)) (any_items false (json_items others)) ts is in
       or_from (has_float json) (items_have_float others) (any_floatless json m.0 m.2) (any_items_floatless others m.1 m.3)
 
-  any_members_floatless : (ms : Members) (cs : CoercedFields) → any_fields (json_members ms) ≡ Ok cs → members_have_float ms ≡ false
+  any_members_floatless : (ms : Members) (cs : CoercedFields) → any_fields false (json_members ms) ≡ Ok cs → members_have_float ms ≡ false
   any_members_floatless no_members cs is = refl
   any_members_floatless (member key json others) cs is =
-      let m = both_are_ok (coerced_field_then key) (any_value (json_given json)) (any_fields (json_members others)) cs is in
+      let m = both_are_ok (coerced_field_then key) (any_value false (json_given json)) (any_fields false (json_members others)) cs is in
       or_from (has_float json) (members_have_float others) (any_floatless json m.0 m.2) (any_members_floatless others m.1 m.3)
 
-custom_only : (form : InputForm) (a : Answer CoercedTree) (t : CoercedTree) → custom_at form a ≡ Ok t → a ≡ Ok t
-custom_only custom_form a t is = is
-custom_only integer_form a t is = no_ok [] t is
-custom_only string_form a t is = no_ok [] t is
-custom_only boolean_form a t is = no_ok [] t is
-custom_only id_form a t is = no_ok [] t is
-custom_only (enum_form names) a t is = no_ok [] t is
-custom_only (object_form fields) a t is = no_ok [] t is
-custom_only no_form a t is = no_ok [] t is
+-- no number with a fraction is taken
+abbrev pub IsWhole : InputForm → Type 0
+IsWhole float_form = ⊥
+IsWhole lax_form = ⊥
+IsWhole form = Unit {0}
+
+custom_only : (form : InputForm) (any : Bool → Answer CoercedTree) (t : CoercedTree) → IsWhole form → custom_at form any ≡ Ok t → any false ≡ Ok t
+custom_only custom_form any t whole is = is
+custom_only lax_form any t whole is = absurd whole
+custom_only float_form any t whole is = absurd whole
+custom_only integer_form any t whole is = no_ok [] t is
+custom_only string_form any t whole is = no_ok [] t is
+custom_only boolean_form any t whole is = no_ok [] t is
+custom_only id_form any t whole is = no_ok [] t is
+custom_only (enum_form names) any t whole is = no_ok [] t is
+custom_only (object_form fields) any t whole is = no_ok [] t is
+custom_only no_form any t whole is = no_ok [] t is
+
+no_float_at : {P : Type 0} (form : InputForm) (bits : ℕ) (t : CoercedTree) → IsWhole form → float_at form bits ≡ Ok t → P
+no_float_at float_form bits t whole is = absurd whole
+no_float_at lax_form bits t whole is = absurd whole
+no_float_at custom_form bits t whole is = no_ok [] t is
+no_float_at integer_form bits t whole is = no_ok [] t is
+no_float_at string_form bits t whole is = no_ok [] t is
+no_float_at boolean_form bits t whole is = no_ok [] t is
+no_float_at id_form bits t whole is = no_ok [] t is
+no_float_at (enum_form names) bits t whole is = no_ok [] t is
+no_float_at (object_form fields) bits t whole is = no_ok [] t is
+no_float_at no_form bits t whole is = no_ok [] t is
 
 -- ---- choices
 
@@ -73,12 +98,16 @@ there : (Is : CoercedTree → Type 0) (o : Option CoercedTree) → IsThere Is o 
 there Is None is = absurd is
 there Is (Some t) is = (t, is)
 
+some_bits : (bits : Option ℕ) → is_nothing (bits_given bits) ≡ false
+some_bits None = refl
+some_bits (Some bits) = refl
+
 something : (json : Data) → is_nothing (json_given json) ≡ false
 something null = refl
 something (boolean b) = refl
 something (number (unsigned n)) = refl
 something (number (negative z)) = refl
-something (number (float x)) = refl
+something (number (float x)) = some_bits (finite_bits (to_float (float x)))
 something (string s) = refl
 something (array items) = refl
 something (object ms) = refl
@@ -113,18 +142,21 @@ module _ (form : ℕ → InputForm) where
 
   object_only : (ms : Members) (x : InputForm) (u : CoercedTree) (P : Type 0)
       → (AllAreFields ms → P)
-      → (any_value (json_given (object ms)) ≡ Ok u → P)
-      → IsObject x (λ inputs v. NamesAreRight true inputs (given_names (json_members ms)) × (cs : CoercedFields) × (v ≡ coerced_object cs) × AreFields inputs (λ f o. IsField form f.name (json_members ms) f o) cs) (any_value (json_given (object ms))) u
+      → (any_value false (json_given (object ms)) ≡ Ok u → P)
+      → IsWhole x
+      → IsObject x (λ inputs v. NamesAreRight true inputs (given_names (json_members ms)) × (cs : CoercedFields) × (v ≡ coerced_object cs) × AreFields inputs (λ f o. IsField form f.name (json_members ms) f o) cs) (λ lax. any_value lax (json_given (object ms))) u
       → P
-  object_only ms (object_form inputs) u P fields any is =
+  object_only ms (object_form inputs) u P fields any whole is =
       fields (λ key d some. field_of_name (json_members ms) key inputs is.1 (name_passes (is_field inputs) key d ms is.0.0 some) is.3)
-  object_only ms custom_form u P fields any is = any is
-  object_only ms integer_form u P fields any is = absurd is
-  object_only ms string_form u P fields any is = absurd is
-  object_only ms boolean_form u P fields any is = absurd is
-  object_only ms id_form u P fields any is = absurd is
-  object_only ms (enum_form names) u P fields any is = absurd is
-  object_only ms no_form u P fields any is = absurd is
+  object_only ms custom_form u P fields any whole is = any is
+  object_only ms lax_form u P fields any whole is = absurd whole
+  object_only ms float_form u P fields any whole is = absurd whole
+  object_only ms integer_form u P fields any whole is = absurd is
+  object_only ms string_form u P fields any whole is = absurd is
+  object_only ms boolean_form u P fields any whole is = absurd is
+  object_only ms id_form u P fields any whole is = absurd is
+  object_only ms (enum_form names) u P fields any whole is = absurd is
+  object_only ms no_form u P fields any whole is = absurd is
 
   first_field : (key : List ℕ) (json : Data) (others : Members) (f : FieldForm) (o : Option CoercedTree)
       → IsField form key (json_members (member key json others)) f o → (t : CoercedTree) × IsCoerced form (json_given json) f.shape t
@@ -144,33 +176,38 @@ module _ (form : ℕ → InputForm) where
       let field = are name d (found_later name key json others (λ same. apart (sym same)) ∙ some) in
       (field.0, field.1, later_field key name json others field.0 field.1 apart field.2)
 
+  bits_refused : {P : Type 0} → ((of : ℕ) → IsWhole (form of)) → (bits : Option ℕ) (shape : ShapeTree) (t : CoercedTree) → IsCoerced form (bits_given bits) shape t → P
+  unfolding IsCoerced AreCoerced IsField
+  bits_refused whole None shape t is = absurd is
+  bits_refused {P = P} whole (Some bits) shape t is = single_only P (λ of u. float_at (form of) bits ≡ Ok u) shape t (λ of u h. no_float_at (form of) bits u (whole of) h) is
+
   mutual
     unfolding IsCoerced AreCoerced IsField
 
-    pub coerced_floatless : (json : Data) (shape : ShapeTree) (t : CoercedTree) → HasEachKeyOnce json → IsCoerced form (json_given json) shape t → has_float json ≡ false
-    coerced_floatless null shape t once is = refl
-    coerced_floatless (boolean b) shape t once is = refl
-    coerced_floatless (number (unsigned n)) shape t once is = refl
-    coerced_floatless (number (negative z)) shape t once is = refl
-    coerced_floatless (number (float x)) shape t once is = absurd is
-    coerced_floatless (string s) shape t once is = refl
-    coerced_floatless (array items) (named_shape of nullable) t once is = any_floatless (array items) t (custom_only (form of) (any_value (json_given (array items))) t is)
-    coerced_floatless (array items) (list_shape shape nullable) t once is = items_floatless items shape is.0 once is.2
-    coerced_floatless (object ms) shape t once is =
+    pub coerced_floatless : ((of : ℕ) → IsWhole (form of)) → (json : Data) (shape : ShapeTree) (t : CoercedTree) → HasEachKeyOnce json → IsCoerced form (json_given json) shape t → has_float json ≡ false
+    coerced_floatless whole null shape t once is = refl
+    coerced_floatless whole (boolean b) shape t once is = refl
+    coerced_floatless whole (number (unsigned n)) shape t once is = refl
+    coerced_floatless whole (number (negative z)) shape t once is = refl
+    coerced_floatless whole (number (float x)) shape t once is = bits_refused whole (finite_bits (to_float (float x))) shape t is
+    coerced_floatless whole (string s) shape t once is = refl
+    coerced_floatless whole (array items) (named_shape of nullable) t once is = any_floatless (array items) t (custom_only (form of) (λ lax. any_value lax (json_given (array items))) t (whole of) is)
+    coerced_floatless whole (array items) (list_shape shape nullable) t once is = items_floatless whole items shape is.0 once is.2
+    coerced_floatless whole (object ms) shape t once is =
         single_only (members_have_float ms ≡ false) _ shape t
-        (λ of u h. object_only ms (form of) u (members_have_float ms ≡ false) (members_floatless ms once) (any_floatless (object ms) u) h)
+        (λ of u h. object_only ms (form of) u (members_have_float ms ≡ false) (members_floatless whole ms once) (any_floatless (object ms) u) (whole of) h)
         is
 
-    items_floatless : (items : Items) (shape : ShapeTree) (ts : CoercedTrees) → ItemsHaveEachKeyOnce items → AreCoerced form (json_items items) shape ts → items_have_float items ≡ false
-    items_floatless no_items shape ts once are = refl
-    items_floatless (item json others) shape ts once are =
-        or_from (has_float json) (items_have_float others) (coerced_floatless json shape are.0 once.0 are.3) (items_floatless others shape are.1 once.1 are.4)
+    items_floatless : ((of : ℕ) → IsWhole (form of)) → (items : Items) (shape : ShapeTree) (ts : CoercedTrees) → ItemsHaveEachKeyOnce items → AreCoerced form (json_items items) shape ts → items_have_float items ≡ false
+    items_floatless whole no_items shape ts once are = refl
+    items_floatless whole (item json others) shape ts once are =
+        or_from (has_float json) (items_have_float others) (coerced_floatless whole json shape are.0 once.0 are.3) (items_floatless whole others shape are.1 once.1 are.4)
 
-    members_floatless : (ms : Members) → MembersHaveEachKeyOnce ms → AllAreFields ms → members_have_float ms ≡ false
-    members_floatless no_members once are = refl
-    members_floatless (member key json others) once are =
+    members_floatless : ((of : ℕ) → IsWhole (form of)) → (ms : Members) → MembersHaveEachKeyOnce ms → AllAreFields ms → members_have_float ms ≡ false
+    members_floatless whole no_members once are = refl
+    members_floatless whole (member key json others) once are =
         let field = are key json (found_here key json others) in
         let first = first_field key json others field.0 field.1 field.2 in
         or_from (has_float json) (members_have_float others)
-        (coerced_floatless json field.0.shape first.0 once.1 first.1)
-        (members_floatless others once.2 (later_fields key json others once.0 are))
+        (coerced_floatless whole json field.0.shape first.0 once.1 first.1)
+        (members_floatless whole others once.2 (later_fields key json others once.0 are))

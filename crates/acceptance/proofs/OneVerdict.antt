@@ -1,6 +1,6 @@
 -- A request has one verdict.
 use Rattle.std.proofs.Common.{◌≡◌, ◌≤◌, ◌<◌, ◌⊎◌, inl, inr, ◌∙◌, ℕ, List, Bool, true, false, Option, None, Some, Result, Ok, Err, refl, sym, ap, ap₂, subst, arith}
-use Rattle.std.specs.Prelude.{◌≢◌, ◌↔◌, IsTrue}
+use Rattle.std.specs.Prelude.{◌↔◌, IsTrue}
 use Rattle.std.proofs.lemmas.Option.{same_Some}
 use Rattle.cost_num.specs.declared.Cost.{Cost}
 use Rattle.cost_num.proofs.Costs.{cost_eq}
@@ -24,7 +24,7 @@ use Rattle.variable_coercion.specs.Calls.{variable_told, argument_told}
 use Rattle.cost_directives.specs.declared.sizes.SizeFault.{SizeFault}
 use Rattle.merged_selections.specs.declared.fault.PlanFault.{PlanFault}
 use Rattle.merged_selections.specs.declared.fault.PlanFault.TheVariants.{Argument, Conflict, Size, NoPossibleType, TooLarge, TooDeep, Memory as NoPlanMemory}
-use Rattle.merged_selections.specs.Faults.{path_text, IsFaultAt, IsArgumentAt, IsTold}
+use Rattle.merged_selections.specs.Faults.{path_text, IsFaultAt, IsTold}
 use Rattle.plan_model.specs.SelectedFields.{Setting}
 use Rattle.plan_model.specs.Visits.{NodeFault, too_deep, conflict, refused_argument, refused_size, no_possible_type, PlanAnswer, planned_well, faulty, too_large}
 use Rattle.plan_model.specs.Operations.{setting_of, operation_answer, root_place, root_position, IsOperationBound}
@@ -32,7 +32,7 @@ use Rattle.static_cost.specs.PassedOn.{Plan}
 use Rattle.static_cost.specs.declared.too_costly.TooCostly.{TooCostly}
 use Rattle.acceptance.specs.declared.fault.Refusal.{Refusal}
 use Rattle.acceptance.specs.declared.fault.Refusal.TheVariants.{Document, Pick, Rule, Variable, Plan as NoPlan, Bound}
-use Rattle.acceptance.specs.Requests.{RequestData, AsksFor, KeepsRules, AreValues, Prepared, setting, plan_answer}
+use Rattle.acceptance.specs.Requests.{RequestData, AsksFor, AreValues, Prepared, setting, plan_answer}
 use Rattle.acceptance.specs.Bounds.{IsBoundFor, ExceedsCap, NamesExceeding, HasBound, IsAffordable, IsAccepted}
 use Rattle.cost_num.specs.declared.TheConstants.{CAP}
 use Rattle.response_model.specs.Response.{Tree}

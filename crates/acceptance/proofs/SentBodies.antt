@@ -1,7 +1,8 @@
 -- What was checked for a request is what is prepared of it.
-use Rattle.std.proofs.Common.{◌≡◌, ◌∙◌, ℕ, List, map, false, sym, ap, subst}
+use Rattle.std.proofs.Common.{◌≡◌, ◌∙◌, ℕ, List, map, false, Some, IsUtf8, sym, ap, subst}
 use Rattle.std.proofs.lemmas.Option.{same_Some}
 use Rattle.serde_json.specs.Data.{Data}
+use Rattle.serde_json.specs.Read.{read}
 use Rattle.serde_json.specs.Written.{has_float, compact_text}
 use Rattle.gql_base.specs.printing.Printing.{printed}
 use Rattle.document_reader.specs.declared.trees.Definition.{Definition}
@@ -16,12 +17,15 @@ use Rattle.document_rules.specs.Checking.{reached_by}
 use Rattle.document_rules.specs.Sites.{type_of_kind}
 use Rattle.typename_rewrite.specs.AddedNames.{names_of_document, IsAlias}
 use Rattle.typename_rewrite.specs.Rewriting.{rewritten_document}
-use Rattle.typename_rewrite.specs.ForwardedBodies.{body_data}
+use Rattle.response_model.proofs.WrittenTexts.{value_compact}
+use Rattle.schema_model.specs.SchemaData.{has_floats}
+use Rattle.typename_rewrite.specs.ForwardedBodies.{body_data, IsWrittenBody}
+use Rattle.typename_rewrite.proofs.ReadBodies.{body_so, body_deep}
 use Rattle.typename_rewrite.specs.Views.{fragment_seen, rewritten_of}
 use Rattle.merged_selections.proofs.BuiltPlans.{seen_fragments}
 use Rattle.acceptance.specs.Requests.{RequestData, Prepared, IsCheckFor, setting}
 use Rattle.acceptance.specs.Keys.{HasEachKeyOnce}
-use Rattle.acceptance.specs.Forwarding.{IsFreeIn, sent_document, sent_body, IsSentText}
+use Rattle.acceptance.specs.Forwarding.{IsFreeIn, sent_document, sent_text, sent_body, IsGivenAsRead, IsSentText}
 use Rattle.acceptance.proofs.OneVerdict.{same_operation}
 use Rattle.acceptance.proofs.SentFloats.{sent_floatless}
 
@@ -49,11 +53,20 @@ module _ (r : RequestData) (c : Checked) (check : IsCheckFor r c) (p : Prepared 
       ap (λ (o : Operation). body_data o text r.given) prepared_operation
       ∙ ap (λ (t : List ℕ). body_data p.operation t r.given) (is ∙ ap (λ (ds : List DefinitionTree). printed (document_symbols ds)) (same_document alias))
 
-  pub same_text : (alias text body : List ℕ) (json : Data) → json ≡ sent_body r p alias → (has_float json ≡ false → body ≡ compact_text json) → IsSentText r p alias body
-  same_text alias text body json same written = λ once. subst (λ (d : Data). has_float d ≡ false → body ≡ compact_text d) same written (sent_floatless r p alias once)
+  pub same_text : (alias body : List ℕ) (json : Data) → json ≡ sent_body r p alias → IsUtf8 body → IsWrittenBody json body → (has_float json ≡ false → body ≡ compact_text json) → IsSentText r p alias body
+  same_text alias body json same utf8 written plain = record {
+    compact = λ given.
+        let as_read = body_so p.operation (sent_text r p alias) r.given given.as_read in
+        let shallow = body_deep p.operation (sent_text r p alias) r.given given.within in
+        value_compact (sent_body r p alias) body utf8 shallow (subst (λ (d : Data). IsWrittenBody d body) same written as_read shallow);
+    plain = λ once none. subst (λ (d : Data). has_float d ≡ false → body ≡ compact_text d) same plain (sent_floatless r p alias none once);
+  }
 
 pub free_alias : (r : RequestData) (c : Checked) (alias : List ℕ) → IsCheckFor r c → IsAlias (names_of_document (map definition_tree c.document.now.definitions.items)) alias → IsFreeIn r alias
 free_alias r c alias check is = subst (λ (ds : List Definition). IsAlias (names_of_document (map definition_tree ds)) alias) check.of.document is
 
-pub one_text : (r : RequestData) (p : Prepared r) (alias text other : List ℕ) → HasEachKeyOnce r.given → IsSentText r p alias text → IsSentText r p alias other → text ≡ other
-one_text r p alias text other once is same = is once ∙ sym (same once)
+pub one_text : (r : RequestData) (p : Prepared r) (alias text other : List ℕ) → has_floats r.schema ≡ false → HasEachKeyOnce r.given → IsSentText r p alias text → IsSentText r p alias other → text ≡ other
+one_text r p alias text other none once is same = is.plain once none ∙ sym (same.plain once none)
+
+pub sent_read : (r : RequestData) (p : Prepared r) (alias text : List ℕ) → IsGivenAsRead r → IsSentText r p alias text → read text ≡ Some (sent_body r p alias)
+sent_read r p alias text given is = (is.compact given).is_read

@@ -1,13 +1,17 @@
 -- What is sent to the upstream for a request.
-use Rattle.std.specs.Prelude.{◌≡◌, ℕ, List, map}
-use Rattle.serde_json.specs.Data.{Data}
+use Rattle.std.specs.Prelude.{◌≡◌, ◌<◌, ℕ, List, map, false}
+use Rattle.serde_json.specs.Data.{Data, depth}
+use Rattle.serde_json.specs.Read.{max_depth}
 use Rattle.serde_json.specs.Written.{compact_text}
+use Rattle.response_model.specs.WrittenJson.{IsCompact}
+use Rattle.schema_model.specs.SchemaData.{has_floats}
 use Rattle.gql_base.specs.printing.Printing.{printed}
 use Rattle.document_reader.specs.Documents.{DefinitionTree}
 use Rattle.document_reader.specs.Trees.{definition_tree}
 use Rattle.document_reader.specs.PrintedDocuments.{document_symbols}
 use Rattle.typename_rewrite.specs.Rewriting.{rewritten_document}
 use Rattle.typename_rewrite.specs.AddedNames.{names_of_document, IsAlias}
+use Rattle.typename_rewrite.specs.ReadJson.{IsAsRead}
 use Rattle.typename_rewrite.specs.ForwardedBodies.{body_data}
 use Rattle.acceptance.specs.Requests.{RequestData, Prepared, setting}
 use Rattle.acceptance.specs.Keys.{HasEachKeyOnce}
@@ -28,6 +32,13 @@ sent_text r p alias = printed (document_symbols (sent_document r p alias))
 abbrev pub sent_body : (r : RequestData) → Prepared r → List ℕ → Data
 sent_body r p alias = body_data p.operation (sent_text r p alias) r.given
 
--- The text is that of the body, where each key stands once in what is given.
-abbrev pub IsSentText : (r : RequestData) → Prepared r → List ℕ → List ℕ → Type 0
-IsSentText r p alias text = HasEachKeyOnce r.given → text ≡ compact_text (sent_body r p alias)
+-- What is given for the variables comes from a reader, and leaves a level of nesting to the body.
+pub record IsGivenAsRead (r : RequestData) : Type 0 where
+  pub as_read : IsAsRead r.given
+  pub within : depth r.given < max_depth
+
+-- The text is a compact one of the body, where what is given comes from a reader; and in a schema without floats just the compact text, where each key
+-- stands once in what is given.
+pub record IsSentText (r : RequestData) (p : Prepared r) (alias text : List ℕ) : Type 0 where
+  pub compact : IsGivenAsRead r → IsCompact (sent_body r p alias) text
+  pub plain : HasEachKeyOnce r.given → has_floats r.schema ≡ false → text ≡ compact_text (sent_body r p alias)

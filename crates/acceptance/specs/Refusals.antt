@@ -1,5 +1,5 @@
 -- What a request is refused for: the first test that it doesn't pass.
-use Rattle.std.specs.Prelude.{◌≡◌, ◌≢◌, ℕ, List, Option, Some, Result, Err}
+use Rattle.std.specs.Prelude.{◌≡◌, ◌≢◌, ℕ, Bool, List, Option, Some, Result, Err}
 use Rattle.document_reader.specs.declared.trees.Operation.{Operation}
 use Rattle.document_reader.specs.Picking.{picked}
 use Rattle.document_reader.specs.DocumentAnswers.{HasDocumentFault}
@@ -63,10 +63,10 @@ TellsPlan fault (Refused (Plan told)) = (told ≡ fault) × (fault ≢ NoPlanMem
 TellsPlan fault (Refused other) = ⊥
 TellsPlan fault Memory = fault ≡ NoPlanMemory
 
--- The text is no document, with this fault.
-abbrev pub IsUnread : List ℕ → Refusal → Type 0
-IsUnread text (Document fault) = HasDocumentFault text fault
-IsUnread text other = ⊥
+-- The text is no document, with this fault, where floats are let in or aren't.
+abbrev pub IsUnread : Bool → List ℕ → Refusal → Type 0
+IsUnread floats text (Document fault) = HasDocumentFault floats text fault
+IsUnread floats text other = ⊥
 
 -- where it is a refusal, this holds of it
 abbrev pub IfRefused : AcceptFault → (Refusal → Type 0) → Type 0

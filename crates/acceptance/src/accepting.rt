@@ -25,12 +25,12 @@ use static_cost::{Plan, bound};
 use std::alloc::Global;
 use variable_coercion::{CoerceFault, Variables, coerce_variables, what_arguments_see};
 
-/// The document that a text is, or why it is refused.
-pub fn read(alloc: Global, text: &str) -> Result<Document, AcceptFault>
-    ensures found { IfOk result (IsDocumentOf text.now) }
-    ensures refused { IfErr result (λ fault. IfRefused fault (IsUnread text.now)) }
+/// The document that a text is, where floats are let in or aren't; or why it is refused.
+pub fn read(alloc: Global, text: &str, floats: bool) -> Result<Document, AcceptFault>
+    ensures found { IfOk result (IsDocumentOf floats text.now) }
+    ensures refused { IfErr result (λ fault. IfRefused fault (IsUnread floats text.now)) }
 {
-    match read_document(alloc, text) {
+    match read_document(alloc, text, floats) {
         Ok(document) => Ok(document),
         Err(DocFault::Memory) => Err(AcceptFault::Memory),
         Err(fault) => Err(AcceptFault::Refused(Refusal::Document(fault))),

@@ -21,7 +21,8 @@ pub struct Forwarded {
 }
 
 /// What is sent to the upstream for an operation that was checked and whose variables have values. The text is said where each
-/// object in what is given has each key once, as in all JSON that was read; the body then holds no float.
+/// object in what is given has each key once, as in all JSON that was read. Of a number that isn't whole it says only that it reads as it is given; a
+/// schema without floats lets none be sent.
 ///
 /// # Errors
 ///

@@ -15,7 +15,8 @@ ghost use Rattle.acceptance.specs.Texts.{refusal_text};
 ghost use Rattle.acceptance.specs.Refusals.{IsRefusedFor};
 ghost use Rattle.acceptance.specs.AskAlike.{AskAlike};
 ghost use Rattle.acceptance.specs.Keys.{HasEachKeyOnce};
-ghost use Rattle.acceptance.specs.Forwarding.{sent_body, IsSentText};
+ghost use Rattle.acceptance.specs.Forwarding.{sent_body, IsGivenAsRead, IsSentText};
+ghost use Rattle.schema_model.specs.SchemaData.{has_floats};
 
 use plan_model::laws::{operations_planned_well, responses_of_a_plan};
 use response_model::laws::{greatest_is_bound, one_bound};
@@ -70,9 +71,15 @@ pub fn read_values_have_each_key_once()
     ensures member { (json value : Data) (key : List ℕ) → HasEachKeyOnce json → get key json ≡ Some value → HasEachKeyOnce value }
 {}
 
-/// A body that is sent holds no float. The values of the declared variables are coerced, and no type takes a float; other
+/// For a schema without floats a body that is sent holds none. The values of the declared variables are coerced, and no type takes a float; other
 /// values that are given aren't sent. So one text is sent for one request under one alias.
 pub fn sent_bodies_hold_no_float()
-    ensures no_float { (r : RequestData) (p : Prepared r) (alias : List ℕ) → HasEachKeyOnce r.given → has_float (sent_body r p alias) ≡ false }
-    ensures one_text { (r : RequestData) (p : Prepared r) (alias text other : List ℕ) → HasEachKeyOnce r.given → IsSentText r p alias text → IsSentText r p alias other → text ≡ other }
+    ensures no_float { (r : RequestData) (p : Prepared r) (alias : List ℕ) → has_floats r.schema ≡ false → HasEachKeyOnce r.given → has_float (sent_body r p alias) ≡ false }
+    ensures one_text { (r : RequestData) (p : Prepared r) (alias text other : List ℕ) → has_floats r.schema ≡ false → HasEachKeyOnce r.given → IsSentText r p alias text → IsSentText r p alias other → text ≡ other }
+{}
+
+/// Whatever the schema: all texts that are sent for one request under one alias are read as the same JSON, which is its body.
+pub fn sent_texts_are_read_alike()
+    ensures read { (r : RequestData) (p : Prepared r) (alias text : List ℕ) → IsGivenAsRead r → IsSentText r p alias text → read_text text ≡ Some (sent_body r p alias) }
+    ensures alike { (r : RequestData) (p : Prepared r) (alias text other : List ℕ) → IsGivenAsRead r → IsSentText r p alias text → IsSentText r p alias other → read_text text ≡ read_text other }
 {}

@@ -1,6 +1,6 @@
 -- What is kept of a field's arguments: of the first of them, whether it is true, and which name it is.
 use Rattle.std.specs.Prelude.{ℕ, Bool, false, List, [], ◌∷◌, Option, None, Some}
-use Rattle.input_values.specs.values.Coerced.{CoercedTree, coerced_null, coerced_integer, coerced_string, coerced_boolean, coerced_enum, coerced_list, coerced_object}
+use Rattle.input_values.specs.values.Coerced.{CoercedTree, coerced_null, coerced_integer, coerced_float, coerced_string, coerced_boolean, coerced_enum, coerced_list, coerced_object}
 use Rattle.schema_model.specs.Arguments.{ArgData}
 use Rattle.asked_fields.specs.declared.asked.Argument.{Argument}
 
@@ -14,6 +14,7 @@ is_true_value None = false
 is_true_value (Some (coerced_boolean b)) = b
 is_true_value (Some coerced_null) = false
 is_true_value (Some (coerced_integer z)) = false
+is_true_value (Some (coerced_float z)) = false
 is_true_value (Some (coerced_string s)) = false
 is_true_value (Some (coerced_enum name)) = false
 is_true_value (Some (coerced_list items)) = false
@@ -25,6 +26,7 @@ place_of_value place None = None
 place_of_value place (Some (coerced_string name)) = place name
 place_of_value place (Some coerced_null) = None
 place_of_value place (Some (coerced_integer z)) = None
+place_of_value place (Some (coerced_float z)) = None
 place_of_value place (Some (coerced_boolean b)) = None
 place_of_value place (Some (coerced_enum name)) = None
 place_of_value place (Some (coerced_list items)) = None

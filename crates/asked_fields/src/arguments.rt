@@ -29,6 +29,7 @@ fn is_true(value: &Coerced) -> bool
         Coerced::Bool(is) => *is,
         Coerced::Null => false,
         Coerced::Int(_) => false,
+        Coerced::Float(_) => false,
         Coerced::Str(_) => false,
         Coerced::EnumName(_) => false,
         Coerced::List(_) => false,
@@ -61,6 +62,7 @@ fn place_named<N: Named + Drop>(
         }
         Coerced::Null => None,
         Coerced::Int(_) => None,
+        Coerced::Float(_) => None,
         Coerced::Bool(_) => None,
         Coerced::EnumName(_) => None,
         Coerced::List(_) => None,

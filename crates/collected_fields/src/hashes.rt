@@ -25,6 +25,7 @@ fn put_value(work: Work<'_>, value: &Value, into: &mut DefaultHasher) {
             into.write_u8(2);
             into.write_i128(*number);
         }
+        Value::Float(text) => put_text(work, 11, text.as_str(), into),
         Value::Str(text) => put_text(work, 3, text.as_str(), into),
         Value::Bool(truth) => into.write_u8(if *truth { 4 } else { 5 }),
         Value::Null => into.write_u8(6),

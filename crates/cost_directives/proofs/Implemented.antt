@@ -113,7 +113,7 @@ module _ (form : ℕ → InputForm) (items : List ItemTree) (types : List NamedK
   has_wanted : (of above : ℕ) (name : List ℕ) (wanted : FieldDraft) → list_any (nat_eq above) (draft_at ds of).interfaces ≡ true → field_among (draft_at ds above).fields name ≡ Some wanted → has_field ds (draft_at ds of).fields wanted ≡ true
   has_wanted of above name wanted among found =
       let t = draft_at ds of in
-      let lacks_none : lack_at ds t ≡ None = none_at (lack_at ds) ds (bare [] Scalar None) of refl kept in
+      let lacks_none : lack_at ds t ≡ None = none_at (lack_at ds) ds (bare [] Scalar None false) of refl kept in
       let no_field_lacks : lacking_field ds t.fields t.interfaces ≡ None = unlacking (lacks_interfaces ds t.interfaces t.interfaces) (at_type t.name) t.name (lacking_field ds t.fields t.interfaces) lacks_none in
       let none_of_it : lacking_of ds t.fields above ≡ None = none_among (lacking_of ds t.fields) t.interfaces above among no_field_lacks in
       untold (has_field ds t.fields wanted) wanted.name (none_found (lacking_at ds t.fields) (has_name_of name) (draft_at ds above).fields wanted found none_of_it)

@@ -5,7 +5,7 @@ use Rattle.std.specs.Prelude.{ℕ, ◌+◌, List, [], ◌∷◌, get_or, Option,
 use Rattle.cost_num.specs.declared.TheConstants.{UNIT}
 use Rattle.gql_base.specs.names.Names.{first_of_name}
 use Rattle.input_values.specs.inputs.Shapes.{ShapeTree, named_shape, list_shape}
-use Rattle.input_values.specs.values.Coerced.{CoercedTree, CoercedTrees, CoercedFields, NamedTree, coerced_null, coerced_integer, coerced_string, coerced_boolean, coerced_enum, coerced_list, coerced_object, no_coerced, coerced_then, no_coerced_field, coerced_field_then}
+use Rattle.input_values.specs.values.Coerced.{CoercedTree, CoercedTrees, CoercedFields, NamedTree, coerced_null, coerced_integer, coerced_float, coerced_string, coerced_boolean, coerced_enum, coerced_list, coerced_object, no_coerced, coerced_then, no_coerced_field, coerced_field_then}
 use Rattle.schema_model.specs.Arguments.{ArgData}
 
 -- an argument or a field of an input object, with the weight of its own `@cost`
@@ -58,6 +58,7 @@ unfoldable mutual
   pub value_cost : ObjectInputs → ShapeTree → Option ℕ → CoercedTree → ℕ
   value_cost objects shape own coerced_null = 0
   value_cost objects shape own (coerced_integer z) = leaf_cost own
+  value_cost objects shape own (coerced_float z) = leaf_cost own
   value_cost objects shape own (coerced_string s) = leaf_cost own
   value_cost objects shape own (coerced_boolean b) = leaf_cost own
   value_cost objects shape own (coerced_enum name) = leaf_cost own

@@ -1,7 +1,7 @@
 -- The declared size of a list field (IBM GraphQL Cost Directives Specification, `@listSize`).
 use Rattle.std.specs.Prelude.{ℕ, max, ℤ, nat_abs, pos, int_lt, nat_eq, Bool, true, false, not, ◌&&◌, List, [], ◌∷◌, map, length, get_or, Option, None, Some, Result, Ok, Err, if◌then◌else◌}
 use Rattle.std.specs.List.{list_any, filter, filter_map}
-use Rattle.input_values.specs.values.Coerced.{CoercedTree, coerced_null, coerced_integer, coerced_string, coerced_boolean, coerced_enum, coerced_list, coerced_object, is_coerced_null}
+use Rattle.input_values.specs.values.Coerced.{CoercedTree, coerced_null, coerced_integer, coerced_float, coerced_string, coerced_boolean, coerced_enum, coerced_list, coerced_object, is_coerced_null}
 use Rattle.schema_rules.specs.First.{or_else, fault_where, first_of}
 use Rattle.schema_model.specs.Schemas.{as_int}
 use Rattle.schema_model.specs.Arguments.{ArgData}
@@ -55,6 +55,7 @@ slicing_count args = if list_any is_supplied args then length (filter is_given a
 
 abbrev pub int_in : CoercedTree → Option ℤ
 int_in (coerced_integer z) = as_int z
+int_in (coerced_float bits) = None
 int_in coerced_null = None
 int_in (coerced_string s) = None
 int_in (coerced_boolean b) = None

@@ -61,6 +61,7 @@ pub fn value_cost(value: &Coerced, types: &[TypeWeight], shape: &Shape, own: Opt
         Coerced::Object(fields) => record_cost(fields.as_slice(), types, shape, own),
         Coerced::Shared(held) => value_cost(held, types, shape, own),
         Coerced::Int(_) => leaf_cost(own),
+        Coerced::Float(_) => leaf_cost(own),
         Coerced::Str(_) => leaf_cost(own),
         Coerced::Bool(_) => leaf_cost(own),
         Coerced::EnumName(_) => leaf_cost(own),

@@ -89,6 +89,7 @@ fn int_in(value: &Coerced) -> Option<i32>
     match value {
         Coerced::Int(number) => as_int(*number),
         Coerced::Null => None,
+        Coerced::Float(_) => None,
         Coerced::Str(_) => None,
         Coerced::Bool(_) => None,
         Coerced::EnumName(_) => None,

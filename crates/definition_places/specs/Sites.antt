@@ -159,4 +159,4 @@ first_site text place seen (t ∷ ts) =
 
 -- It is the byte at which the thing with this text is defined, if the text has tokens.
 abbrev pub IsDefinedAt : List ℕ → List ℕ → Option ℕ → Type 0
-IsDefinedAt text place at = (tokens : List Token) → Lexes text tokens → at ≡ first_site text place at_first tokens
+IsDefinedAt text place at = (tokens : List Token) → Lexes true text tokens → at ≡ first_site text place at_first tokens

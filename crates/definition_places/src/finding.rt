@@ -62,7 +62,7 @@ fn no_site(fault: LexFault) -> Result<Option<usize>, AllocError>
 pub fn defined_at(alloc: Global, text: &str, place: &str) -> Result<Option<usize>, AllocError>
     ensures { IfOk result (IsDefinedAt text.now place.now) }
 {
-    match lex(alloc, text) {
+    match lex(alloc, text, true) {
         Ok(tokens) => first_site(alloc, text, place, &tokens),
         Err(fault) => no_site(fault),
     }

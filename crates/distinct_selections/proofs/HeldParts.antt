@@ -1,6 +1,6 @@
 -- A list and an object beside the parts of another value.
 use Rattle.std.proofs.Common.{◌≡◌, Bool, false, Option, None, Some, refl, sym, ap, ◌∙◌}
-use Rattle.input_values.specs.values.Coerced.{CoercedTree, CoercedTrees, CoercedFields, coerced_null, coerced_integer, coerced_string, coerced_boolean, coerced_enum, coerced_list, coerced_object}
+use Rattle.input_values.specs.values.Coerced.{CoercedTree, CoercedTrees, CoercedFields, coerced_null, coerced_integer, coerced_float, coerced_string, coerced_boolean, coerced_enum, coerced_list, coerced_object}
 use Rattle.plan_model.specs.SameArguments.{same_value, same_items, same_fields}
 use Rattle.distinct_selections.specs.ComparedValues.{items_in, fields_in}
 
@@ -16,6 +16,7 @@ list_beside : (items : CoercedTrees) (t : CoercedTree) → same_value (coerced_l
 unfolding same_value
 list_beside items coerced_null = refl
 list_beside items (coerced_integer z) = refl
+list_beside items (coerced_float z) = refl
 list_beside items (coerced_string s) = refl
 list_beside items (coerced_boolean b) = refl
 list_beside items (coerced_enum name) = refl
@@ -26,6 +27,7 @@ object_beside : (fields : CoercedFields) (t : CoercedTree) → same_value (coerc
 unfolding same_value
 object_beside fields coerced_null = refl
 object_beside fields (coerced_integer z) = refl
+object_beside fields (coerced_float z) = refl
 object_beside fields (coerced_string s) = refl
 object_beside fields (coerced_boolean b) = refl
 object_beside fields (coerced_enum name) = refl

@@ -7,16 +7,16 @@ use Rattle.gql_base.specs.names.Names.{first_of_name}
 use Rattle.gql_base.specs.parts.Trees.{named_value, value_tree}
 use Rattle.gql_base.specs.parts.Values.{NamedValue}
 use Rattle.gql_base.proofs.Lists.{at_front}
-use Rattle.gql_base.proofs.PartLaws.ValueSteps.{variable_tree, integer_tree, string_tree, boolean_tree, null_tree, enum_tree, list_tree, object_tree}
+use Rattle.gql_base.proofs.PartLaws.ValueSteps.{variable_tree, integer_tree, float_tree, string_tree, boolean_tree, null_tree, enum_tree, list_tree, object_tree}
 use Rattle.gql_base.proofs.PrintingLaws.PrintSteps.{open_argument}
 use Rattle.input_values.specs.coercion.Literals.{Environment}
-use Rattle.input_values.proofs.CoercedTrees.{null_made, integer_made, string_made, boolean_made, enum_made, list_made, object_made, shared_made}
+use Rattle.input_values.proofs.CoercedTrees.{null_made, integer_made, float_made, string_made, boolean_made, enum_made, list_made, object_made, shared_made}
 use Rattle.plan_model.specs.SelectedFields.{argument_name}
 use Rattle.plan_model.specs.Collecting.{truth_in}
 
-pub ruleset held = (null_made, integer_made, string_made, boolean_made, enum_made, list_made, object_made, shared_made)
+pub ruleset held = (null_made, integer_made, float_made, string_made, boolean_made, enum_made, list_made, object_made, shared_made)
 
-pub ruleset written = (variable_tree, integer_tree, string_tree, boolean_tree, null_tree, enum_tree, list_tree, object_tree)
+pub ruleset written = (variable_tree, integer_tree, float_tree, string_tree, boolean_tree, null_tree, enum_tree, list_tree, object_tree)
 
 -- the truth of the first argument `if`
 abbrev pub truth_of_first : Environment → List Argument → Option Bool

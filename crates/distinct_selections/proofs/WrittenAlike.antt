@@ -6,14 +6,14 @@ use Rattle.std.proofs.lemmas.Slice.Eq.{bytes_eq-Decides}
 use Rattle.gql_base.specs.declared.parts.trees.Name.{Name}
 use Rattle.gql_base.specs.declared.parts.trees.Value.{Value}
 use Rattle.gql_base.specs.declared.parts.trees.Value.TheViews.{List as ListValue, Object as ObjectValue}
-use Rattle.gql_base.specs.declared.parts.trees.Value.TheBlock.{Var as VarValue, Int as IntValue, Str as StrValue, Bool as BoolValue, Null as NullValue, EnumName as EnumValue}
+use Rattle.gql_base.specs.declared.parts.trees.Value.TheBlock.{Var as VarValue, Int as IntValue, Float as FloatValue, Str as StrValue, Bool as BoolValue, Null as NullValue, EnumName as EnumValue}
 use Rattle.gql_base.specs.declared.parts.trees.Argument.{Argument}
-use Rattle.gql_base.specs.parts.Values.{ValueTree, variable_value, integer_value, string_value, boolean_value, null_value, enum_value, list_value, object_value, NamedValue, values_from, fields_from}
+use Rattle.gql_base.specs.parts.Values.{ValueTree, variable_value, integer_value, float_value, string_value, boolean_value, null_value, enum_value, list_value, object_value, NamedValue, values_from, fields_from}
 use Rattle.gql_base.specs.parts.Trees.{value_tree, named_value}
 use Rattle.std.proofs.lemmas.Bool.{eqb-true}
 use Rattle.plan_model.proofs.SameValues.{truth_equal}
 use Rattle.gql_base.proofs.PrintingLaws.PrintSteps.{open_argument}
-use Rattle.gql_base.proofs.PartLaws.ValueSteps.{variable_tree, integer_tree, string_tree, boolean_tree, null_tree, enum_tree, list_tree, object_tree}
+use Rattle.gql_base.proofs.PartLaws.ValueSteps.{variable_tree, integer_tree, float_tree, string_tree, boolean_tree, null_tree, enum_tree, list_tree, object_tree}
 use Rattle.input_values.specs.coercion.Given.{Given, GivenItems, no_given, given_then, GivenFields, no_given_field, given_field_then, given_list, given_object, given_name, given_string, given_integer, given_boolean}
 use Rattle.input_values.specs.coercion.Literals.{Environment, literal_given, literal_items, literal_fields, variable_given}
 use Rattle.plan_model.specs.SameArguments.{same_truth}
@@ -78,8 +78,12 @@ is_enum r n m value is same h = leaf_alike value (enum_value n.text n.at) (enum_
 pub is_string : (r : Bool) (a b : List ℕ) (value : Value) → value ≡ StrValue b → r ≡ bytes_eq a b → IsTrue r → GivesAlike (string_value a) (value_tree value)
 is_string r a b value is same h = leaf_alike value (string_value a) (string_value b) (ap value_tree is ∙ string_tree b) (λ values. ap given_string (equal_texts r a b same h))
 
+pub is_float : (r : Bool) (a b : List ℕ) (value : Value) → value ≡ FloatValue b → r ≡ bytes_eq a b → IsTrue r → GivesAlike (float_value a) (value_tree value)
+is_float r a b value is same h = leaf_alike value (float_value a) (float_value b) (ap value_tree is ∙ float_tree b) (λ values. ap (λ digits. literal_given values (float_value digits)) (equal_texts r a b same h))
+
 pub is_integer : (a : ℤ) (t : ValueTree) → is_the_integer a t ≡ true → GivesAlike (integer_value a) t
 is_integer a (integer_value b) h = λ values. ap given_integer ((Decides-int_eq a b).0 h)
+is_integer a (float_value b) h = absurd (cc)
 is_integer a (variable_value name at) h = absurd (cc)
 is_integer a (string_value s) h = absurd (cc)
 is_integer a (boolean_value b) h = absurd (cc)

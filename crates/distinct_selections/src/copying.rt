@@ -57,6 +57,7 @@ fn copy_value<'a>(
     match value {
         Value::Var(name) => Ok(Value::Var(copy_variable(alloc, stand_ins, name)?)),
         Value::Int(number) => Ok(Value::Int(*number)),
+        Value::Float(text) => Ok(Value::Float(Text::copy_of(alloc, text.as_str())?)),
         Value::Str(text) => Ok(Value::Str(Text::copy_of(alloc, text.as_str())?)),
         Value::Bool(truth) => Ok(Value::Bool(*truth)),
         Value::Null => Ok(Value::Null),

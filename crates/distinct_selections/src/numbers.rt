@@ -105,6 +105,7 @@ impl<'a> Numbers<'a> {
                 words.push(self.integer(*number)?)?;
                 Ok(())
             }
+            Value::Float(text) => self.put_text(20, text.as_str(), words),
             Value::Str(text) => self.put_text(3, text.as_str(), words),
             Value::Bool(truth) => {
                 words.push(if *truth { 4 } else { 5 })?;

@@ -1,7 +1,7 @@
 //! When the arguments of two fields are equal, by their coerced values (GraphQL October 2021, 5.3.2).
 
 ghost use Rattle.std.specs.Prelude.{◌≡◌, Some, map, option_map};
-ghost use Rattle.input_values.specs.values.Coerced.{coerced_tree, named_tree, trees_from, named_trees_from, coerced_null, coerced_integer, coerced_string, coerced_boolean, coerced_enum, coerced_list, coerced_object};
+ghost use Rattle.input_values.specs.values.Coerced.{coerced_tree, named_tree, trees_from, named_trees_from, coerced_null, coerced_integer, coerced_float, coerced_string, coerced_boolean, coerced_enum, coerced_list, coerced_object};
 ghost use Rattle.schema_model.specs.Arguments.{arg_data, args_data};
 ghost use Rattle.plan_model.specs.SameArguments.{same_value, same_items, same_fields, same_argument, same_arguments};
 ghost use Rattle.distinct_selections.specs.ComparedValues.{same_named, items_in, fields_in};
@@ -19,6 +19,7 @@ fn is_null(value: &Coerced) -> bool
     match value {
         Coerced::Null => true,
         Coerced::Int(_) => false,
+        Coerced::Float(_) => false,
         Coerced::Str(_) => false,
         Coerced::Bool(_) => false,
         Coerced::EnumName(_) => false,
@@ -34,6 +35,7 @@ fn is_integer(number: i128, value: &Coerced) -> bool
 {
     match value {
         Coerced::Int(other) => number == *other,
+        Coerced::Float(_) => false,
         Coerced::Null => false,
         Coerced::Str(_) => false,
         Coerced::Bool(_) => false,
@@ -45,6 +47,23 @@ fn is_integer(number: i128, value: &Coerced) -> bool
 }
 
 #[tactic(auto, unfolding(plan_model::specs::SameArguments::same_value), using(crate::proofs::Opened::coerced_parts))]
+fn is_float(bits: u64, value: &Coerced) -> bool
+    ensures { result ≡ same_value (coerced_float bits) (coerced_tree value.now) }
+{
+    match value {
+        Coerced::Float(other) => bits == *other,
+        Coerced::Null => false,
+        Coerced::Int(_) => false,
+        Coerced::Str(_) => false,
+        Coerced::Bool(_) => false,
+        Coerced::EnumName(_) => false,
+        Coerced::List(_) => false,
+        Coerced::Object(_) => false,
+        Coerced::Shared(held) => is_float(bits, held),
+    }
+}
+
+#[tactic(auto, unfolding(plan_model::specs::SameArguments::same_value), using(crate::proofs::Opened::coerced_parts))]
 fn is_string(work: Work<'_>, text: &Text, value: &Coerced) -> bool
     ensures { result ≡ same_value (coerced_string text.now) (coerced_tree value.now) }
 {
@@ -52,6 +71,7 @@ fn is_string(work: Work<'_>, text: &Text, value: &Coerced) -> bool
         Coerced::Str(other) => same_text(work, text, other),
         Coerced::Null => false,
         Coerced::Int(_) => false,
+        Coerced::Float(_) => false,
         Coerced::Bool(_) => false,
         Coerced::EnumName(_) => false,
         Coerced::List(_) => false,
@@ -68,6 +88,7 @@ fn is_truth(truth: bool, value: &Coerced) -> bool
         Coerced::Bool(other) => truth == *other,
         Coerced::Null => false,
         Coerced::Int(_) => false,
+        Coerced::Float(_) => false,
         Coerced::Str(_) => false,
         Coerced::EnumName(_) => false,
         Coerced::List(_) => false,
@@ -84,6 +105,7 @@ fn is_enum(work: Work<'_>, name: &Text, value: &Coerced) -> bool
         Coerced::EnumName(other) => same_text(work, name, other),
         Coerced::Null => false,
         Coerced::Int(_) => false,
+        Coerced::Float(_) => false,
         Coerced::Str(_) => false,
         Coerced::Bool(_) => false,
         Coerced::List(_) => false,
@@ -102,6 +124,7 @@ fn items_held(value: &Coerced) -> Option<&[Coerced]>
         Coerced::Shared(held) => items_held(held),
         Coerced::Null => None,
         Coerced::Int(_) => None,
+        Coerced::Float(_) => None,
         Coerced::Str(_) => None,
         Coerced::Bool(_) => None,
         Coerced::EnumName(_) => None,
@@ -119,6 +142,7 @@ fn fields_held(value: &Coerced) -> Option<&[CoercedField]>
         Coerced::Shared(held) => fields_held(held),
         Coerced::Null => None,
         Coerced::Int(_) => None,
+        Coerced::Float(_) => None,
         Coerced::Str(_) => None,
         Coerced::Bool(_) => None,
         Coerced::EnumName(_) => None,
@@ -136,6 +160,7 @@ pub(crate) fn same_value(work: Work<'_>, value: &Coerced, other: &Coerced) -> bo
     match value {
         Coerced::Null => is_null(other),
         Coerced::Int(number) => is_integer(*number, other),
+        Coerced::Float(bits) => is_float(*bits, other),
         Coerced::Str(text) => is_string(work, text, other),
         Coerced::Bool(truth) => is_truth(*truth, other),
         Coerced::EnumName(name) => is_enum(work, name, other),

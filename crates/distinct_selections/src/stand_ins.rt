@@ -83,6 +83,10 @@ fn hash_value(work: Work<'_>, value: &Coerced, left: usize, hasher: &mut FoldHas
             hasher.write_usize(2);
             hasher.write_i128(*number);
         }
+        Coerced::Float(bits) => {
+            hasher.write_usize(11);
+            hasher.write_u64(*bits);
+        }
         Coerced::Str(text) => return hash_text(work, 3, text.as_str(), left - 1, hasher),
         Coerced::Bool(truth) => hasher.write_usize(if *truth { 4 } else { 5 }),
         Coerced::EnumName(name) => return hash_text(work, 6, name.as_str(), left - 1, hasher),

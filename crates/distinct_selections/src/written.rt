@@ -3,7 +3,7 @@
 
 ghost use Rattle.std.specs.Prelude.{◌≡◌, IsTrue, map};
 ghost use Rattle.std.specs.Str.{bytes_eq};
-ghost use Rattle.gql_base.specs.parts.Values.{variable_value, string_value, boolean_value, null_value, enum_value, list_value, object_value, values_from, fields_from};
+ghost use Rattle.gql_base.specs.parts.Values.{variable_value, float_value, string_value, boolean_value, null_value, enum_value, list_value, object_value, values_from, fields_from};
 ghost use Rattle.gql_base.specs.parts.Trees.{value_tree, named_value};
 ghost use Rattle.plan_model.specs.SameArguments.{same_truth};
 ghost use Rattle.plan_model.specs.GivenAlike.{GivesAlike, GiveAlike, IsGivenAlike, AreGivenAlike};
@@ -37,6 +37,7 @@ fn is_variable(work: Work<'_>, name: &Name, value: &Value) -> bool
     match value {
         Value::Var(other) => same_text(work, &name.text, &other.text),
         Value::Int(_) => false,
+        Value::Float(_) => false,
         Value::Str(_) => false,
         Value::Bool(_) => false,
         Value::Null => false,
@@ -52,7 +53,24 @@ fn is_integer(number: &i128, value: &Value) -> bool
 {
     match value {
         Value::Int(other) => *number == *other,
+        Value::Float(_) => false,
         Value::Var(_) => false,
+        Value::Str(_) => false,
+        Value::Bool(_) => false,
+        Value::Null => false,
+        Value::EnumName(_) => false,
+        Value::List(_) => false,
+        Value::Object(_) => false,
+    }
+}
+
+fn is_float(work: Work<'_>, text: &Text, value: &Value) -> bool
+    ensures { IsTrue result → GivesAlike (float_value text.now) (value_tree value.now) }
+{
+    match value {
+        Value::Float(other) => same_text(work, text, other),
+        Value::Var(_) => false,
+        Value::Int(_) => false,
         Value::Str(_) => false,
         Value::Bool(_) => false,
         Value::Null => false,
@@ -69,6 +87,7 @@ fn is_string(work: Work<'_>, text: &Text, value: &Value) -> bool
         Value::Str(other) => same_text(work, text, other),
         Value::Var(_) => false,
         Value::Int(_) => false,
+        Value::Float(_) => false,
         Value::Bool(_) => false,
         Value::Null => false,
         Value::EnumName(_) => false,
@@ -84,6 +103,7 @@ fn is_truth(truth: bool, value: &Value) -> bool
         Value::Bool(other) => same_truth(truth, *other),
         Value::Var(_) => false,
         Value::Int(_) => false,
+        Value::Float(_) => false,
         Value::Str(_) => false,
         Value::Null => false,
         Value::EnumName(_) => false,
@@ -99,6 +119,7 @@ fn is_null(value: &Value) -> bool
         Value::Null => true,
         Value::Var(_) => false,
         Value::Int(_) => false,
+        Value::Float(_) => false,
         Value::Str(_) => false,
         Value::Bool(_) => false,
         Value::EnumName(_) => false,
@@ -114,6 +135,7 @@ fn is_enum(work: Work<'_>, name: &Name, value: &Value) -> bool
         Value::EnumName(other) => same_text(work, &name.text, &other.text),
         Value::Var(_) => false,
         Value::Int(_) => false,
+        Value::Float(_) => false,
         Value::Str(_) => false,
         Value::Bool(_) => false,
         Value::Null => false,
@@ -133,6 +155,7 @@ fn alike(work: Work<'_>, value: &Value, other: &Value) -> bool
     match value {
         Value::Var(name) => is_variable(work, name, other),
         Value::Int(number) => is_integer(number, other),
+        Value::Float(text) => is_float(work, text, other),
         Value::Str(text) => is_string(work, text, other),
         Value::Bool(truth) => is_truth(*truth, other),
         Value::Null => is_null(other),
@@ -150,6 +173,7 @@ fn alike_list(work: Work<'_>, items: &[Value], value: &Value) -> bool
         Value::List(others) => alike_items(work, items, others.as_slice()),
         Value::Var(_) => false,
         Value::Int(_) => false,
+        Value::Float(_) => false,
         Value::Str(_) => false,
         Value::Bool(_) => false,
         Value::Null => false,
@@ -166,6 +190,7 @@ fn alike_object(work: Work<'_>, fields: &[Argument], value: &Value) -> bool
         Value::Object(others) => alike_arguments(work, fields, others.as_slice()),
         Value::Var(_) => false,
         Value::Int(_) => false,
+        Value::Float(_) => false,
         Value::Str(_) => false,
         Value::Bool(_) => false,
         Value::Null => false,

@@ -2,7 +2,7 @@
 use Rattle.std.proofs.Common.{ℕ, true, false, [], None, Some, refl}
 use Rattle.std.specs.Prelude.{codes, map}
 use Rattle.gql_base.specs.declared.lexical.token.TokenKind.TheVariants.{Dollar, Colon, Equals}
-use Rattle.gql_base.specs.ways.Symbols.{punctuator, identifier, integer, string}
+use Rattle.gql_base.specs.ways.Symbols.{punctuator, identifier, integer, decimal, string}
 use Rattle.gql_base.specs.ways.Grammar.{Single, Pair, Image, Optional}
 use Rattle.gql_base.specs.parts.OperationKinds.{kind_word}
 use Rattle.gql_base.specs.ways.Reading.{some_second}
@@ -34,6 +34,7 @@ kind_alike = single_alike kind_word whole same
     same (identifier bytes at) = whole_option _
     same (punctuator kind) = refl
     same (integer value) = refl
+    same (decimal bytes) = refl
     same (string value) = refl
 
 operation_head_alike : (d : ℕ) → Alike (IsOperationHead d) (both maybe_name_placeless (both (map variable_placeless) (map directive_placeless)))

@@ -5,7 +5,7 @@ use Rattle.std.specs.Prelude.{codes, map}
 use Rattle.std.specs.Str.{bytes_eq}
 use Rattle.std.specs.Option.{option_map}
 use Rattle.gql_base.specs.declared.lexical.token.TokenKind.TheVariants.{Colon, At, Spread, OpenParen, CloseParen, OpenBrace, CloseBrace}
-use Rattle.gql_base.specs.ways.Symbols.{punctuator, identifier, integer, string}
+use Rattle.gql_base.specs.ways.Symbols.{punctuator, identifier, integer, decimal, string}
 use Rattle.gql_base.specs.ways.Reading.{exact, Identifier, second, keyword, inside, some_second}
 use Rattle.gql_base.specs.ways.Grammar.{Nested, Single, Pair, Image, Optional, OneOrMore}
 use Rattle.gql_base.specs.parts.Values.{NamedValue, named_value_of}
@@ -27,6 +27,7 @@ word_alike word = single_alike (keyword word) whole same
     same (identifier bytes at) = whole_option _
     same (punctuator kind) = refl
     same (integer value) = refl
+    same (decimal bytes) = refl
     same (string value) = refl
 
 unless_placeless : (b : Bool) (bytes : List ℕ) (at : ℕ) → option_map name_placeless (unless b (bytes, at)) ≡ unless b (bytes, 0)
@@ -40,6 +41,7 @@ fragment_name_alike = single_alike fragment_name name_placeless same
     same (identifier bytes at) = unless_placeless (bytes_eq bytes (codes "on")) bytes at
     same (punctuator kind) = refl
     same (integer value) = refl
+    same (decimal bytes) = refl
     same (string value) = refl
 
 -- things in parentheses

@@ -12,13 +12,13 @@ use Rattle.gql_base.specs.declared.lexical.token.TokenKind.TheVariants.{Dollar, 
 use Rattle.gql_base.specs.declared.parts.trees.OperationKind.{OperationKind}
 use Rattle.gql_base.specs.declared.parts.trees.OperationKind.TheVariants.{Query, Mutation, Subscription}
 use Rattle.gql_base.specs.lexical.Characters.{is_name_continue}
-use Rattle.gql_base.specs.ways.Symbols.{Symbol, punctuator, identifier, integer, string, Symbols}
+use Rattle.gql_base.specs.ways.Symbols.{Symbol, punctuator, identifier, integer, decimal, string, Symbols}
 use Rattle.gql_base.specs.ways.Reading.{Identifier, exact, any_name, second, some_second}
 use Rattle.gql_base.specs.ways.Grammar.{Nested, plain, Single, Pair, Image, Optional, Repeated}
 use Rattle.gql_base.specs.parts.Values.{named_value_of}
 use Rattle.gql_base.specs.printing.PrintedTrees.{printed_name}
 use Rattle.gql_base.specs.printing.PlacelessSymbols.{placeless_symbol}
-use Rattle.gql_base.specs.printing.PrintableSymbols.{IsPrintable}
+use Rattle.gql_base.specs.printing.PrintableSymbols.{IsTextual}
 use Rattle.gql_base.proofs.WayLaws.ReadingLaws.{plain_append}
 use Rattle.gql_base.proofs.PrintingLaws.PrintedSymbols.{bare, bare_bracketed, value_is_bare, type_is_bare}
 use Rattle.gql_base.specs.parts.OperationKinds.{kind_word}
@@ -41,6 +41,7 @@ bare_fragment_name = bare_single fragment_name (λ name. printed_name name.0) sa
     same (punctuator kind) a e = cc
     same (identifier bytes at) a e = unless_same _ (bytes, at) a e
     same (integer value) a e = cc
+    same (decimal bytes) a e = cc
     same (string value) a e = cc
 
 -- arguments and directives
@@ -138,6 +139,7 @@ kind_bare = bare_single kind_word (λ k. printed_name (kind_name k)) same
     same (identifier bytes at) k e = by_tests bytes k (bytes_eq bytes (codes "query")) (bytes_eq bytes (codes "mutation")) (bytes_eq bytes (codes "subscription"))
         (bytes_eq-Decides bytes (codes "query")).0 (bytes_eq-Decides bytes (codes "mutation")).0 (bytes_eq-Decides bytes (codes "subscription")).0 e
     same (integer value) k e = cc
+    same (decimal bytes) k e = cc
     same (string value) k e = cc
 
 operation_head_bare : {d : ℕ} → Bare (IsOperationHead d) (λ p. maybe_name_symbols p.0 ++ (variables_symbols p.1.0 ++ directives_symbols p.1.1))
@@ -158,35 +160,36 @@ fragment_bare {d = d} = bare_image fragment_of (bare_pair head (set_bare d)) (λ
 
 -- what can be printed
 
-symbol_printable : (w : Symbol) → IsPrintable w → IsPrintable (placeless_symbol w)
-symbol_printable (punctuator kind) is = is
-symbol_printable (identifier bytes at) is = is
-symbol_printable (integer value) is = is
-symbol_printable (string value) is = is
+symbol_textual : (floats : Bool) (w : Symbol) → IsTextual floats w → IsTextual floats (placeless_symbol w)
+symbol_textual floats (punctuator kind) is = is
+symbol_textual floats (identifier bytes at) is = is
+symbol_textual floats (integer value) is = is
+symbol_textual floats (decimal bytes) is = is
+symbol_textual floats (string value) is = is
 
-bare_printable : (ws : Nested) → All IsPrintable (plain ws) → All IsPrintable (bare ws)
-bare_printable [] all = All-nil IsPrintable
-bare_printable (w ∷ ws) all = All-cons IsPrintable (placeless_symbol w.0) (bare ws) (symbol_printable w.0 (All-head IsPrintable w.0 (plain ws) all)) (bare_printable ws (All-tail IsPrintable w.0 (plain ws) all))
+bare_textual : (floats : Bool) (ws : Nested) → All (IsTextual floats) (plain ws) → All (IsTextual floats) (bare ws)
+bare_textual floats [] all = All-nil (IsTextual floats)
+bare_textual floats (w ∷ ws) all = All-cons (IsTextual floats) (placeless_symbol w.0) (bare ws) (symbol_textual floats w.0 (All-head (IsTextual floats) w.0 (plain ws) all)) (bare_textual floats ws (All-tail (IsTextual floats) w.0 (plain ws) all))
 
-query_printable : IsPrintable (printed_name (codes "query"))
-query_printable = ((refl, AllPass-from_list_all is_name_continue (codes "uery") refl), tt)
+query_textual : (floats : Bool) → IsTextual floats (printed_name (codes "query"))
+query_textual floats = (refl, AllPass-from_list_all is_name_continue (codes "uery") refl)
 
-definition_printable : (t : DefinitionTree) (ws : Nested) → IsDefinition 0 t ws → All IsPrintable (plain ws) → All IsPrintable (definition_symbols t)
+definition_textual : (floats : Bool) (t : DefinitionTree) (ws : Nested) → IsDefinition 0 t ws → All (IsTextual floats) (plain ws) → All (IsTextual floats) (definition_symbols t)
 unfolding IsDefinition
-definition_printable t ws (inl is) all =
-    subst (All IsPrintable) (sym (ap definition_symbols is.1 ∙ ap (λ (l : Symbols). printed_name (codes "query") ∷ l) (set_is_bare 0 is.0 ws is.2)))
-    (All-cons IsPrintable (printed_name (codes "query")) (bare ws) query_printable (bare_printable ws all))
-definition_printable t ws (inr (inl is)) all = subst (All IsPrintable) (sym (fragment_bare.says t ws is)) (bare_printable ws all)
-definition_printable t ws (inr (inr is)) all = subst (All IsPrintable) (sym (operation_bare.says t ws is)) (bare_printable ws all)
+definition_textual floats t ws (inl is) all =
+    subst (All (IsTextual floats)) (sym (ap definition_symbols is.1 ∙ ap (λ (l : Symbols). printed_name (codes "query") ∷ l) (set_is_bare 0 is.0 ws is.2)))
+    (All-cons (IsTextual floats) (printed_name (codes "query")) (bare ws) (query_textual floats) (bare_textual floats ws all))
+definition_textual floats t ws (inr (inl is)) all = subst (All (IsTextual floats)) (sym (fragment_bare.says t ws is)) (bare_textual floats ws all)
+definition_textual floats t ws (inr (inr is)) all = subst (All (IsTextual floats)) (sym (operation_bare.says t ws is)) (bare_textual floats ws all)
 
-definitions_printable : (ts : List DefinitionTree) (ws : Nested) → Repeated (IsDefinition 0) ts ws → All IsPrintable (plain ws) → All IsPrintable (flat_map definition_symbols ts)
-definitions_printable [] ws are all = All-nil IsPrintable
-definitions_printable (t ∷ ts) ws are all =
-    let both : All IsPrintable (plain are.0 ++ plain are.1) = subst (All IsPrintable) (ap plain are.2 ∙ plain_append are.0 are.1) all in
-    All-append IsPrintable (definition_symbols t) (flat_map definition_symbols ts)
-    (definition_printable t are.0 are.3 (subst (All IsPrintable) (take_at (plain are.0) (plain are.1) (length (plain are.0)) refl) (All-take IsPrintable (length (plain are.0)) (plain are.0 ++ plain are.1) both)))
-    (definitions_printable ts are.1 are.4 (subst (All IsPrintable) (drop_at (plain are.0) (plain are.1) (length (plain are.0)) refl) (All-drop IsPrintable (length (plain are.0)) (plain are.0 ++ plain are.1) both)))
+definitions_textual : (floats : Bool) (ts : List DefinitionTree) (ws : Nested) → Repeated (IsDefinition 0) ts ws → All (IsTextual floats) (plain ws) → All (IsTextual floats) (flat_map definition_symbols ts)
+definitions_textual floats [] ws are all = All-nil (IsTextual floats)
+definitions_textual floats (t ∷ ts) ws are all =
+    let both : All (IsTextual floats) (plain are.0 ++ plain are.1) = subst (All (IsTextual floats)) (ap plain are.2 ∙ plain_append are.0 are.1) all in
+    All-append (IsTextual floats) (definition_symbols t) (flat_map definition_symbols ts)
+    (definition_textual floats t are.0 are.3 (subst (All (IsTextual floats)) (take_at (plain are.0) (plain are.1) (length (plain are.0)) refl) (All-take (IsTextual floats) (length (plain are.0)) (plain are.0 ++ plain are.1) both)))
+    (definitions_textual floats ts are.1 are.4 (subst (All (IsTextual floats)) (drop_at (plain are.0) (plain are.1) (length (plain are.0)) refl) (All-drop (IsTextual floats) (length (plain are.0)) (plain are.0 ++ plain are.1) both)))
 
-pub document_printable : (ts : List DefinitionTree) (ws : Nested) → IsDocument ts ws → All IsPrintable (plain ws) → All IsPrintable (document_symbols ts)
+pub document_textual : (floats : Bool) (ts : List DefinitionTree) (ws : Nested) → IsDocument ts ws → All (IsTextual floats) (plain ws) → All (IsTextual floats) (document_symbols ts)
 unfolding IsDocument
-document_printable ts ws is all = subst (λ l. All IsPrintable (document_symbols l)) (sym is.1) (definitions_printable (is.0.0 ∷ is.0.1) ws is.2 all)
+document_textual floats ts ws is all = subst (λ l. All (IsTextual floats) (document_symbols l)) (sym is.1) (definitions_textual floats (is.0.0 ∷ is.0.1) ws is.2 all)

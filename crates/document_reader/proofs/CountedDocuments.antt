@@ -2,7 +2,7 @@
 use Rattle.std.proofs.Common.{ℕ, suc, ◌≡◌, inl, inr, true, false, [], ◌++◌, None, Some, refl, sym, subst}
 use Rattle.std.specs.Prelude.{codes}
 use Rattle.gql_base.specs.declared.lexical.token.TokenKind.TheVariants.{Dollar, Colon, Spread, OpenBrace, CloseBrace}
-use Rattle.gql_base.specs.ways.Symbols.{punctuator, identifier, integer, string}
+use Rattle.gql_base.specs.ways.Symbols.{punctuator, identifier, integer, decimal, string}
 use Rattle.gql_base.specs.ways.Reading.{exact, some_second}
 use Rattle.gql_base.specs.ways.Grammar.{Nested, Single, Pair}
 use Rattle.gql_base.proofs.WayLaws.CountedLevels.{Counts, Counted, TakesFlat, joined_counts, single_counted, mark_counted, name_counted, pair_counted, image_counted, choice_counted, optional_counted, one_or_more_counted, bracketed_counts, type_counted}
@@ -18,6 +18,7 @@ fragment_name_counted = single_counted fragment_name flat
     flat (identifier bytes at) a e = λ d. (refl, refl)
     flat (punctuator kind) a e = cc
     flat (integer value) a e = cc
+    flat (decimal bytes) a e = cc
     flat (string value) a e = cc
 
 -- what selections have beside their selection sets

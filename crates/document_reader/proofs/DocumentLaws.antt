@@ -7,7 +7,7 @@ use Rattle.std.proofs.lemmas.Slice.Eq.{bytes_eq-Decides}
 use Rattle.gql_base.specs.declared.lexical.token.TokenKind.TheVariants.{Bang, Dollar, Colon, Equals, At, OpenParen, OpenBrace}
 use Rattle.gql_base.specs.declared.parts.trees.OperationKind.{OperationKind}
 use Rattle.gql_base.specs.declared.parts.trees.OperationKind.TheVariants.{Query}
-use Rattle.gql_base.specs.ways.Symbols.{Symbol, punctuator, identifier, integer, string}
+use Rattle.gql_base.specs.ways.Symbols.{Symbol, punctuator, identifier, integer, decimal, string}
 use Rattle.gql_base.specs.ways.Reading.{Test, is_some, takes, when, exact, any_name, never, keyword, is_there}
 use Rattle.gql_base.specs.ways.Grammar.{Single, Pair, Image, Optional}
 use Rattle.gql_base.specs.parts.OperationKinds.{kind_named, kind_word}
@@ -90,18 +90,21 @@ kind_is_no_fragment (identifier bytes at) k e = elim (cases_Bool (bytes_eq bytes
 ]
 kind_is_no_fragment (punctuator kind) k e = cc
 kind_is_no_fragment (integer v) k e = cc
+kind_is_no_fragment (decimal bytes) k e = cc
 kind_is_no_fragment (string v) k e = cc
 
 word_is_no_brace : (w : Symbol) (a : Unit {0}) (word : List ℕ) → keyword word w ≡ Some a → takes (exact OpenBrace) (Some w) ≡ false
 word_is_no_brace (identifier bytes at) a word e = refl
 word_is_no_brace (punctuator kind) a word e = cc
 word_is_no_brace (integer v) a word e = cc
+word_is_no_brace (decimal bytes) a word e = cc
 word_is_no_brace (string v) a word e = cc
 
 kind_is_no_brace : (w : Symbol) (k : OperationKind) → kind_word w ≡ Some k → takes (exact OpenBrace) (Some w) ≡ false
 kind_is_no_brace (identifier bytes at) k e = refl
 kind_is_no_brace (punctuator kind) k e = cc
 kind_is_no_brace (integer v) k e = cc
+kind_is_no_brace (decimal bytes) k e = cc
 kind_is_no_brace (string v) k e = cc
 
 pub definition_law : (left more d n : ℕ) → left ≤ more → n ≡ d + left → Law (IsDefinition d) n never (definition_at left) (definition_at more)

@@ -1,5 +1,5 @@
 -- Each text is a document or has one fault, and not both.
-use Rattle.std.proofs.Common.{ℕ, ◌≡◌, ◌⊎◌, inl, inr, List, [], Ok, refl, sym, ap, ◌∙◌, subst, arith}
+use Rattle.std.proofs.Common.{ℕ, ◌≡◌, ◌⊎◌, inl, inr, List, [], Ok, refl, sym, ap, ◌∙◌, subst, arith, Bool}
 use Rattle.gql_base.proofs.WayLaws.ReadingLaws.{no_symbol}
 use Rattle.gql_base.specs.ways.Symbols.{Symbols}
 use Rattle.gql_base.specs.ways.Reading.{is_there}
@@ -40,14 +40,14 @@ nothing_left : (n : ℕ) (ws : Symbols) (x : List DefinitionTree × Symbols) →
 unfolding document_at
 nothing_left n ws x e = no_symbol x.1 (one_or_more_ends is_there (definition_at n) (repeats is_there (definition_law n n 0 n (omega arith) (omega arith)) (heads_definition 0) refl) ws x e)
 
-pub document_or_fault : (text : List ℕ) → ((trees : List DefinitionTree) × HasDocument text trees) ⊎ ((fault : DocFault) × HasDocumentFault text fault)
-document_or_fault text = elim (tree_or_fault document_family (nothing_left level_limit) text) [
+pub document_or_fault : (floats : Bool) (text : List ℕ) → ((trees : List DefinitionTree) × HasDocument floats text trees) ⊎ ((fault : DocFault) × HasDocumentFault floats text fault)
+document_or_fault floats text = elim (tree_or_fault floats document_family (nothing_left level_limit) text) [
   | inl is ↦ inl is
-  | inr bad ↦ inr (document_fault bad.0, subst (HasTextFault IsDocument text) (sym (back_told bad.0)) bad.1)
+  | inr bad ↦ inr (document_fault bad.0, subst (HasTextFault floats IsDocument text) (sym (back_told bad.0)) bad.1)
 ]
 
-pub no_document_fault : (text : List ℕ) (trees : List DefinitionTree) (fault : DocFault) → HasDocument text trees → HasDocumentFault text fault → ⊥
-no_document_fault text trees fault is bad = no_text_fault (by_counting document_counted) text trees (told_of_document fault) is bad
+pub no_document_fault : (floats : Bool) (text : List ℕ) (trees : List DefinitionTree) (fault : DocFault) → HasDocument floats text trees → HasDocumentFault floats text fault → ⊥
+no_document_fault floats text trees fault is bad = no_text_fault floats (by_counting document_counted) text trees (told_of_document fault) is bad
 
-pub one_document_fault : (text : List ℕ) (fault other : DocFault) → HasDocumentFault text fault → HasDocumentFault text other → fault ≡ other
-one_document_fault text fault other is it = sym (told_back fault) ∙ (ap document_fault (one_text_fault (by_counting document_counted) text (told_of_document fault) (told_of_document other) is it) ∙ told_back other)
+pub one_document_fault : (floats : Bool) (text : List ℕ) (fault other : DocFault) → HasDocumentFault floats text fault → HasDocumentFault floats text other → fault ≡ other
+one_document_fault floats text fault other is it = sym (told_back fault) ∙ (ap document_fault (one_text_fault floats (by_counting document_counted) text (told_of_document fault) (told_of_document other) is it) ∙ told_back other)

@@ -1,5 +1,5 @@
 -- The operations of documents that are one text stand at the same offsets.
-use Rattle.std.proofs.Common.{ℕ, ◌≡◌, ◌≤◌, List, [], ◌∷◌, length, map, Ok, refl, sym, ap, ◌∙◌, subst, arith}
+use Rattle.std.proofs.Common.{ℕ, ◌≡◌, ◌≤◌, List, [], ◌∷◌, length, map, Ok, refl, sym, ap, ◌∙◌, subst, arith, Bool}
 use Rattle.std.specs.Prelude.{drop}
 use Rattle.std.proofs.lemmas.List.{length-drop, length-map}
 use Rattle.gql_base.specs.declared.lexical.token.Token.{Token}
@@ -60,8 +60,8 @@ places_of_all text tokens from (d ∷ ds) (e ∷ es) are these =
     let others = places_of_all text tokens are.0 ds es are.2 rest in
     cc (first, others)
 
-pub one_place_of : (text : List ℕ) (document other : Document) → IsDocumentOf text document → IsDocumentOf text other → map operation_offset document.definitions.items ≡ map operation_offset other.definitions.items
-one_place_of text document other is are =
-    let same = lexes_once text are.tokens is.tokens are.lexes is.lexes in
+pub one_place_of : (floats : Bool) (text : List ℕ) (document other : Document) → IsDocumentOf floats text document → IsDocumentOf floats text other → map operation_offset document.definitions.items ≡ map operation_offset other.definitions.items
+one_place_of floats text document other is are =
+    let same = lexes_once floats text are.tokens is.tokens are.lexes is.lexes in
     places_of_all text is.tokens 0 document.definitions.items other.definitions.items is.among.places
     (subst (λ ts. AllStandFrom text ts 0 (length ts) other.definitions.items) same are.among.places)

@@ -5,7 +5,7 @@ use Rattle.std.specs.Str.{bytes_eq}
 use Rattle.gql_base.specs.declared.lexical.token.TokenKind.TheVariants.{Dollar, Colon, Equals, At, Spread, OpenBrace, CloseBrace}
 use Rattle.gql_base.specs.declared.parts.trees.OperationKind.{OperationKind}
 use Rattle.gql_base.specs.declared.parts.trees.OperationKind.TheVariants.{Query, Mutation, Subscription}
-use Rattle.gql_base.specs.ways.Symbols.{Symbol, punctuator, identifier, integer, string, Symbols}
+use Rattle.gql_base.specs.ways.Symbols.{Symbol, punctuator, identifier, integer, decimal, string, Symbols}
 use Rattle.gql_base.specs.ways.Reading.{Identifier, exact, any_name, second, some_second}
 use Rattle.gql_base.specs.ways.Grammar.{Nested, Within, Single, Pair, Image, Optional}
 use Rattle.gql_base.specs.parts.Values.{NamedValue, named_value_of}
@@ -71,6 +71,7 @@ unless_again bytes at false a e = let same : (bytes, at) ≡ a = cc in (ap (λ (
 fragment_again : (w : Symbol) (a : Identifier) → fragment_name w ≡ Some a → fragment_name (printed_name a.0) ≡ Some (name_placeless a)
 fragment_again (punctuator kind) a e = cc
 fragment_again (integer v) a e = cc
+fragment_again (decimal bytes) a e = cc
 fragment_again (string v) a e = cc
 fragment_again (identifier bytes at) a e = let p = unless_again bytes at (bytes_eq bytes (codes "on")) a e in
     subst (λ (l : List ℕ). SameName (fragment_name (printed_name l)) (Some (l, 0))) p.0 p.1

@@ -3,7 +3,7 @@ use Rattle.std.proofs.Common.{ℕ, zero, suc, ◌+◌, ◌≡◌, ◌≤◌, inl
 use Rattle.std.specs.Prelude.{◌||◌, codes}
 use Rattle.std.specs.Str.{bytes_eq}
 use Rattle.gql_base.specs.declared.lexical.token.TokenKind.TheVariants.{Colon, At, Spread, OpenParen, OpenBrace, CloseBrace}
-use Rattle.gql_base.specs.ways.Symbols.{Symbol, punctuator, identifier, integer, string, Symbols}
+use Rattle.gql_base.specs.ways.Symbols.{Symbol, punctuator, identifier, integer, decimal, string, Symbols}
 use Rattle.gql_base.specs.ways.Reading.{Reader, Test, next, is_some, takes, optional, second, level, exact, Identifier, any_name, up_to, never, some_second}
 use Rattle.gql_base.specs.ways.Grammar.{Nested, plain, Single, Pair, Image, Choice, Optional, Repeated, OneOrMore, Level}
 use Rattle.gql_base.proofs.WayLaws.WordLaws.{left_false, right_false}
@@ -69,6 +69,7 @@ on_is_no_name : (w : Symbol) (a : Unit {0}) → on_word w ≡ Some a → takes f
 on_is_no_name (identifier bytes at) a e = ap (λ b. is_some {A = Identifier} (unless b (bytes, at))) (when_true (bytes_eq bytes (codes "on")) a e)
 on_is_no_name (punctuator k) a e = cc
 on_is_no_name (integer v) a e = cc
+on_is_no_name (decimal bytes) a e = cc
 on_is_no_name (string v) a e = cc
 
 heads_condition : {b : Bool} {test : Test} (d : ℕ) → ((w : Symbol) (a : Unit {0}) → on_word w ≡ Some a → test (Some w) ≡ b) → Heads b test (IsTypeCondition d)

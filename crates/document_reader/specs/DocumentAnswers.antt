@@ -1,5 +1,5 @@
 -- What the reader of documents answers.
-use Rattle.std.specs.Prelude.{ℕ, List, [], length, map, Result}
+use Rattle.std.specs.Prelude.{ℕ, Bool, List, [], length, map, Result}
 use Rattle.gql_base.specs.declared.lexical.token.Token.{Token}
 use Rattle.gql_base.specs.lexical.Tokens.{Lexes}
 use Rattle.gql_base.specs.ways.Symbols.{symbols_from}
@@ -22,10 +22,10 @@ pub record IsDocumentAmong (text : List ℕ) (tokens : List Token) (document : D
   pub written : IsWritten IsDocument level_limit (symbols_from text tokens 0) (document_trees document) []
   pub places : AllStandFrom text tokens 0 (length tokens) document.definitions.items
 
--- The text is the document.
-pub record IsDocumentOf (text : List ℕ) (document : Document) : Type 0 where
+-- The text, in which floats may stand or may not, is the document.
+pub record IsDocumentOf (floats : Bool) (text : List ℕ) (document : Document) : Type 0 where
   pub tokens : List Token
-  pub lexes : Lexes text tokens
+  pub lexes : Lexes floats text tokens
   pub among : IsDocumentAmong text tokens document
 
 -- what the fault tells
@@ -44,13 +44,13 @@ abbrev pub IsFaultAmong : List ℕ → List Token → DocFault → Type 0
 IsFaultAmong text tokens fault = IsFaultFrom IsDocument text tokens 0 (told_of_document fault)
 
 -- why a text is no document
-abbrev pub IsDocumentFault : List ℕ → DocFault → Type 0
-IsDocumentFault text fault = IsTextFault IsDocument text (told_of_document fault)
+abbrev pub IsDocumentFault : Bool → List ℕ → DocFault → Type 0
+IsDocumentFault floats text fault = IsTextFault floats IsDocument text (told_of_document fault)
 
 -- The text is a document with these trees, however much memory there is for it.
-abbrev pub HasDocument : List ℕ → List DefinitionTree → Type 0
-HasDocument = HasTree IsDocument
+abbrev pub HasDocument : Bool → List ℕ → List DefinitionTree → Type 0
+HasDocument floats = HasTree floats IsDocument
 
 -- The text has this fault; want of memory is none of its own.
-abbrev pub HasDocumentFault : List ℕ → DocFault → Type 0
-HasDocumentFault text fault = HasTextFault IsDocument text (told_of_document fault)
+abbrev pub HasDocumentFault : Bool → List ℕ → DocFault → Type 0
+HasDocumentFault floats text fault = HasTextFault floats IsDocument text (told_of_document fault)

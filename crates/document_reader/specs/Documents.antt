@@ -4,7 +4,7 @@ use Rattle.std.specs.Str.{bytes_eq}
 use Rattle.gql_base.specs.declared.lexical.token.TokenKind.TheVariants.{Dollar, Colon, Spread, OpenParen, CloseParen, OpenBrace, CloseBrace}
 use Rattle.gql_base.specs.declared.parts.trees.OperationKind.{OperationKind}
 use Rattle.gql_base.specs.declared.parts.trees.OperationKind.TheVariants.{Query}
-use Rattle.gql_base.specs.ways.Symbols.{punctuator, identifier, integer, string}
+use Rattle.gql_base.specs.ways.Symbols.{punctuator, identifier, integer, decimal, string}
 use Rattle.gql_base.specs.ways.Reading.{Taking, exact, Identifier, any_name, keyword, inside, some_second}
 use Rattle.gql_base.specs.ways.Grammar.{Nested, Single, Pair, Image, Choice, Optional, OneOrMore, Bracketed}
 use Rattle.gql_base.specs.parts.Values.{ValueTree, NamedValue}
@@ -53,6 +53,7 @@ abbrev pub fragment_name : Taking Identifier
 fragment_name (identifier bytes at) = unless (bytes_eq bytes (codes "on")) (bytes, at)
 fragment_name (punctuator kind) = None
 fragment_name (integer value) = None
+fragment_name (decimal bytes) = None
 fragment_name (string value) = None
 
 -- the grammar, with the number of open levels; constants hold no variables

@@ -89,15 +89,16 @@ fn parse(alloc: Global, source: &Source) -> Result<Document, DocFault>
     }
 }
 
-/// The document that `text` is (GraphQL October 2021, 2.2). Where the text has no tokens, that is its fault. Otherwise
+/// The document that `text` is (GraphQL October 2021, 2.2), in which floats may stand where `floats` says so. Where the text has no
+/// tokens, that is its fault. Otherwise
 /// the fault is the first token with which no document goes on, or that opens a level above the limit: a selection
 /// set, a list, an object or a list type.
-pub fn read_document(alloc: Global, text: &str) -> Result<Document, DocFault>
-    ensures found { IfOk result (λ d. IsDocumentOf text.now d) }
-    ensures only { (trees : List DefinitionTree) → HasDocument text.now trees → GivesTrees trees result }
-    ensures fault { IfErr result (λ f. IsDocumentFault text.now f) }
+pub fn read_document(alloc: Global, text: &str, floats: bool) -> Result<Document, DocFault>
+    ensures found { IfOk result (λ d. IsDocumentOf floats text.now d) }
+    ensures only { (trees : List DefinitionTree) → HasDocument floats text.now trees → GivesTrees trees result }
+    ensures fault { IfErr result (λ f. IsDocumentFault floats text.now f) }
 {
-    match lex(alloc, text) {
+    match lex(alloc, text, floats) {
         Ok(tokens) => parse(
             alloc,
             &Source {

@@ -1,6 +1,6 @@
 //! What holds of the trees of all documents. These functions do nothing: their contracts are the laws.
 
-ghost use Rattle.std.specs.Prelude.{◌≡◌, ℕ, List, map};
+ghost use Rattle.std.specs.Prelude.{◌≡◌, ℕ, Bool, List, map};
 ghost use Rattle.gql_base.specs.ways.Grammar.{Nested, plain};
 ghost use Rattle.gql_base.specs.printing.Alike.{AreAlike};
 ghost use Rattle.document_reader.specs.declared.trees.Document.{Document};
@@ -20,6 +20,6 @@ pub fn offsets_change_no_document()
 /// same, with the offsets of names, and so are the offsets of their operations.
 pub fn a_text_is_one_document()
     ensures symbols { (trees others : List DefinitionTree) (ws vs : Nested) → IsDocument trees ws → IsDocument others vs → plain ws ≡ plain vs → trees ≡ others }
-    ensures texts { (text : List ℕ) (document other : Document) → IsDocumentOf text document → IsDocumentOf text other → map definition_tree document.definitions.items ≡ map definition_tree other.definitions.items }
-    ensures places { (text : List ℕ) (document other : Document) → IsDocumentOf text document → IsDocumentOf text other → map operation_offset document.definitions.items ≡ map operation_offset other.definitions.items }
+    ensures texts { (floats : Bool) (text : List ℕ) (document other : Document) → IsDocumentOf floats text document → IsDocumentOf floats text other → map definition_tree document.definitions.items ≡ map definition_tree other.definitions.items }
+    ensures places { (floats : Bool) (text : List ℕ) (document other : Document) → IsDocumentOf floats text document → IsDocumentOf floats text other → map operation_offset document.definitions.items ≡ map operation_offset other.definitions.items }
 {}

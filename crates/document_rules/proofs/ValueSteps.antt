@@ -7,7 +7,7 @@ use Rattle.gql_base.proofs.PrintingLaws.PrintSteps.{open_argument}
 use Rattle.gql_base.specs.declared.parts.trees.Value.{Value}
 use Rattle.gql_base.specs.declared.parts.trees.Argument.{Argument}
 use Rattle.gql_base.specs.ways.Reading.{Identifier}
-use Rattle.gql_base.specs.parts.Values.{ValueTree, variable_value, integer_value, string_value, boolean_value, null_value, enum_value, list_value, object_value, ValueTrees, FieldTrees, NamedValue, values_from, fields_from}
+use Rattle.gql_base.specs.parts.Values.{ValueTree, variable_value, integer_value, float_value, string_value, boolean_value, null_value, enum_value, list_value, object_value, ValueTrees, FieldTrees, NamedValue, values_from, fields_from}
 use Rattle.gql_base.specs.parts.Trees.{value_tree, named_value}
 use Rattle.input_values.specs.inputs.Shapes.{ShapeTree}
 use Rattle.input_values.specs.inputs.Definitions.{InputData}
@@ -65,6 +65,10 @@ module _ (test : Identifier → Option ℕ) where
 pub no_integer : (n : ℤ) → variables_in (integer_value n) ≡ []
 unfolding variables_in
 no_integer n = refl
+
+pub no_float : (digits : List ℕ) → variables_in (float_value digits) ≡ []
+unfolding variables_in
+no_float digits = refl
 
 pub no_string : (s : List ℕ) → variables_in (string_value s) ≡ []
 unfolding variables_in
@@ -125,6 +129,10 @@ module _ (s : SchemaData) (place : ShapeTree) (d : Bool) where
   pub no_use_of_integer : (n : ℤ) → uses_in s place d (integer_value n) ≡ []
   unfolding uses_in
   no_use_of_integer n = refl
+
+  pub no_use_of_float : (digits : List ℕ) → uses_in s place d (float_value digits) ≡ []
+  unfolding uses_in
+  no_use_of_float digits = refl
 
   pub no_use_of_string : (text : List ℕ) → uses_in s place d (string_value text) ≡ []
   unfolding uses_in

@@ -7,7 +7,7 @@ use Rattle.gql_base.specs.declared.parts.trees.OperationKind.{OperationKind}
 use Rattle.gql_base.specs.declared.parts.trees.OperationKind.TheVariants.{Query, Mutation, Subscription}
 use Rattle.gql_base.specs.names.Names.{has_name, first_of_name, place_of_name}
 use Rattle.gql_base.specs.ways.Reading.{Identifier}
-use Rattle.gql_base.specs.parts.Values.{ValueTree, variable_value, integer_value, string_value, boolean_value, null_value, enum_value, list_value, object_value, NamedValue, fields_from}
+use Rattle.gql_base.specs.parts.Values.{ValueTree, variable_value, integer_value, float_value, string_value, boolean_value, null_value, enum_value, list_value, object_value, NamedValue, fields_from}
 use Rattle.gql_base.specs.parts.TypeReferences.{TypeTree, named_type, list_type, non_null_type}
 use Rattle.gql_base.specs.parts.Arguments.{DirectiveTree}
 use Rattle.gql_base.specs.parts.Trees.{identifier_of}
@@ -19,7 +19,7 @@ use Rattle.document_reader.specs.Trees.{maybe_identifier}
 use Rattle.schema_rules.specs.First.{or_else, fault_where, first_of}
 use Rattle.schema_rules.specs.Reserved.{begins_reserved}
 use Rattle.schema_rules.specs.Kinds.{is_output_only}
-use Rattle.schema_model.specs.SchemaData.{SchemaData, type_at, type_named, argument_named, same_text}
+use Rattle.schema_model.specs.SchemaData.{SchemaData, type_at, type_named, argument_named, same_text, takes_float}
 use Rattle.document_rules.specs.Parts.{FragmentData, fragment_name, operations_of, fragments_of, repeated_at}
 use Rattle.document_rules.specs.Met.{Met, inside_at}
 use Rattle.document_rules.specs.Sites.{Meaning, no_position, no_such_field, name_of_type, known_field, Site, variable_site, operation_site, fragment_site, field_site, spread_site, inline_site, typename, is_composite, composite_named, type_of_field, directives_at, arguments_at}
@@ -136,6 +136,7 @@ abbrev pub is_boolean_or_variable : ValueTree → Bool
 is_boolean_or_variable (variable_value name at) = true
 is_boolean_or_variable (boolean_value b) = true
 is_boolean_or_variable (integer_value n) = false
+is_boolean_or_variable (float_value n) = false
 is_boolean_or_variable (string_value s) = false
 is_boolean_or_variable null_value = false
 is_boolean_or_variable (enum_value name at) = false
@@ -238,9 +239,9 @@ is_input s None = false
 is_input s (Some number) = not (is_output_only (type_at s number).kind)
 
 abbrev pub no_input : SchemaData → Identifier → Option ℕ
-no_input s name = fault_where (bytes_eq name.0 (codes "Float") || not (is_input s (type_named s name.0))) name.1
+no_input s name = fault_where ((bytes_eq name.0 (codes "Float") && not (takes_float s)) || not (is_input s (type_named s name.0))) name.1
 
--- a variable's type names no scalar, enum or input object type, or names Float (5.8.2)
+-- a variable's type names no scalar, enum or input object type, or names Float where it may not be used (5.8.2)
 abbrev pub variable_type : SchemaData → Site → Option ℕ
 variable_type s (variable_site v) = no_input s (named_in v.1)
 variable_type s site = None
@@ -318,6 +319,7 @@ no_condition at (Some v) = fault_where (not (fits_boolean v)) at
 abbrev pub misplaced_condition : List VariableTree → ValueTree → Option ℕ
 misplaced_condition variables (variable_value name at) = no_condition at (first_of_name variable_name variables name)
 misplaced_condition variables (integer_value n) = None
+misplaced_condition variables (float_value n) = None
 misplaced_condition variables (string_value s) = None
 misplaced_condition variables (boolean_value b) = None
 misplaced_condition variables null_value = None

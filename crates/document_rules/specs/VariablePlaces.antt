@@ -2,7 +2,7 @@
 use Rattle.std.specs.Prelude.{ℕ, Bool, true, false, not, ◌&&◌, ◌||◌, is_some, List, [], ◌∷◌, ◌++◌, Option, None, Some, codes}
 use Rattle.std.specs.Str.{bytes_eq}
 use Rattle.gql_base.specs.ways.Reading.{Identifier}
-use Rattle.gql_base.specs.parts.Values.{ValueTree, variable_value, integer_value, string_value, boolean_value, null_value, enum_value, list_value, object_value, ValueTrees, no_value, value_then, FieldTrees, no_field, field_then, NamedValue}
+use Rattle.gql_base.specs.parts.Values.{ValueTree, variable_value, integer_value, float_value, string_value, boolean_value, null_value, enum_value, list_value, object_value, ValueTrees, no_value, value_then, FieldTrees, no_field, field_then, NamedValue}
 use Rattle.gql_base.specs.parts.TypeReferences.{TypeTree, named_type, list_type, non_null_type}
 use Rattle.document_reader.specs.Documents.{VariableTree}
 use Rattle.input_values.specs.inputs.Shapes.{ShapeTree, named_shape, list_shape}
@@ -16,6 +16,7 @@ unfoldable mutual
   pub variables_in : ValueTree → List Identifier
   variables_in (variable_value name at) = (name, at) ∷ []
   variables_in (integer_value n) = []
+  variables_in (float_value n) = []
   variables_in (string_value s) = []
   variables_in (boolean_value b) = []
   variables_in null_value = []
@@ -65,6 +66,7 @@ abbrev pub is_null : ValueTree → Bool
 is_null null_value = true
 is_null (variable_value name at) = false
 is_null (integer_value n) = false
+is_null (float_value n) = false
 is_null (string_value s) = false
 is_null (boolean_value b) = false
 is_null (enum_value name at) = false
@@ -90,6 +92,7 @@ module _ (s : SchemaData) where
     pub uses_in : ShapeTree → Bool → ValueTree → List Use
     uses_in place has_default (variable_value name at) = record { variable = (name, at); place = place; has_default = has_default } ∷ []
     uses_in place has_default (integer_value n) = []
+    uses_in place has_default (float_value n) = []
     uses_in place has_default (string_value s) = []
     uses_in place has_default (boolean_value b) = []
     uses_in place has_default null_value = []

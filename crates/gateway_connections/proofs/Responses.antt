@@ -25,7 +25,7 @@ use Rattle.gateway_core.specs.Numbers.{IsFullAt}
 use Rattle.gateway_core.specs.Begins.{IsDenied, IsUnfit, IsVerdict, IsWritten, TellsFull, HasOneAnswer, calls_begun}
 use Rattle.gateway_core.specs.Grants.{promise_of}
 use Rattle.gateway_core.specs.PlanBounds.{IsMeasuredBy}
-use Rattle.gateway_core.specs.Measures.{Metered, HasNamedTypes, IsMeasuredFor, MeasuredIsAnswered}
+use Rattle.gateway_core.specs.Measures.{Metered, HasNamedTypes, IsMeasuredFor, AreMeasuredAlike, MeasuredIsAnswered}
 use Rattle.gateway_core.specs.Finishes.{finished_as, IsUnanswered, IsStarved, IsFinished, settling}
 use Rattle.gateway_core.specs.Messages.{denial_text, no_memory_text}
 use Rattle.gateway_connections.specs.declared.reply.Reply.{Reply}
@@ -123,16 +123,38 @@ given_by s made x f metered is =
       replied = f.reply ∙ ap finished_reply is;
     }
 
+-- the reply was measured in one way, which is alike, and was given so; or memory was wanting
+abbrev IsGivenAlike : Service → Exchange → List ℕ → Metered → Type 0
+IsGivenAlike s x reply metered = (own : Metered) × IsMeasuredFor s.rules x.ask.body.items reply own × AreMeasuredAlike reply metered own × WasGiven s x own
+
 forwarded : OneResponse → (s : Service) (made : ℕ) (x : Exchange) (f : WasForwarded s made (Unit {0}) x) (reply : UpstreamReply) (metered : Metered) → HasNamedTypes s.rules
-    → WasBrought reply x → IsMeasuredFor s.rules x.ask.body.items reply.body.items metered → WasGivenOr500 s x metered
+    → WasBrought reply x → IsMeasuredFor s.rules x.ask.body.items reply.body.items metered → IsGivenAlike s x reply.body.items metered ⊎ (x.reply.status ≡ 500)
 forwarded laws s made x f reply metered named brought measured = elim (by_dials laws (Unit {0}) _ f.asked x.dials reply f.came_to brought) [
   | inl memory ↦ inr (starved_500 x f.finished f.grant.ticket.bound f.reply (starved f.grant f.finished (subst (λ a. IsFinished f.grant (outcome_of a) f.finished) memory f.is_finished)))
   | inr (r, is, same) ↦ elim (laws.finished s.rules named x.ask.key x.ask.body.items f.client made f.grant r metered f.finished f.is_granted
       (subst (λ l. IsMeasuredFor s.rules x.ask.body.items l metered) (sym same) measured) (subst (λ a. IsFinished f.grant (outcome_of a) f.finished) is f.is_finished)) [
-        | inl answered ↦ inl (given_by s made x f metered answered)
+        | inl (own, measured_too, alike, answered) ↦ inl (own, subst (λ l. IsMeasuredFor s.rules x.ask.body.items l own) same measured_too, subst (λ l. AreMeasuredAlike l metered own) same alike, given_by s made x f own answered)
         | inr none ↦ inr (starved_500 x f.finished f.grant.ticket.bound f.reply none)
       ]
 ]
+
+-- a response is due as it was measured in another way
+due_as : (s : Service) (made : ℕ) (x : Exchange) (metered own : Metered) (due : IsDue s made x metered) → IsMeasuredFor s.rules x.ask.body.items due.reply.body.items own → IsDue s made x own
+due_as s made x metered own due measured = record {
+  client = due.client;
+  known = due.known;
+  covered = due.covered;
+  room = due.room;
+  in_work = due.in_work;
+  reply = due.reply;
+  brought = due.brought;
+  measured = measured;
+}
+
+given_alike : (s : Service) (made : ℕ) (x : Exchange) (metered : Metered) (due : IsDue s made x metered) → IsGivenAlike s x due.reply.body.items metered ⊎ (x.reply.status ≡ 500) → WasGivenOr500 s made x metered
+unfolding due_as
+given_alike s made x metered due (inl (own, measured, alike, given)) = inl (own, due_as s made x metered own due measured, alike, given)
+given_alike s made x metered due (inr none) = inr none
 
 -- what was answered by the gateway has a cost
 local_at : (s : Service) (made : ℕ) (x : Exchange) (a : WasAnswered s made (Unit {0}) x) → IsLocalAt s.rules x.ask.body.items a.is_answered.answer.cost
@@ -150,10 +172,10 @@ answered_no_502 s made x a at = by_text a.is_answered.finished
 price : OneResponse → (s : Service) (made : ℕ) (x : Exchange) (metered : Metered) → IsDue s made x metered → (bound : Cost) × IsPricedAt s.rules x.ask.body.items bound
 price laws s made x metered due = laws.priced s.rules x.ask.body.items due.reply.body.items metered due.measured
 
-pub given_where_due : OneResponse → (s : Service) (made : ℕ) (x : Exchange) (metered : Metered) → HasNamedTypes s.rules → IsExchange s made (Unit {0}) x → IsDue s made x metered → WasGivenOr500 s x metered
+pub given_where_due : OneResponse → (s : Service) (made : ℕ) (x : Exchange) (metered : Metered) → HasNamedTypes s.rules → IsExchange s made (Unit {0}) x → IsDue s made x metered → WasGivenOr500 s made x metered
 given_where_due laws s made x metered named (inl d) due = inr (denied_due laws s made x metered d.client d.denial d.denied d.calls (hint_of s x.ask.key x.moment d.denial) d.reply d.full due)
 given_where_due laws s made x metered named (inr (inr a)) due = absurd ((laws.local s.rules x.ask.body.items).not_priced (price laws s made x metered due).0 a.is_answered.answer.cost (price laws s made x metered due).1 (local_at s made x a))
-given_where_due laws s made x metered named (inr (inl f)) due = forwarded laws s made x f due.reply metered named due.brought due.measured
+given_where_due laws s made x metered named (inr (inl f)) due = given_alike s made x metered due (forwarded laws s made x f due.reply metered named due.brought due.measured)
 
 -- ---- where the gateway's own answer is due
 
@@ -304,9 +326,9 @@ measured_for laws s made x reply f brought at =
     let own : IsMeasuredFor s.rules x.ask.body.items got.0.body.items got.2.0 = (promise_of f.grant, f.is_granted.promised, got.2.1) in
     (got.2.0, subst (λ l. IsMeasuredFor s.rules x.ask.body.items l got.2.0) (same_body got.0 reply.body.items f.asked got.1 (by_dials laws (Unit {0}) _ f.asked x.dials reply f.came_to brought)) own)
 
-given_status : (s : Service) (x : Exchange) (metered : Metered) → WasGivenOr500 s x metered → x.reply.status ≡ 502 → ⊥
-given_status s x metered (inl given) at = let e : 200 ≡ 502 = sym (ap (λ (r : Reply). r.status) given.replied) ∙ at in omega (arith, e)
-given_status s x metered (inr none) at = let e : 500 ≡ 502 = sym none ∙ at in omega (arith, e)
+given_status : (s : Service) (x : Exchange) (reply : List ℕ) (metered : Metered) → IsGivenAlike s x reply metered ⊎ (x.reply.status ≡ 500) → x.reply.status ≡ 502 → ⊥
+given_status s x reply metered (inl (own, measured, alike, given)) at = let e : 200 ≡ 502 = sym (ap (λ (r : Reply). r.status) given.replied) ∙ at in omega (arith, e)
+given_status s x reply metered (inr none) at = let e : 500 ≡ 502 = sym none ∙ at in omega (arith, e)
 
 -- what is replied with 502 was forwarded
 forwarded_at : (s : Service) (y : Exchange) → WasExchanged s y → y.reply.status ≡ 502 → (made : ℕ) × WasForwarded s made (Unit {0}) y
@@ -319,7 +341,7 @@ not_both_at : OneResponse → (s : Service) (made : ℕ) (x y : Exchange) (reply
 not_both_at laws s made x y reply named (other, inl d) f same brought brought_too at at_too = no_denial 200 (hint_of s x.ask.key x.moment d.denial) d.denial x.reply no_200 d.reply at
 not_both_at laws s made x y reply named (other, inr (inl g)) f same brought brought_too at at_too =
     let measured = measured_for laws s other x reply g brought at in
-    given_status s y measured.0
+    given_status s y reply.body.items measured.0
     (forwarded laws s made y f reply measured.0 named brought_too (subst (λ b. IsMeasuredFor s.rules b reply.body.items measured.0) same measured.1)) at_too
 not_both_at laws s made x y reply named (other, inr (inr a)) f same brought brought_too at at_too =
     (laws.local s.rules y.ask.body.items).not_priced f.grant.ticket.bound a.is_answered.answer.cost (laws.granted s.rules y.ask.body.items f.grant f.is_granted.promised)

@@ -10,7 +10,7 @@ pub use Rattle.upstream_link.specs.declared.reply.UpstreamReply.{UpstreamReply}
 use Rattle.upstream_link.specs.Replies.{ReplyOf}
 use Rattle.gateway_core.specs.Rules.{client_of, window_of}
 pub use Rattle.gateway_core.specs.Measures.{Metered}
-use Rattle.gateway_core.specs.Measures.{IsMeasuredFor}
+use Rattle.gateway_core.specs.Measures.{IsMeasuredFor, AreMeasuredAlike}
 use Rattle.gateway_core.specs.PassedOn.{Local}
 use Rattle.gateway_core.specs.declared.beginning.Denial.TheVariants.{Full, Work}
 use Rattle.gateway_core.specs.declared.beginning.LocalAnswer.{LocalAnswer}
@@ -70,9 +70,13 @@ pub record WasGiven (s : Service) (x : Exchange) (metered : Metered) : Type 0 wh
       ∷ settling ticket metered.cost ∷ []
   pub replied : x.reply ≡ reply_as 200 (Some (ticket.bound, metered.cost)) metered.text
 
+-- It was given as the upstream's reply was measured in one way, which is alike. Where the schema lets no floats in there is one way.
+abbrev pub WasGivenAlike : Service → ℕ → Exchange → Metered → Type 0
+WasGivenAlike s made x metered = (own : Metered) × (due : IsDue s made x own) × AreMeasuredAlike due.reply.body.items metered own × WasGiven s x own
+
 -- It was given, or memory was wanting.
-abbrev pub WasGivenOr500 : Service → Exchange → Metered → Type 0
-WasGivenOr500 s x metered = WasGiven s x metered ⊎ (x.reply.status ≡ 500)
+abbrev pub WasGivenOr500 : Service → ℕ → Exchange → Metered → Type 0
+WasGivenOr500 s made x metered = WasGivenAlike s made x metered ⊎ (x.reply.status ≡ 500)
 
 -- The gateway's own answer is due: the key is a client's, whose account wasn't short, and there was room for a grant; and the body asks
 -- for what is answered so, and not for too many steps.

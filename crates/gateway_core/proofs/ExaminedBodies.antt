@@ -5,6 +5,7 @@ use Rattle.serde_json.specs.Data.{Data, object, no_members}
 use Rattle.serde_json.specs.Read.{read}
 use Rattle.serde_json.specs.Find.{get}
 use Rattle.document_reader.specs.declared.trees.Document.{Document}
+use Rattle.schema_model.specs.SchemaData.{has_floats}
 use Rattle.document_reader.specs.DocumentAnswers.{IsDocumentOf}
 use Rattle.request_bodies.specs.Bodies.{RequestData as Asked}
 use Rattle.trusted_documents.specs.Requests.{IsRequestBy}
@@ -35,7 +36,7 @@ once body variables whole part (inl empty) = subst HasEachKeyOnce (sym empty) tt
 once body variables whole part (inr (json, is, got)) = part json variables (codes "variables") (whole json is) got
 
 module _ (rules : Rules) (body : List ℕ) (asked : Asked) (is_request : IsRequestBy rules.trusted body asked) where
-  pub unread_is_unfit : (denial : Denial) → IfRefusal denial (IsUnread asked.query) → IsUnfit rules body denial
+  pub unread_is_unfit : (denial : Denial) → IfRefusal denial (IsUnread (has_floats rules.schema) asked.query) → IsUnfit rules body denial
   unread_is_unfit UnknownKey unread = absurd unread
   unread_is_unfit (Unexpanded fault) unread = absurd unread
   unread_is_unfit (BadBody fault) unread = absurd unread
@@ -46,7 +47,7 @@ module _ (rules : Rules) (body : List ℕ) (asked : Asked) (is_request : IsReque
   unread_is_unfit Work unread = absurd unread
   unread_is_unfit Memory unread = tt
 
-  module _ (document : Document) (is_document : IsDocumentOf asked.query document) where
+  module _ (document : Document) (is_document : IsDocumentOf (has_floats rules.schema) asked.query document) where
     unfit_for_body : (denial : Denial) → IsUnfitFor rules (request_of rules asked document) denial → IsUnfit rules body denial
     unfit_for_body UnknownKey unfit = absurd unfit
     unfit_for_body (Unexpanded fault) unfit = absurd unfit

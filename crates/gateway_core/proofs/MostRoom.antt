@@ -6,7 +6,7 @@ use Rattle.cost_num.specs.Within.{Within}
 use Rattle.account_core.specs.declared.Account.{Account}
 use Rattle.account_core.specs.declared.Limit.{Limit}
 use Rattle.account_core.specs.Costs.{nothing, together, is_within}
-use Rattle.account_core.specs.Machine.{State, Entry, account_of, used_of, used_in, room, surplus, HasRoom}
+use Rattle.account_core.specs.Machine.{Entry, account_of, used_of, room, surplus, HasRoom}
 use Rattle.account_core.specs.History.{state_after, IsLegal}
 use Rattle.account_core.specs.Numbers.{KeepsLimit}
 use Rattle.account_core.proofs.Callers.{numbers_within}

@@ -1,11 +1,11 @@
--- A reply to the operation of a body is measured in one way, or has one first fault, however often the body is read.
-use Rattle.std.proofs.Common.{◌≡◌, ◌<◌, inl, inr, ◌∙◌, ℕ, List, Option, map, true, false, Some, refl, sym, ap, subst, arith}
+-- A reply to the operation of a body is measured alike, or has one first fault, however often the body is read.
+use Rattle.std.proofs.Common.{◌≡◌, ◌<◌, inl, inr, ◌∙◌, ℕ, List, Bool, Option, map, true, false, Some, refl, sym, ap, subst, arith}
 use Rattle.std.specs.Prelude.{option_map}
 use Rattle.std.proofs.lemmas.Bool.{cases_lt}
 use Rattle.std.proofs.lemmas.Option.{none-some, same_Some}
 use Rattle.response_model.specs.Plan.{Plan as PlanTree}
 use Rattle.response_model.specs.Bound.{IsSound}
-use Rattle.schema_model.specs.SchemaData.{type_at}
+use Rattle.schema_model.specs.SchemaData.{type_at, has_floats}
 use Rattle.schema_model.specs.SchemaViews.{schema_data}
 use Rattle.document_reader.specs.declared.trees.Document.{Document}
 use Rattle.document_reader.specs.Trees.{definition_tree}
@@ -23,21 +23,20 @@ use Rattle.response_meter.specs.declared.metered.Metered.{Metered}
 use Rattle.response_meter.specs.declared.fault.MeterFault.{MeterFault}
 use Rattle.response_meter.specs.FirstFault.{AreNamed}
 use Rattle.response_meter.specs.Reply.{ReplyReads, IsResponseOrNone, first_reply_fault}
-use Rattle.response_meter.specs.Metered.{TypesDiffer, name_in, first_fault_in, IsMetered}
+use Rattle.response_meter.specs.Metered.{TypesDiffer, name_in, first_fault_in, IsMetered, AreMeasuredAlike}
 use Rattle.gateway_core.specs.declared.promise.Promise.{Promise}
 use Rattle.gateway_core.specs.Rules.{Rules}
 use Rattle.gateway_core.specs.Requests.{request_of, GoesUpstream, IsPromised, IsPromisedFor}
 use Rattle.gateway_core.specs.Grants.{promise_of}
 use Rattle.gateway_core.specs.PlanBounds.{IsMeasuredBy, IsFaultyBy}
 use Rattle.gateway_core.specs.Measures.{IsMeasuredFor, IsFaultyFor, MeasuredIsAnswered}
-use Rattle.gateway_core.specs.Finishes.{finished_as}
-use Rattle.gateway_core.proofs.OneAnswer.{OneReading, told, first_told, metered_once, metered_passes}
+use Rattle.gateway_core.proofs.OneAnswer.{OneReading, told, first_told, metered_alike, metered_once, metered_passes}
 
 -- A body is read in one way, requests that ask the same have one plan, and a reply to it is read in one way.
 pub record OneMeasure : Type 0 where
   pub one_asked : (list : Option Listing) (body : List ℕ) (asked other : Asked) → IsRequestBy list body asked → IsRequestBy list body other → asked ≡ other
-  pub trees : (text : List ℕ) (document other : Document) → IsDocumentOf text document → IsDocumentOf text other → map definition_tree document.definitions.items ≡ map definition_tree other.definitions.items
-  pub offsets : (text : List ℕ) (document other : Document) → IsDocumentOf text document → IsDocumentOf text other → map operation_offset document.definitions.items ≡ map operation_offset other.definitions.items
+  pub trees : (floats : Bool) (text : List ℕ) (document other : Document) → IsDocumentOf floats text document → IsDocumentOf floats text other → map definition_tree document.definitions.items ≡ map definition_tree other.definitions.items
+  pub offsets : (floats : Bool) (text : List ℕ) (document other : Document) → IsDocumentOf floats text document → IsDocumentOf floats text other → map operation_offset document.definitions.items ≡ map operation_offset other.definitions.items
   pub one_plan : (r q : RequestData) (p : Prepared r) (other : Prepared q) → AskAlike r q → plan_tree r p ≡ plan_tree q other
   pub reading : OneReading
 
@@ -58,7 +57,8 @@ one_alias names alias other a b = elim (cases_lt a.underscores b.underscores) [
 -- ---- two promises for one body
 
 -- what two promises have in common: the schema, the alias, and what is planned
-record AreAlike (p q : Promise) (tree : PlanTree) : Type 0 where
+record AreAlike (rules : Rules) (p q : Promise) (tree : PlanTree) : Type 0 where
+  by_rules : schema_data p.plan.schema.now ≡ rules.schema
   schema : schema_data q.plan.schema.now ≡ schema_data p.plan.schema.now
   alias : q.alias ≡ p.alias
   sound : HoldsSound p.plan tree
@@ -75,7 +75,7 @@ sound_of r p promised =
     (promised.is_accepted.is_planned.rows, subst (λ s. IsSound (holds s) tree) (sym promised.of_schema) promised.is_accepted.is_sound)
 
 alike_of : OneMeasure → (rules : Rules) → TypesDiffer rules.schema → (r s : RequestData) (p q : Promise) → AskAlike r s → IsPromisedBy rules p r → IsPromised s q
-    → (tree : PlanTree) × AreAlike p q tree
+    → (tree : PlanTree) × AreAlike rules p q tree
 alike_of laws rules differ r s p q same of_p of_q =
     let a = of_p.0 in
     let planned = a.is_accepted.is_planned in
@@ -83,6 +83,7 @@ alike_of laws rules differ r s p q same of_p of_q =
     let tree = plan_tree r planned.prepared in (
       tree,
       record {
+        by_rules = a.of_schema ∙ of_p.1;
         schema = of_q.of_schema ∙ (sym same.schema ∙ sym a.of_schema);
         alias = sym (one_alias (names_of_document (map definition_tree s.document)) p.alias q.alias
             (subst (λ trees. IsAlias (names_of_document trees) p.alias) same.trees a.is_free) of_q.is_free);
@@ -93,10 +94,10 @@ alike_of laws rules differ r s p q same of_p of_q =
     )
 
 abbrev AsksFor : Rules → (RequestData → Type 0) → Asked → Type 0
-AsksFor rules P asked = (document : Document) × IsDocumentOf asked.query document × P (request_of rules asked document)
+AsksFor rules P asked = (document : Document) × IsDocumentOf (has_floats rules.schema) asked.query document × P (request_of rules asked document)
 
 both : OneMeasure → (rules : Rules) → TypesDiffer rules.schema → (body : List ℕ) (p q : Promise) → IsPromisedFor rules body p → IsPromisedFor rules body q
-    → (tree : PlanTree) × AreAlike p q tree
+    → (tree : PlanTree) × AreAlike rules p q tree
 both laws rules differ body p q (asked, is, (document, read, (goes, of_p))) (asked_too, is_too, asks) =
     let moved : AsksFor rules (λ r. GoesUpstream rules r × IsPromised r q) asked = subst (AsksFor rules (λ r. GoesUpstream rules r × IsPromised r q)) (laws.one_asked rules.trusted body asked_too asked is_too is) asks in
     alike_of laws rules differ (request_of rules asked document) (request_of rules asked moved.0) p q record {
@@ -104,8 +105,8 @@ both laws rules differ body p q (asked, is, (document, read, (goes, of_p))) (ask
       weights = refl;
       name = refl;
       given = refl;
-      trees = laws.trees asked.query document moved.0 read moved.1;
-      offsets = laws.offsets asked.query document moved.0 read moved.1;
+      trees = laws.trees (has_floats rules.schema) asked.query document moved.0 read moved.1;
+      offsets = laws.offsets (has_floats rules.schema) asked.query document moved.0 read moved.1;
     } (of_p, refl) moved.2.1
 
 -- ---- a reply by either of them
@@ -122,14 +123,14 @@ by_schema p q alias tree reply metered same m = record {
   text = m.text;
 }
 
-moved : (p q : Promise) (tree : PlanTree) (reply : List ℕ) (metered : Metered) → AreAlike p q tree → IsMeasuredBy q.plan q.alias reply metered
+moved : (rules : Rules) (p q : Promise) (tree : PlanTree) (reply : List ℕ) (metered : Metered) → AreAlike rules p q tree → IsMeasuredBy q.plan q.alias reply metered
     → IsMetered p.plan p.alias tree reply metered
-moved p q tree reply metered same measured =
+moved rules p q tree reply metered same measured =
     by_schema p.plan q.plan p.alias tree reply metered same.schema
     (subst (λ alias. IsMetered q.plan alias tree reply metered) same.alias (measured tree same.sound_too))
 
-fault_moved : (p q : Promise) (tree : PlanTree) (reply : List ℕ) → AreAlike p q tree → first_fault_in q.plan q.alias tree reply ≡ first_fault_in p.plan p.alias tree reply
-fault_moved p q tree reply same =
+fault_moved : (rules : Rules) (p q : Promise) (tree : PlanTree) (reply : List ℕ) → AreAlike rules p q tree → first_fault_in q.plan q.alias tree reply ≡ first_fault_in p.plan p.alias tree reply
+fault_moved rules p q tree reply same =
     ap (λ alias. first_fault_in q.plan alias tree reply) same.alias
     ∙ ap (λ s. first_reply_fault (holds s) (λ T. (type_at s T).name) p.alias tree reply) same.schema
 
@@ -139,30 +140,36 @@ fault_of : (p : Promise) (tree : PlanTree) (reply : List ℕ) (fault : MeterFaul
 fault_of p tree reply fault sound has = first_told fault (first_fault_in p.plan p.alias tree reply) has.0 (has.1 tree sound)
 
 module _ (laws : OneMeasure) (rules : Rules) (differ : TypesDiffer rules.schema) (body reply : List ℕ) where
-  pub measured_once : (a b : Metered) → IsMeasuredFor rules body reply a → IsMeasuredFor rules body reply b → a ≡ b
-  measured_once a b (p, of_p, measured) (q, of_q, measured_too) =
+  pub measured_alike : (a b : Metered) → IsMeasuredFor rules body reply a → IsMeasuredFor rules body reply b → AreMeasuredAlike reply a b
+  measured_alike a b (p, of_p, measured) (q, of_q, measured_too) =
       let same = both laws rules differ body p q of_p of_q in
-      metered_once laws.reading p.plan p.alias same.0 reply a b same.1.named (measured same.0 same.1.sound) (moved p q same.0 reply b same.1 measured_too)
+      metered_alike laws.reading p.plan p.alias same.0 reply a b same.1.named (measured same.0 same.1.sound) (moved rules p q same.0 reply b same.1 measured_too)
+
+  pub measured_once : has_floats rules.schema ≡ false → (a b : Metered) → IsMeasuredFor rules body reply a → IsMeasuredFor rules body reply b → a ≡ b
+  measured_once none a b (p, of_p, measured) (q, of_q, measured_too) =
+      let same = both laws rules differ body p q of_p of_q in
+      metered_once laws.reading p.plan p.alias same.0 reply a b same.1.named (measured same.0 same.1.sound) (moved rules p q same.0 reply b same.1 measured_too)
+      (ap has_floats same.1.by_rules ∙ none)
 
   pub faulty_once : (a b : MeterFault) → IsFaultyFor rules body reply a → IsFaultyFor rules body reply b → a ≡ b
   faulty_once a b (p, of_p, faulty) (q, of_q, faulty_too) =
       let same = both laws rules differ body p q of_p of_q in
       same_Some a b
       (sym (fault_of p same.0 reply a same.1.sound faulty)
-      ∙ (ap (option_map told) (sym (fault_moved p q same.0 reply same.1)) ∙ fault_of q same.0 reply b same.1.sound_too faulty_too))
+      ∙ (ap (option_map told) (sym (fault_moved rules p q same.0 reply same.1)) ∙ fault_of q same.0 reply b same.1.sound_too faulty_too))
 
   pub measured_or_faulty : (a : Metered) (b : MeterFault) → IsMeasuredFor rules body reply a → IsFaultyFor rules body reply b → ⊥
   measured_or_faulty a b (p, of_p, measured) (q, of_q, faulty) =
       let same = both laws rules differ body p q of_p of_q in
       let passes = metered_passes laws.reading p.plan p.alias same.0 reply a same.1.named (measured same.0 same.1.sound) in
-      none-some b (sym (ap (option_map told) (fault_moved p q same.0 reply same.1 ∙ passes)) ∙ fault_of q same.0 reply b same.1.sound_too faulty)
+      none-some b (sym (ap (option_map told) (fault_moved rules p q same.0 reply same.1 ∙ passes)) ∙ fault_of q same.0 reply b same.1.sound_too faulty)
 
 -- what is granted for the body is answered as it was measured
 pub answered : OneMeasure → (rules : Rules) → TypesDiffer rules.schema → MeasuredIsAnswered rules
 answered laws rules differ key body client made g reply metered f granted measured (inr starved) = inr starved
 answered laws rules differ key body client made g reply metered f granted measured (inl (inl (m, of_m, is))) =
     let own : IsMeasuredFor rules body reply.body.items m = (promise_of g, granted.promised, of_m) in
-    inl (is ∙ ap (λ (x : Metered). finished_as 200 x.text g.ticket.bound x.cost) (measured_once laws rules differ body reply.body.items m metered own measured))
+    inl (m, own, measured_alike laws rules differ body reply.body.items metered m measured own, is)
 answered laws rules differ key body client made g reply metered f granted measured (inl (inr (fault, faulty, is))) =
     let own : IsFaultyFor rules body reply.body.items fault = (promise_of g, granted.promised, faulty) in
     absurd (measured_or_faulty laws rules differ body reply.body.items metered fault measured own)

@@ -1,5 +1,5 @@
 -- A body comes to one thing: it has one price, or one reason why it is unfit.
-use Rattle.std.proofs.Common.{◌≡◌, ◌≢◌, inl, inr, ◌∙◌, ℕ, ◌≤◌, List, Option, Result, Ok, map, refl, sym, ap, subst}
+use Rattle.std.proofs.Common.{◌≡◌, ◌≢◌, inl, inr, ◌∙◌, ℕ, ◌≤◌, List, Bool, Option, Result, Ok, map, refl, sym, ap, subst}
 use Rattle.cost_num.specs.declared.Cost.{Cost}
 use Rattle.cost_num.specs.declared.TheConstants.{CAP}
 use Rattle.std.proofs.lemmas.Option.{same_Some}
@@ -15,6 +15,7 @@ use Rattle.document_reader.specs.declared.document.DocFault.{DocFault}
 use Rattle.document_reader.specs.Documents.{DefinitionTree}
 use Rattle.document_reader.specs.Trees.{definition_tree}
 use Rattle.document_reader.specs.Places.{operation_offset}
+use Rattle.schema_model.specs.SchemaData.{has_floats}
 use Rattle.document_reader.specs.DocumentAnswers.{IsDocumentOf, HasDocument, HasDocumentFault}
 use Rattle.request_bodies.specs.Bodies.{RequestData as Asked}
 use Rattle.trusted_documents.specs.Listings.{Listing}
@@ -46,11 +47,11 @@ pub record OneBody : Type 0 where
   pub asked_or_unread : (list : Option Listing) (body : List ℕ) (asked : Asked) (reason : Unread) → reason ≢ unread.Memory → IsRequestBy list body asked → IsUnreadBy list body reason → ⊥
   pub one_asked : (list : Option Listing) (body : List ℕ) (asked other : Asked) → IsRequestBy list body asked → IsRequestBy list body other → asked ≡ other
   pub one_unread_for : (list : Option Listing) (body : List ℕ) (reason other : Unread) → reason ≢ unread.Memory → other ≢ unread.Memory → IsUnreadBy list body reason → IsUnreadBy list body other → reason ≡ other
-  pub trees : (text : List ℕ) (document other : Document) → IsDocumentOf text document → IsDocumentOf text other → map definition_tree document.definitions.items ≡ map definition_tree other.definitions.items
-  pub offsets : (text : List ℕ) (document other : Document) → IsDocumentOf text document → IsDocumentOf text other → map operation_offset document.definitions.items ≡ map operation_offset other.definitions.items
-  pub read_or_not : (text : List ℕ) (trees : List DefinitionTree) (fault : DocFault) → HasDocument text trees → HasDocumentFault text fault → ⊥
-  pub one_reading : (text : List ℕ) (fault other : DocFault) → HasDocumentFault text fault → HasDocumentFault text other → fault ≡ other
-  pub documents : (text : List ℕ) (document : Document) → IsDocumentOf text document → HasDocument text (map definition_tree document.definitions.items)
+  pub trees : (floats : Bool) (text : List ℕ) (document other : Document) → IsDocumentOf floats text document → IsDocumentOf floats text other → map definition_tree document.definitions.items ≡ map definition_tree other.definitions.items
+  pub offsets : (floats : Bool) (text : List ℕ) (document other : Document) → IsDocumentOf floats text document → IsDocumentOf floats text other → map operation_offset document.definitions.items ≡ map operation_offset other.definitions.items
+  pub read_or_not : (floats : Bool) (text : List ℕ) (trees : List DefinitionTree) (fault : DocFault) → HasDocument floats text trees → HasDocumentFault floats text fault → ⊥
+  pub one_reading : (floats : Bool) (text : List ℕ) (fault other : DocFault) → HasDocumentFault floats text fault → HasDocumentFault floats text other → fault ≡ other
+  pub documents : (floats : Bool) (text : List ℕ) (document : Document) → IsDocumentOf floats text document → HasDocument floats text (map definition_tree document.definitions.items)
   pub affordable_or_refused : (r : RequestData) (bound : Cost) (refusal : Refusal) → IsAffordable r bound → IsRefusedFor r refusal → ⊥
   pub refused : (r q : RequestData) (refusal : Refusal) → AskAlike r q → IsRefusedFor r refusal → IsRefusedFor q refusal
   pub one_plan : (r q : RequestData) (p : Prepared r) (other : Prepared q) → AskAlike r q → plan_tree r p ≡ plan_tree q other
@@ -87,7 +88,7 @@ one_bound laws r q bound cost alike a b =
 -- ---- what a body asks
 
 abbrev AsksFor : Rules → (RequestData → Type 0) → Asked → Type 0
-AsksFor rules P asked = (document : Document) × IsDocumentOf asked.query document × P (request_of rules asked document)
+AsksFor rules P asked = (document : Document) × IsDocumentOf (has_floats rules.schema) asked.query document × P (request_of rules asked document)
 
 -- why a body is no request, as a denial
 abbrev unread_as : Unread → Denial
@@ -127,8 +128,8 @@ module _ (laws : OneBody) (rules : Rules) (body : List ℕ) where
           weights = refl;
           name = refl;
           given = refl;
-          trees = laws.trees asked.query document moved.0 read moved.1;
-          offsets = laws.offsets asked.query document moved.0 read moved.1;
+          trees = laws.trees (has_floats rules.schema) asked.query document moved.0 read moved.1;
+          offsets = laws.offsets (has_floats rules.schema) asked.query document moved.0 read moved.1;
         },
         p,
         moved.2,
@@ -167,16 +168,16 @@ module _ (laws : OneBody) (rules : Rules) (body : List ℕ) where
   local_both P Q asks too = let x = both (IsHereThat (Knows rules) P) (IsHereThat (Knows rules) Q) asks too in local_alike P Q x.0 x.1 x.2 x.3 x.4
 
   -- a text that was read isn't refused, nor in two ways
-  not_unread : (text : List ℕ) (document : Document) (refusal : Refusal) → IsDocumentOf text document → IsUnread text refusal → ⊥
-  not_unread text document (NoDocument fault) is not = laws.read_or_not text (map definition_tree document.definitions.items) fault (laws.documents text document is) not
+  not_unread : (text : List ℕ) (document : Document) (refusal : Refusal) → IsDocumentOf (has_floats rules.schema) text document → IsUnread (has_floats rules.schema) text refusal → ⊥
+  not_unread text document (NoDocument fault) is not = laws.read_or_not (has_floats rules.schema) text (map definition_tree document.definitions.items) fault (laws.documents (has_floats rules.schema) text document is) not
   not_unread text document (Pick fault) is not = not
   not_unread text document (Rule fault) is not = not
   not_unread text document (Variable fault) is not = not
   not_unread text document (NoPlan fault) is not = not
   not_unread text document (Bound fault) is not = not
 
-  one_unread : (text : List ℕ) (refusal another : Refusal) → IsUnread text refusal → IsUnread text another → refusal ≡ another
-  one_unread text (NoDocument f) (NoDocument g) a b = ap NoDocument (laws.one_reading text f g a b)
+  one_unread : (text : List ℕ) (refusal another : Refusal) → IsUnread (has_floats rules.schema) text refusal → IsUnread (has_floats rules.schema) text another → refusal ≡ another
+  one_unread text (NoDocument f) (NoDocument g) a b = ap NoDocument (laws.one_reading (has_floats rules.schema) text f g a b)
   one_unread text (NoDocument f) (Pick g) a b = absurd b
   one_unread text (NoDocument f) (Rule g) a b = absurd b
   one_unread text (NoDocument f) (Variable g) a b = absurd b
@@ -189,9 +190,9 @@ module _ (laws : OneBody) (rules : Rules) (body : List ℕ) where
   one_unread text (Bound f) another a b = absurd a
 
   -- where the query of one reading is read, that of the other is
-  read_or_refused : (P : RequestData → Type 0) (asked : Asked) (refusal : Refusal) → Asks rules body P → IsRequestBy rules.trusted body asked → IsUnread asked.query refusal → ⊥
+  read_or_refused : (P : RequestData → Type 0) (asked : Asked) (refusal : Refusal) → Asks rules body P → IsRequestBy rules.trusted body asked → IsUnread (has_floats rules.schema) asked.query refusal → ⊥
   read_or_refused P asked refusal (asked_too, is_too, (document, read, holds)) is unread =
-      not_unread asked_too.query document refusal read (subst (λ (a : Asked). IsUnread a.query refusal) (laws.one_asked rules.trusted body asked asked_too is is_too) unread)
+      not_unread asked_too.query document refusal read (subst (λ (a : Asked). IsUnread (has_floats rules.schema) a.query refusal) (laws.one_asked rules.trusted body asked asked_too is is_too) unread)
 
   priced_or_refused : (bound : Cost) (refusal : Refusal) → IsPricedAt rules body bound → IsRefusedBody rules body refusal → ⊥
   priced_or_refused bound refusal priced (inl (asked, is, unread)) = read_or_refused (Upwards (λ r. IsAffordable r bound)) asked refusal priced is unread
@@ -201,7 +202,7 @@ module _ (laws : OneBody) (rules : Rules) (body : List ℕ) where
 
   one_refused : (refusal another : Refusal) → IsRefusedBody rules body refusal → IsRefusedBody rules body another → refusal ≡ another
   one_refused refusal another (inl (asked, is, unread)) (inl (asked_too, is_too, unread_too)) =
-      one_unread asked.query refusal another unread (subst (λ (a : Asked). IsUnread a.query another) (laws.one_asked rules.trusted body asked_too asked is_too is) unread_too)
+      one_unread asked.query refusal another unread (subst (λ (a : Asked). IsUnread (has_floats rules.schema) a.query another) (laws.one_asked rules.trusted body asked_too asked is_too is) unread_too)
   one_refused refusal another (inl (asked, is, unread)) (inr refused) = absurd (read_or_refused (Upwards (λ r. IsRefusedFor r another)) asked refusal refused is unread)
   one_refused refusal another (inr refused) (inl (asked, is, unread)) = absurd (read_or_refused (Upwards (λ r. IsRefusedFor r refusal)) asked another refused is unread)
   one_refused refusal another (inr refused) (inr refused_too) =

@@ -1,6 +1,6 @@
 -- What shared cells keep through their passes.
 use Prim.Native.Nat.{zero, suc}
-use Rattle.std.proofs.Common.{◌≡◌, ℕ, ◌+◌, inl, inr, List, [], ◌∷◌, Bool, true, false, not, cond, nat_eq, refl, sym, ap, subst}
+use Rattle.std.proofs.Common.{◌≡◌, ℕ, ◌+◌, inl, inr, List, [], ◌∷◌, Bool, true, false, not, cond, nat_eq, refl, ap, subst}
 use Rattle.std.proofs.lemmas.Bool.{and_from, eq-eqb}
 use Rattle.account_core.specs.Machine.{reservation, settlement, granted, done, entry, grant, is_grant}
 use Rattle.account_shared.specs.Views.{PassesView, IsIdle}

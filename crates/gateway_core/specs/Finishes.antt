@@ -8,7 +8,7 @@ use Rattle.account_core.specs.Numbers.{settlement_of}
 use Rattle.account_shared.specs.Gains.{ClientCall, client_call}
 use Rattle.response_meter.specs.declared.metered.Metered.{Metered}
 use Rattle.response_meter.specs.declared.fault.MeterFault.{MeterFault}
-use Rattle.response_meter.specs.Metered.{TypesDiffer}
+use Rattle.response_meter.specs.Metered.{TypesDiffer, AreTextsAlike}
 use Rattle.upstream_link.specs.declared.fault.LinkFault.{LinkFault}
 use Rattle.upstream_link.specs.declared.fault.LinkFault.TheVariants.{Down, Memory}
 use Rattle.gateway_core.specs.declared.finishing.Outcome.{Outcome}
@@ -61,6 +61,19 @@ abbrev pub IsFinished : Grant → Outcome → Finished → Type 0
 IsFinished g outcome f = IsConcluded g outcome f ⊎ IsStarved g.ticket.bound f
 
 -- ---- what leaves one answer
+
+-- Bodies that are the same; or, where the upstream replied, are answer texts of the one content and the one list of errors that its reply reads as.
+abbrev pub AreBodiesAlike : Outcome → List ℕ → List ℕ → Type 0
+AreBodiesAlike (Reply reply) body other = (body ≡ other) ⊎ AreTextsAlike reply.body.items body other
+AreBodiesAlike (Fault fault) body other = body ≡ other
+AreBodiesAlike NoMemory body other = body ≡ other
+
+-- They have one status, one bound and one charge, and such bodies.
+pub record AreAnsweredAlike (outcome : Outcome) (f other : Finished) : Type 0 where
+  pub status : f.status ≡ other.status
+  pub bound : f.bound ≡ other.bound
+  pub charged : f.charged ≡ other.charged
+  pub body : AreBodiesAlike outcome f.body other.body
 
 -- It was granted for a body, by rules whose schema has no two types of one name (GraphQL October 2021, 3.3).
 pub record IsGrantedBy (rules : Rules) (g : Grant) : Type 0 where

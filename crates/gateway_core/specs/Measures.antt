@@ -9,6 +9,7 @@ use Rattle.gateway_core.specs.declared.grant.Grant.{Grant}
 use Rattle.gateway_core.specs.declared.finishing.Finished.{Finished}
 use Rattle.gateway_core.specs.declared.finishing.Outcome.TheVariants.{Reply}
 use Rattle.response_meter.specs.Metered.{TypesDiffer}
+pub use Rattle.response_meter.specs.Metered.{AreMeasuredAlike}
 use Rattle.gateway_core.specs.Rules.{Rules}
 use Rattle.gateway_core.specs.Requests.{IsPromisedFor}
 use Rattle.gateway_core.specs.PlanBounds.{IsMeasuredBy, IsFaultyBy}
@@ -31,11 +32,12 @@ IsMeasuredFor rules body reply metered = OfPromised rules body (λ plan alias. I
 abbrev pub IsFaultyFor : Rules → List ℕ → List ℕ → MeterFault → Type 0
 IsFaultyFor rules body reply fault = OfPromised rules body (λ plan alias. IsFaultyBy plan alias reply fault)
 
--- It is answered with 200 and as the reply was measured, and charged the measured cost; or memory was wanting.
-abbrev pub IsAnsweredAs : Grant → Metered → Finished → Type 0
-IsAnsweredAs g metered f = (f ≡ finished_as 200 metered.text g.ticket.bound metered.cost) ⊎ IsStarved g.ticket.bound f
+-- It is answered with 200 and as the reply was measured in one way, which is alike, and charged the measured cost.
+abbrev pub IsAnsweredAlike : Rules → List ℕ → List ℕ → Grant → Metered → Finished → Type 0
+IsAnsweredAlike rules body reply g metered f = (own : Metered) × IsMeasuredFor rules body reply own × AreMeasuredAlike reply metered own × (f ≡ finished_as 200 own.text g.ticket.bound own.cost)
 
--- So whatever is granted finishes where the reply to it is measured.
+-- So whatever is granted finishes where the reply to it is measured; or memory was wanting.
 abbrev pub MeasuredIsAnswered : Rules → Type 0
 MeasuredIsAnswered rules = (key body : List ℕ) (client made : ℕ) (g : Grant) (reply : UpstreamReply) (metered : Metered) (f : Finished)
-    → IsGranted rules key body client made g → IsMeasuredFor rules body reply.body.items metered → IsFinished g (Reply reply) f → IsAnsweredAs g metered f
+    → IsGranted rules key body client made g → IsMeasuredFor rules body reply.body.items metered → IsFinished g (Reply reply) f
+    → IsAnsweredAlike rules body reply.body.items g metered f ⊎ IsStarved g.ticket.bound f

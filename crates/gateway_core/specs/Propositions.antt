@@ -1,7 +1,6 @@
 -- Of what a gate keeps there is one proof each.
 use Rattle.std.proofs.Common.{◌≡◌, ℕ, Bool, false, List, [], ◌∷◌, refl, ap}
 use Rattle.std.specs.Coded.{Coded, code_by, coded_list, coded×, coded_ℕ, coded_bool, codes}
-use denote.Struct.Props.{≡_prop}
 use Rattle.schema_rules.specs.declared.kind.Kind.{Kind}
 use Rattle.schema_rules.specs.declared.kind.Kind.TheVariants.{Scalar, Object, Interface, Union, Enum, Input}
 use Rattle.input_values.specs.inputs.Shapes.{ShapeTree, named_shape, list_shape}
@@ -36,7 +35,7 @@ name-prop (name ∷ names) = hlevel codes
 
 fill-prop : (kind : Kind) (t : TypeData) → IsProp (CanFill kind t)
 fill-prop Enum t = name-prop t.values
-fill-prop Scalar t = ≡_prop coded_bool _ _
+fill-prop Scalar t = hlevel codes
 fill-prop Object t = hlevel codes
 fill-prop Interface t = hlevel codes
 fill-prop Union t = hlevel codes

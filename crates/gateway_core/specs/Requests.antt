@@ -1,13 +1,14 @@
 -- What the body of a request comes to, by the rules of a gate.
-use Rattle.std.specs.Prelude.{◌≡◌, ◌⊎◌, ℕ, List, Some}
+use Rattle.std.specs.Prelude.{◌≡◌, ◌⊎◌, ℕ, false, List, Some}
 use Rattle.serde_json.specs.Written.{compact_text}
 use Rattle.cost_num.specs.declared.Cost.{Cost}
 use Rattle.schema_model.specs.SchemaViews.{schema_data}
+use Rattle.schema_model.specs.SchemaData.{has_floats}
 use Rattle.document_reader.specs.declared.trees.Document.{Document}
 use Rattle.document_reader.specs.DocumentAnswers.{IsDocumentOf}
 use Rattle.request_bodies.specs.Bodies.{RequestData as Asked}
 use Rattle.trusted_documents.specs.Requests.{IsRequestBy}
-use Rattle.local_introspection.specs.PassedOn.{Refusal, RequestData, IsAffordable, IsAccepted, IsUnread, IsRefusedFor, IsFreeIn, sent_body}
+use Rattle.local_introspection.specs.PassedOn.{Refusal, RequestData, IsAffordable, IsAccepted, IsUnread, IsRefusedFor, IsFreeIn, IsSentText, sent_body}
 use Rattle.operation_class.specs.Routes.{GoesUpstream as IsForUpstream}
 use Rattle.local_introspection.specs.declared.facts.Facts.{Facts}
 use Rattle.local_introspection.specs.declared.fault.LocalFault.{LocalFault}
@@ -26,9 +27,9 @@ request_of rules asked document = record {
   given = asked.variables;
 }
 
--- The body is a request, its query is a document, and this holds of what is asked.
+-- The body is a request, its query is a document, with floats where the schema lets them in, and this holds of what is asked.
 abbrev pub Asks : Rules → List ℕ → (RequestData → Type 0) → Type 0
-Asks rules body P = (asked : Asked) × IsRequestBy rules.trusted body asked × ((document : Document) × IsDocumentOf asked.query document × P (request_of rules asked document))
+Asks rules body P = (asked : Asked) × IsRequestBy rules.trusted body asked × ((document : Document) × IsDocumentOf (has_floats rules.schema) asked.query document × P (request_of rules asked document))
 
 -- ---- where the operation that is asked for is answered
 
@@ -44,19 +45,21 @@ AsksThat rules body P = Asks rules body (λ r. GoesUpstream rules r × P r)
 
 -- The body is a request whose query is no document, or whose operation is refused for this.
 abbrev pub IsRefusedBody : Rules → List ℕ → Refusal → Type 0
-IsRefusedBody rules body refusal = ((asked : Asked) × IsRequestBy rules.trusted body asked × IsUnread asked.query refusal)
+IsRefusedBody rules body refusal = ((asked : Asked) × IsRequestBy rules.trusted body asked × IsUnread (has_floats rules.schema) asked.query refusal)
     ⊎ AsksThat rules body (λ r. IsRefusedFor r refusal)
 
 -- The body is a request for an operation with this bound, within the cap.
 abbrev pub IsPricedAt : Rules → List ℕ → Cost → Type 0
 IsPricedAt rules body bound = AsksThat rules body (λ r. IsAffordable r bound)
 
--- What is asked is accepted with this plan and this bound, and this is what is sent for it.
+-- What is asked is accepted with this plan and this bound, and this is what is sent for it: a text of the body, and the one compact text where the
+-- schema lets no floats in.
 pub record IsPromised (r : RequestData) (p : Promise) : Type 0 where
   pub is_accepted : IsAccepted r p.plan p.bound
   pub of_schema : schema_data p.plan.schema.now ≡ r.schema
   pub is_free : IsFreeIn r p.alias
-  pub is_sent : p.forward ≡ compact_text (sent_body r is_accepted.is_planned.prepared p.alias)
+  pub is_sent : IsSentText r is_accepted.is_planned.prepared p.alias p.forward
+  pub is_plain : has_floats r.schema ≡ false → p.forward ≡ compact_text (sent_body r is_accepted.is_planned.prepared p.alias)
 
 abbrev pub IsPromisedFor : Rules → List ℕ → Promise → Type 0
 IsPromisedFor rules body promise = AsksThat rules body (λ r. IsPromised r promise)

@@ -4,6 +4,7 @@ ghost use Rattle.std.specs.Prelude.{◌≡◌, Some, IfOk, IfErr, ℕ, List};
 ghost use Rattle.serde_json.specs.View.{view};
 ghost use Rattle.request_bodies.specs.Bodies.{request_data as asked_data};
 ghost use Rattle.trusted_documents.specs.Requests.{IsRequestBy};
+ghost use Rattle.schema_model.specs.SchemaData.{has_floats};
 ghost use Rattle.document_reader.specs.DocumentAnswers.{IsDocumentOf};
 ghost use Rattle.local_introspection.specs.PassedOn.{request_data, IsUnread, HasEachKeyOnce};
 ghost use Rattle.gateway_core.specs.Rules.{HasWeights, client_of};
@@ -47,11 +48,11 @@ fn asked_in(gate: &Gate, alloc: Global, body: &[u8]) -> Result<Asked, Denial>
 }
 
 // The document that its query is.
-fn document_in(alloc: Global, asked: &Asked) -> Result<Document, Denial>
-    ensures document { IfOk result (IsDocumentOf asked.now.query) }
-    ensures refused { IfErr result (λ denial. IfRefusal denial (IsUnread asked.now.query)) }
+fn document_in(gate: &Gate, alloc: Global, asked: &Asked) -> Result<Document, Denial>
+    ensures document { IfOk result (IsDocumentOf (has_floats (rules_of gate.now).schema) asked.now.query) }
+    ensures refused { IfErr result (λ denial. IfRefusal denial (IsUnread (has_floats (rules_of gate.now).schema) asked.now.query)) }
 {
-    match read(alloc, asked.query.as_str()) {
+    match read(alloc, asked.query.as_str(), gate.schema.has_floats()) {
         Ok(document) => Ok(document),
         Err(fault) => Err(denied(fault)),
     }
@@ -122,7 +123,7 @@ fn found_in<'g>(
         Ok(asked) => asked,
         Err(denial) => return Err(denial),
     };
-    let document = match document_in(alloc, &asked) {
+    let document = match document_in(gate, alloc, &asked) {
         Ok(document) => document,
         Err(denial) => return Err(denial),
     };

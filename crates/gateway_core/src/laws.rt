@@ -1,11 +1,13 @@
 //! What holds of all bodies, and of all replies to what is granted. These functions do nothing: their contracts are the laws.
 
-ghost use Rattle.std.specs.Prelude.{◌≡◌, ℕ, List, true};
+ghost use Rattle.std.specs.Prelude.{◌≡◌, ℕ, List, true, false};
 ghost use Rattle.account_core.specs.declared.Limit.{Limit as LimitType};
 ghost use Rattle.account_core.specs.Costs.{is_within};
 ghost use Rattle.account_core.specs.Machine.{Entry, HasRoom};
 ghost use Rattle.account_core.specs.History.{state_after, IsLegal};
 ghost use Rattle.response_meter.specs.declared.metered.Metered.{Metered};
+ghost use Rattle.response_meter.specs.Metered.{AreMeasuredAlike};
+ghost use Rattle.schema_model.specs.SchemaData.{has_floats};
 ghost use Rattle.response_meter.specs.declared.fault.MeterFault.{MeterFault};
 ghost use Rattle.cost_num.specs.declared.Cost.{Cost as CostType};
 ghost use Rattle.gateway_core.specs.declared.beginning.Denial.{Denial as DenialType};
@@ -18,7 +20,7 @@ ghost use Rattle.gateway_core.specs.Requests.{IsPricedAt, IsPromisedFor};
 ghost use Rattle.gateway_core.specs.Begins.{IsUnfit, IsVerdict, HasOneAnswer};
 ghost use Rattle.gateway_core.specs.PlanBounds.{IsMeasuredBy};
 ghost use Rattle.gateway_core.specs.Measures.{HasNamedTypes, IsMeasuredFor, IsFaultyFor, MeasuredIsAnswered};
-ghost use Rattle.gateway_core.specs.Finishes.{HasReplyFault, IsConcluded, IsGrantedBy};
+ghost use Rattle.gateway_core.specs.Finishes.{HasReplyFault, IsConcluded, IsGrantedBy, AreAnsweredAlike};
 
 use crate::own_answers::alike_local_requests_have_one_verdict;
 use document_reader::{a_text_is_a_document_or_has_one_fault, a_text_is_one_document};
@@ -27,7 +29,7 @@ use local_introspection::{
 };
 use operation_class::laws::equal_trees_have_one_class;
 use plan_model::laws::operations_planned_well;
-use response_meter::laws::{fault_or_reading, named_tables, one_reply};
+use response_meter::laws::{answers_without_floats, fault_or_reading, named_tables, one_reply};
 use response_model::laws::greatest_is_bound;
 use trusted_documents::a_body_is_one_request_by_a_list;
 
@@ -58,24 +60,28 @@ pub fn no_window_has_more_room()
     ensures { (limit : LimitType) (history : List Entry) (window : ℕ) (bound : CostType) → IsLegal limit history → HasRoom limit (state_after limit history) window bound → is_within (most_of limit) bound ≡ true }
 {}
 
-/// A reply to what is granted is measured in one way, or has one first fault, and not both. So there is one answer to it, and to
-/// each outcome, but for want of memory. The types of the schema have different names, as those of a schema that is built have.
+/// A reply to what is granted has one cost, or one first fault, and not both. So each outcome has one status and one charge, but for want of memory,
+/// and answers that are texts of what the reply reads as; where the schema lets no floats in there is one answer. The types of the schema have different names, as those of a schema that is built have.
 pub fn a_reply_has_one_answer()
-    ensures one_measure { (rules : Rules) (g : GrantType) (reply : List ℕ) (a b : Metered) → IsGrantedBy rules g → IsMeasuredBy g.plan g.alias reply a → IsMeasuredBy g.plan g.alias reply b → a ≡ b }
+    ensures one_cost { (rules : Rules) (g : GrantType) (reply : List ℕ) (a b : Metered) → IsGrantedBy rules g → IsMeasuredBy g.plan g.alias reply a → IsMeasuredBy g.plan g.alias reply b → AreMeasuredAlike reply a b }
+    ensures one_measure { (rules : Rules) (g : GrantType) (reply : List ℕ) (a b : Metered) → has_floats rules.schema ≡ false → IsGrantedBy rules g → IsMeasuredBy g.plan g.alias reply a → IsMeasuredBy g.plan g.alias reply b → a ≡ b }
     ensures one_fault { (rules : Rules) (g : GrantType) (reply : List ℕ) (a b : MeterFault) → IsGrantedBy rules g → HasReplyFault g reply a → HasReplyFault g reply b → a ≡ b }
     ensures not_both { (rules : Rules) (g : GrantType) (reply : List ℕ) (a : Metered) (b : MeterFault) → IsGrantedBy rules g → IsMeasuredBy g.plan g.alias reply a → HasReplyFault g reply b → ⊥ }
-    ensures one_answer { (rules : Rules) (g : GrantType) (outcome : OutcomeType) (a b : FinishedType) → IsGrantedBy rules g → IsConcluded g outcome a → IsConcluded g outcome b → a ≡ b }
+    ensures alike { (rules : Rules) (g : GrantType) (outcome : OutcomeType) (a b : FinishedType) → IsGrantedBy rules g → IsConcluded g outcome a → IsConcluded g outcome b → AreAnsweredAlike outcome a b }
+    ensures one_answer { (rules : Rules) (g : GrantType) (outcome : OutcomeType) (a b : FinishedType) → has_floats rules.schema ≡ false → IsGrantedBy rules g → IsConcluded g outcome a → IsConcluded g outcome b → a ≡ b }
 {
     fault_or_reading();
     one_reply();
     named_tables();
+    answers_without_floats();
 }
 
-/// A reply to the operation of a body is measured in one way, or has one first fault, and not both, however often the body is
-/// read. So what is granted for the body is answered with 200 and as it was measured, where the reply is, and settled at its cost;
+/// A reply to the operation of a body has one cost, or one first fault, and not both, however often the body is read; it is measured in one way where
+/// the schema lets no floats in. So what is granted for the body is answered with 200 and as it was measured, where the reply is, and settled at its cost;
 /// or memory was wanting. The types of the schema have different names, as those of a schema that is built have.
 pub fn a_reply_to_a_body_has_one_measure()
-    ensures measure { (rules : Rules) (body reply : List ℕ) (a b : Metered) → HasNamedTypes rules → IsMeasuredFor rules body reply a → IsMeasuredFor rules body reply b → a ≡ b }
+    ensures cost { (rules : Rules) (body reply : List ℕ) (a b : Metered) → HasNamedTypes rules → IsMeasuredFor rules body reply a → IsMeasuredFor rules body reply b → AreMeasuredAlike reply a b }
+    ensures measure { (rules : Rules) (body reply : List ℕ) (a b : Metered) → has_floats rules.schema ≡ false → HasNamedTypes rules → IsMeasuredFor rules body reply a → IsMeasuredFor rules body reply b → a ≡ b }
     ensures fault { (rules : Rules) (body reply : List ℕ) (a b : MeterFault) → HasNamedTypes rules → IsFaultyFor rules body reply a → IsFaultyFor rules body reply b → a ≡ b }
     ensures not_both { (rules : Rules) (body reply : List ℕ) (a : Metered) (b : MeterFault) → HasNamedTypes rules → IsMeasuredFor rules body reply a → IsFaultyFor rules body reply b → ⊥ }
     ensures finished { (rules : Rules) → HasNamedTypes rules → MeasuredIsAnswered rules }
@@ -86,4 +92,5 @@ pub fn a_reply_to_a_body_has_one_measure()
     fault_or_reading();
     one_reply();
     named_tables();
+    answers_without_floats();
 }

@@ -4,7 +4,7 @@ use Rattle.gateway_serving.specs.PassedOn.{Service, Exchange, IsExchange, Metere
 
 -- A response that is due is given with 200 and settled at its cost, or memory was wanting.
 abbrev pub GivesWhatIsDue : Service → Type 0
-GivesWhatIsDue s = (made : ℕ) (x : Exchange) (metered : Metered) → IsExchange s made ⊤ x → IsDue s made x metered → WasGivenOr500 s x metered
+GivesWhatIsDue s = (made : ℕ) (x : Exchange) (metered : Metered) → IsExchange s made ⊤ x → IsDue s made x metered → WasGivenOr500 s made x metered
 
 -- For one body and one reply of the upstream there are not both 200 and 502.
 abbrev pub AnswersAlike : Service → Type 0

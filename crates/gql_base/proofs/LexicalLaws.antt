@@ -21,3 +21,4 @@ pub mod ScannedStrings
 pub mod ScannedBlocks
 pub mod ScannedClosings
 pub mod StringTokens
+pub mod DirectiveUses

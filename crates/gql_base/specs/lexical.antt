@@ -12,6 +12,7 @@ pub mod Faults
 pub mod Tokens
 pub mod Literals
 pub mod StringTokens
+pub mod Uses
 -- What serves proofs: how strings are scanned, and how a piece is found at the front of a text.
 pub mod Scans
 pub mod Fronts

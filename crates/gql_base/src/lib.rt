@@ -11,13 +11,15 @@ mod ways;
 
 pub use lexical::blocks::block_value;
 pub use lexical::laws::{
-    a_text_lexes_in_one_way, a_text_lexes_or_has_one_fault, lexemes_are_tokens_without_places,
-    strings_stand_for_their_characters, tokens_lie_in_their_text,
+    a_directive_is_used_or_not, a_text_lexes_in_one_way, a_text_lexes_or_has_one_fault,
+    lexemes_are_tokens_without_places, strings_stand_for_their_characters,
+    tokens_lie_in_their_text,
 };
 pub use lexical::lexing::{LexFault, lex};
 pub use lexical::literals::{integer_at, string_at, string_value};
 pub use lexical::text::Text;
 pub use lexical::token::{Span, Token, TokenKind};
+pub use lexical::uses::uses_directive;
 pub use names::hashed::{Hashed, hashed_by_name};
 pub use names::index::{NameIndex, index_of};
 pub use names::laws::{distinct_names_stand_once, the_first_repeated_name_ends_distinct_ones};

@@ -6,8 +6,8 @@ use Rattle.input_values.specs.declared.values.coerced.CoercedField.{CoercedField
 use Rattle.input_values.specs.declared.values.coerced.Coerced.TheOpen.{Coerced-F}
 use Rattle.input_values.specs.declared.values.coerced.Coerced.TheFolds.{fold-roll-Coerced, fold_out-CoercedField, fold-roll-CoercedField}
 use Rattle.input_values.specs.declared.values.coerced.Coerced.TheViews.{List as ListValue, Object as ObjectValue, Shared as SharedValue, roll-CoercedField}
-use Rattle.input_values.specs.declared.values.coerced.Coerced.TheBlock.{Int as IntValue, Str as StrValue, Bool as BoolValue, Null as NullValue, EnumName as EnumValue}
-use Rattle.input_values.specs.values.Coerced.{CoercedTree, coerced_null, coerced_integer, coerced_string, coerced_boolean, coerced_enum, coerced_list, coerced_object, coerced_step, coerced_field_step, NamedTree, coerced_tree, named_tree, trees_from, named_trees_from}
+use Rattle.input_values.specs.declared.values.coerced.Coerced.TheBlock.{Int as IntValue, Float as FloatValue, Str as StrValue, Bool as BoolValue, Null as NullValue, EnumName as EnumValue}
+use Rattle.input_values.specs.values.Coerced.{CoercedTree, coerced_null, coerced_integer, coerced_float, coerced_string, coerced_boolean, coerced_enum, coerced_list, coerced_object, coerced_step, coerced_field_step, NamedTree, coerced_tree, named_tree, trees_from, named_trees_from}
 
 pub null_made : coerced_tree NullValue ≡ coerced_null
 unfolding coerced_tree Rattle.input_values.specs.declared.values.coerced.Coerced.TheViews.roll-Coerced denote.Hole.Carrier.roll
@@ -16,6 +16,10 @@ null_made = fold-roll-Coerced CoercedTree NamedTree coerced_step coerced_field_s
 pub integer_made : (z : ℤ) → coerced_tree (IntValue z) ≡ coerced_integer z
 unfolding coerced_tree Rattle.input_values.specs.declared.values.coerced.Coerced.TheViews.roll-Coerced denote.Hole.Carrier.roll
 integer_made z = fold-roll-Coerced CoercedTree NamedTree coerced_step coerced_field_step (Coerced-F.Int z)
+
+pub float_made : (bits : ℕ) → coerced_tree (FloatValue bits) ≡ coerced_float bits
+unfolding coerced_tree Rattle.input_values.specs.declared.values.coerced.Coerced.TheViews.roll-Coerced denote.Hole.Carrier.roll
+float_made bits = fold-roll-Coerced CoercedTree NamedTree coerced_step coerced_field_step (Coerced-F.Float bits)
 
 pub string_made : (s : List ℕ) → coerced_tree (StrValue s) ≡ coerced_string s
 unfolding coerced_tree Rattle.input_values.specs.declared.values.coerced.Coerced.TheViews.roll-Coerced denote.Hole.Carrier.roll
@@ -49,4 +53,4 @@ pub field_opened : (f : CoercedField) → named_tree f ≡ (f.name, coerced_tree
 unfolding named_tree coerced_tree
 field_opened f = fold_out-CoercedField CoercedTree NamedTree coerced_step coerced_field_step f
 
-pub ruleset made_trees = (null_made, integer_made, string_made, boolean_made, enum_made, list_made, object_made, shared_made)
+pub ruleset made_trees = (null_made, integer_made, float_made, string_made, boolean_made, enum_made, list_made, object_made, shared_made)

@@ -1,2 +1,3 @@
 pub mod Coerced
 pub mod Counting
+pub mod Floats

@@ -26,4 +26,5 @@ pub use sharing::inputs_are_shared;
 pub use values::coerced::{Coerced, CoercedField};
 pub use values::copies::{copy_field, copy_value};
 pub use values::counting::{count_node, count_nodes, is_null};
+pub use values::floats::{finite_bits, float_bits};
 pub use values::made;

@@ -1,7 +1,7 @@
 -- Loads at named types, in lists, and at other places of the same type.
 use Rattle.std.proofs.Common.{◌≡◌, ◌+◌, ◌*◌, ◌≤◌, ◌&&◌, ℕ, Bool, true, false, not, cond, List, get_or, Option, None, Some, Ok, refl, sym, ap, ap₂, ◌∙◌, subst, arith}
 use Rattle.std.proofs.lemmas.Option.{same_Some}
-use Rattle.input_values.specs.values.Coerced.{CoercedTree, coerced_tree, is_coerced_null, CoercedTrees, coerced_null, coerced_integer, coerced_string, coerced_boolean, coerced_enum, coerced_list, coerced_object, no_coerced, coerced_then}
+use Rattle.input_values.specs.values.Coerced.{CoercedTree, coerced_tree, is_coerced_null, CoercedTrees, coerced_null, coerced_integer, coerced_float, coerced_string, coerced_boolean, coerced_enum, coerced_list, coerced_object, no_coerced, coerced_then}
 use Rattle.input_values.specs.declared.values.coerced.Coerced.{Coerced}
 use Rattle.input_values.specs.inputs.Shapes.{ShapeTree, named_shape, list_shape, is_nullable}
 use Rattle.input_values.specs.coercion.Answers.{Answer, refused, mapped}
@@ -52,6 +52,7 @@ module _ (objects : ObjectInputs) (own : Option ℕ) where
     same_cost : (t : CoercedTree) (s o : ShapeTree) → innermost s ≡ innermost o → lists_round s ≡ lists_round o → value_cost objects s own t ≡ value_cost objects o own t
     same_cost coerced_null s o of lists = refl
     same_cost (coerced_integer z) s o of lists = refl
+    same_cost (coerced_float z) s o of lists = refl
     same_cost (coerced_string b) s o of lists = refl
     same_cost (coerced_boolean b) s o of lists = refl
     same_cost (coerced_enum name) s o of lists = refl

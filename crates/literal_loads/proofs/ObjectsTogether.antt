@@ -6,7 +6,7 @@ use Rattle.std.proofs.lemmas.List.Elements.{All-map}
 use Rattle.gql_base.specs.names.Names.{first_of_name}
 use Rattle.gql_base.proofs.Lists.{at_front}
 use Rattle.input_values.specs.declared.values.coerced.CoercedField.{CoercedField}
-use Rattle.input_values.specs.values.Coerced.{CoercedTree, CoercedTrees, CoercedFields, coerced_tree, named_tree, named_trees_from, nodes, field_nodes, coerced_null, coerced_integer, coerced_string, coerced_boolean, coerced_enum, coerced_list, coerced_object, no_coerced, coerced_then, no_coerced_field, coerced_field_then}
+use Rattle.input_values.specs.values.Coerced.{CoercedTree, CoercedTrees, CoercedFields, coerced_tree, named_tree, named_trees_from, nodes, field_nodes, coerced_null, coerced_integer, coerced_float, coerced_string, coerced_boolean, coerced_enum, coerced_list, coerced_object, no_coerced, coerced_then, no_coerced_field, coerced_field_then}
 use Rattle.input_values.specs.inputs.Shapes.{ShapeTree, named_shape, list_shape}
 use Rattle.input_values.specs.coercion.Places.{innermost}
 use Rattle.input_values.proofs.CoercedTrees.{field_opened}
@@ -62,6 +62,7 @@ module _ (objects : ObjectInputs) where
     free_cost : (t : CoercedTree) (s : ShapeTree) → get_or objects (innermost s) None ≡ None → value_cost objects s None t ≡ 0
     free_cost coerced_null s none = refl
     free_cost (coerced_integer z) s none = refl
+    free_cost (coerced_float z) s none = refl
     free_cost (coerced_string b) s none = refl
     free_cost (coerced_boolean b) s none = refl
     free_cost (coerced_enum name) s none = refl

@@ -4,7 +4,7 @@ use Rattle.std.proofs.lemmas.List.{drop_all}
 use Rattle.gql_base.proofs.Lists.{at_front}
 use Rattle.input_values.specs.declared.values.coerced.Coerced.{Coerced}
 use Rattle.input_values.specs.declared.values.coerced.Coerced.TheViews.{List as ListValue}
-use Rattle.input_values.specs.values.Coerced.{CoercedTree, CoercedTrees, coerced_tree, trees_from, nodes, item_nodes, coerced_then, coerced_null, coerced_integer, coerced_string, coerced_boolean, coerced_enum, coerced_list, coerced_object}
+use Rattle.input_values.specs.values.Coerced.{CoercedTree, CoercedTrees, coerced_tree, trees_from, nodes, item_nodes, coerced_then, coerced_null, coerced_integer, coerced_float, coerced_string, coerced_boolean, coerced_enum, coerced_list, coerced_object}
 use Rattle.input_values.specs.inputs.Shapes.{ShapeTree, named_shape, list_shape}
 use Rattle.input_values.proofs.CoercedTrees.{list_made}
 use Rattle.cost_directives.specs.ArgumentCosts.{ObjectInputs, leaf_cost, object_cost, value_cost, items_cost}
@@ -80,6 +80,7 @@ module _ (e : Scale) (item : ShapeTree) (vs : List Coerced) where
 abbrev pub IsPlain : CoercedTree → Type 0
 IsPlain coerced_null = ⊥
 IsPlain (coerced_integer z) = Unit {0}
+IsPlain (coerced_float z) = Unit {0}
 IsPlain (coerced_string b) = Unit {0}
 IsPlain (coerced_boolean b) = Unit {0}
 IsPlain (coerced_enum name) = Unit {0}
@@ -95,6 +96,7 @@ leaf_load e s t leaf is price = record { size = is.size; price = λ own. leaf_co
 plain_nodes : (t : CoercedTree) → IsPlain t → 1 ≡ nodes t
 plain_nodes coerced_null plain = absurd plain
 plain_nodes (coerced_integer z) plain = refl
+plain_nodes (coerced_float z) plain = refl
 plain_nodes (coerced_string b) plain = refl
 plain_nodes (coerced_boolean b) plain = refl
 plain_nodes (coerced_enum name) plain = refl
@@ -105,6 +107,7 @@ plain_cost : (objects : ObjectInputs) (s : ShapeTree) (own : Option ℕ) (t : Co
 unfolding value_cost
 plain_cost objects s own coerced_null plain = absurd plain
 plain_cost objects s own (coerced_integer z) plain = refl
+plain_cost objects s own (coerced_float z) plain = refl
 plain_cost objects s own (coerced_string b) plain = refl
 plain_cost objects s own (coerced_boolean b) plain = refl
 plain_cost objects s own (coerced_enum name) plain = refl

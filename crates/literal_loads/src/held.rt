@@ -34,6 +34,7 @@ fn nodes_left(value: &Coerced, most: usize) -> Option<usize> {
         Coerced::Object(fields) => fields_left(fields.as_slice(), most - 1),
         Coerced::Null => Some(most - 1),
         Coerced::Int(_) => Some(most - 1),
+        Coerced::Float(_) => Some(most - 1),
         Coerced::Str(_) => Some(most - 1),
         Coerced::Bool(_) => Some(most - 1),
         Coerced::EnumName(_) => Some(most - 1),

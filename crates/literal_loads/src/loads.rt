@@ -190,6 +190,7 @@ impl<'p> Loads<'p> {
                 _ => self.of.whole_load(alloc, shape, value),
             },
             Value::Int(_) => self.of.whole_load(alloc, shape, value),
+            Value::Float(_) => self.of.whole_load(alloc, shape, value),
             Value::Str(_) => self.of.whole_load(alloc, shape, value),
             Value::Bool(_) => self.of.whole_load(alloc, shape, value),
             Value::Null => self.of.whole_load(alloc, shape, value),

@@ -150,6 +150,7 @@ impl<'p> Loads<'p> {
                 _ => Ok(()),
             },
             Value::Int(_) => Ok(()),
+            Value::Float(_) => Ok(()),
             Value::Str(_) => Ok(()),
             Value::Bool(_) => Ok(()),
             Value::Null => Ok(()),

@@ -34,6 +34,10 @@ fn same_leaf_value(value: &Coerced, other: &Coerced) -> bool
             Coerced::Int(same) => *number == *same,
             _ => false,
         },
+        Coerced::Float(bits) => match other {
+            Coerced::Float(same) => *bits == *same,
+            _ => false,
+        },
         Coerced::Str(text) => match other {
             Coerced::Str(same) => text.as_str() == same.as_str(),
             _ => false,

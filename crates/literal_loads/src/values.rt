@@ -170,6 +170,7 @@ impl<'p> Weighing<'p> {
                 inside: 0,
             }),
             Coerced::Int(_) => Some(leaf),
+            Coerced::Float(_) => Some(leaf),
             Coerced::Str(_) => Some(leaf),
             Coerced::Bool(_) => Some(leaf),
             Coerced::EnumName(_) => Some(leaf),

@@ -10,6 +10,7 @@ const LOOKED_AT: usize = 4;
 pub(crate) fn steps_of(literal: &Value) -> usize {
     match literal {
         Value::Var(name) => steps_of_text(name.text.as_str().len()).saturating_add(LOOKED_AT),
+        Value::Float(text) => steps_of_text(text.as_str().len()).saturating_add(1),
         _ => 1,
     }
 }

@@ -3,7 +3,7 @@ use Rattle.std.proofs.Common.{◌≡◌, ◌∙◌, ℕ, ◌+◌, List, [], ◌�
 use Rattle.std.specs.List.{position_from}
 use Rattle.std.specs.Str.{bytes_eq}
 use Rattle.gql_base.specs.names.Names.{place_of_name}
-use Rattle.input_values.specs.values.Coerced.{CoercedTree, coerced_null, coerced_integer, coerced_string, coerced_boolean, coerced_enum, coerced_list, coerced_object}
+use Rattle.input_values.specs.values.Coerced.{CoercedTree, coerced_null, coerced_integer, coerced_float, coerced_string, coerced_boolean, coerced_enum, coerced_list, coerced_object}
 use Rattle.schema_model.specs.Arguments.{ArgData}
 use Rattle.meta_schema.specs.PassedOn.{Argument, AskedNodes, asked_then, Asked, no_field, field_then, AskedBelow, of_leaf, of_objects, of_nothing, kept_of, kept_below, first_value, is_true_value, place_of_value, argument_kept}
 use Rattle.schema_facts.specs.declared.known.KnownType.{KnownType}
@@ -15,6 +15,7 @@ module _ (place other : List ℕ → Option ℕ) (same : (name : List ℕ) → p
   value_alike (Some (coerced_string name)) = same name
   value_alike (Some coerced_null) = refl
   value_alike (Some (coerced_integer z)) = refl
+  value_alike (Some (coerced_float z)) = refl
   value_alike (Some (coerced_boolean b)) = refl
   value_alike (Some (coerced_enum name)) = refl
   value_alike (Some (coerced_list items)) = refl

@@ -21,6 +21,7 @@ fn count_value(work: Work<'_>, value: &Value) {
     work.count(2);
     match value {
         Value::Var(name) => work.count(steps_of(name.text.as_str().len(), 4)),
+        Value::Float(text) => work.count(steps_of(text.as_str().len(), 4)),
         Value::Str(text) => work.count(steps_of(text.as_str().len(), 4)),
         Value::EnumName(name) => work.count(steps_of(name.text.as_str().len(), 4)),
         Value::List(items) => count_items(work, items.as_slice()),

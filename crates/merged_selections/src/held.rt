@@ -14,6 +14,7 @@ fn value_bytes(value: &Coerced) -> usize {
     match value {
         Coerced::Null => NODE,
         Coerced::Int(_) => NODE,
+        Coerced::Float(_) => NODE,
         Coerced::Str(text) => NODE.saturating_add(text.as_str().len()),
         Coerced::Bool(_) => NODE,
         Coerced::EnumName(name) => NODE.saturating_add(name.as_str().len()),

@@ -43,6 +43,7 @@ fn value_left(value: &Value, most: usize) -> Option<usize> {
         Value::Object(fields) => arguments_left(fields.as_slice(), left),
         Value::Var(_) => Some(left),
         Value::Int(_) => Some(left),
+        Value::Float(_) => Some(left),
         Value::Str(_) => Some(left),
         Value::Bool(_) => Some(left),
         Value::Null => Some(left),

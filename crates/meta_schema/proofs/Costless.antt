@@ -3,7 +3,7 @@ use Rattle.std.proofs.Common.{◌≡◌, inl, inr, ◌+◌, ℕ, zero, suc, Bool
 use Rattle.std.specs.Prelude.{codes}
 use Rattle.std.specs.Str.{bytes_eq}
 use Rattle.std.proofs.lemmas.Bool.{cases_lt}
-use Rattle.input_values.specs.values.Coerced.{CoercedTree, coerced_null, coerced_integer, coerced_string, coerced_boolean, coerced_enum, coerced_list, coerced_object}
+use Rattle.input_values.specs.values.Coerced.{CoercedTree, coerced_null, coerced_integer, coerced_float, coerced_string, coerced_boolean, coerced_enum, coerced_list, coerced_object}
 use Rattle.input_values.specs.inputs.Shapes.{named_shape}
 use Rattle.schema_rules.specs.Kinds.{is_scalar}
 use Rattle.schema_model.specs.SchemaData.{TypeData, SchemaData, type_at}
@@ -40,6 +40,7 @@ value_free : (objects : ObjectInputs) (of : ℕ) (nullable : Bool) (v : CoercedT
 unfolding value_cost
 value_free objects of nullable coerced_null none = refl
 value_free objects of nullable (coerced_integer z) none = refl
+value_free objects of nullable (coerced_float z) none = refl
 value_free objects of nullable (coerced_string s) none = refl
 value_free objects of nullable (coerced_boolean b) none = refl
 value_free objects of nullable (coerced_enum name) none = refl

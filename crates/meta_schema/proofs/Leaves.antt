@@ -36,31 +36,31 @@ locations_hold (number n) = refl
 locations_hold (array items) = refl
 locations_hold (object entries) = refl
 
-texts_hold : (json : Data) → scalar_holds (scalar_kind (codes "String")) json ≡ meta_holds 11 json
-texts_hold (string text) = refl
-texts_hold null = refl
-texts_hold (boolean b) = refl
-texts_hold (number n) = refl
-texts_hold (array items) = refl
-texts_hold (object entries) = refl
+texts_hold : (lax : Bool) (json : Data) → scalar_holds (scalar_kind lax (codes "String")) json ≡ meta_holds 11 json
+texts_hold lax (string text) = refl
+texts_hold lax null = refl
+texts_hold lax (boolean b) = refl
+texts_hold lax (number n) = refl
+texts_hold lax (array items) = refl
+texts_hold lax (object entries) = refl
 
-flags_hold : (json : Data) → scalar_holds (scalar_kind (codes "Boolean")) json ≡ meta_holds 12 json
-flags_hold (string text) = refl
-flags_hold null = refl
-flags_hold (boolean b) = refl
-flags_hold (number n) = refl
-flags_hold (array items) = refl
-flags_hold (object entries) = refl
+flags_hold : (lax : Bool) (json : Data) → scalar_holds (scalar_kind lax (codes "Boolean")) json ≡ meta_holds 12 json
+flags_hold lax (string text) = refl
+flags_hold lax null = refl
+flags_hold lax (boolean b) = refl
+flags_hold lax (number n) = refl
+flags_hold lax (array items) = refl
+flags_hold lax (object entries) = refl
 
 enum_by : (t : TypeData) (values : List (List ℕ)) (json : Data) → is_enum_of values t ≡ true → holds_by t.kind t json ≡ enum_holds values json
 enum_by t values json is =
     let parts = both (is_enum t.kind) (same_names t.values values) is in
     ap (λ kind. holds_by kind t json) (an_enum t.kind parts.0) ∙ ap (λ vs. enum_holds vs json) (names t.values values parts.1)
 
-scalar_by : (t : TypeData) (name : List ℕ) (json : Data) → is_scalar_named name t ≡ true → holds_by t.kind t json ≡ scalar_holds (scalar_kind name) json
+scalar_by : (t : TypeData) (name : List ℕ) (json : Data) → is_scalar_named name t ≡ true → holds_by t.kind t json ≡ scalar_holds (scalar_kind t.lax name) json
 scalar_by t name json is =
     let parts = both (is_scalar t.kind) (bytes_eq t.name name) is in
-    ap (λ kind. holds_by kind t json) (a_scalar t.kind parts.0) ∙ ap (λ n. scalar_holds (scalar_kind n) json) (same_text t.name name parts.1)
+    ap (λ kind. holds_by kind t json) (a_scalar t.kind parts.0) ∙ ap (λ n. scalar_holds (scalar_kind t.lax n) json) (same_text t.name name parts.1)
 
 module _ (s : SchemaData) where
   abbrev HoldsAlike : ℕ → Type 0
@@ -76,11 +76,11 @@ module _ (s : SchemaData) where
 
   at_eleven : is_scalar_named (codes "String") (type_at s 11) ≡ true → HoldsAlike 11
   unfolding holds
-  at_eleven is json = scalar_by (type_at s 11) (codes "String") json is ∙ texts_hold json
+  at_eleven is json = scalar_by (type_at s 11) (codes "String") json is ∙ texts_hold (type_at s 11).lax json
 
   at_twelve : is_scalar_named (codes "Boolean") (type_at s 12) ≡ true → HoldsAlike 12
   unfolding holds
-  at_twelve is json = scalar_by (type_at s 12) (codes "Boolean") json is ∙ flags_hold json
+  at_twelve is json = scalar_by (type_at s 12) (codes "Boolean") json is ∙ flags_hold (type_at s 12).lax json
 
   pub leaves_hold : are_leaf_types s ≡ true → (T : ℕ) (json : Data) → IsLeafType T → holds s T json ≡ meta_holds T json
   leaves_hold are T json is =

@@ -6,7 +6,7 @@ use Rattle.std.specs.Str.{bytes_eq}
 use Rattle.std.proofs.lemmas.Bool.{cases_Bool, eqb-true}
 use Rattle.std.proofs.lemmas.Slice.Eq.{bytes_eq-Decides}
 use Rattle.response_model.specs.Plan.{Form, single, listed, LeafType, type_name, numbered}
-use Rattle.input_values.specs.values.Coerced.{CoercedTree, coerced_null, coerced_integer, coerced_string, coerced_boolean, coerced_enum, coerced_list, coerced_object}
+use Rattle.input_values.specs.values.Coerced.{CoercedTree, coerced_null, coerced_integer, coerced_float, coerced_string, coerced_boolean, coerced_enum, coerced_list, coerced_object}
 use Rattle.input_values.specs.inputs.Shapes.{ShapeTree, named_shape, list_shape}
 use Rattle.input_values.specs.inputs.Definitions.{InputData}
 use Rattle.schema_rules.specs.declared.kind.Kind.{Kind}
@@ -51,12 +51,14 @@ defaults None (Some b) same = absurd (cc)
 defaults (Some (coerced_boolean a)) None same = absurd (cc)
 defaults (Some (coerced_boolean a)) (Some coerced_null) same = absurd (cc)
 defaults (Some (coerced_boolean a)) (Some (coerced_integer z)) same = absurd (cc)
+defaults (Some (coerced_boolean a)) (Some (coerced_float z)) same = absurd (cc)
 defaults (Some (coerced_boolean a)) (Some (coerced_string s)) same = absurd (cc)
 defaults (Some (coerced_boolean a)) (Some (coerced_enum name)) same = absurd (cc)
 defaults (Some (coerced_boolean a)) (Some (coerced_list items)) same = absurd (cc)
 defaults (Some (coerced_boolean a)) (Some (coerced_object fields)) same = absurd (cc)
 defaults (Some coerced_null) b same = absurd (cc)
 defaults (Some (coerced_integer z)) b same = absurd (cc)
+defaults (Some (coerced_float z)) b same = absurd (cc)
 defaults (Some (coerced_string s)) b same = absurd (cc)
 defaults (Some (coerced_enum name)) b same = absurd (cc)
 defaults (Some (coerced_list items)) b same = absurd (cc)

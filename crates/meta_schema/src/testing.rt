@@ -70,6 +70,7 @@ fn is_flag(value: &Coerced, default: bool) -> bool
         Coerced::Bool(is) => agree(default, *is),
         Coerced::Null => false,
         Coerced::Int(_) => false,
+        Coerced::Float(_) => false,
         Coerced::Str(_) => false,
         Coerced::EnumName(_) => false,
         Coerced::List(_) => false,

@@ -1,5 +1,7 @@
 -- What is refused of an operation's texts.
-use Rattle.std.proofs.Common.{◌≡◌, inl, inr, ℕ, List, Option, None, Some, subst}
+use Rattle.std.proofs.Common.{◌≡◌, inl, inr, ℕ, List, Bool, Option, None, Some, subst}
+use Rattle.schema_model.specs.SchemaData.{has_floats}
+use Rattle.schema_model.specs.SchemaViews.{schema_data}
 use Rattle.schema_model.specs.declared.schema.Schema.{Schema}
 use Rattle.cost_directives.specs.declared.weights.Weights.{Weights}
 use Rattle.command_words.specs.declared.command.Asked.{Asked}
@@ -13,10 +15,15 @@ use Rattle.operation_commands.specs.declared.asking.AskedFault.{AskedFault}
 use Rattle.operation_commands.specs.declared.asking.AskedFault.TheVariants.{Refused, Memory}
 use Rattle.acceptance.specs.declared.fault.Refusal.{Refusal}
 use Rattle.command_outcomes.specs.Check.{HoldsWith, IsUnchecked}
-use Rattle.operation_commands.specs.Asked.{HoldInputs, request_in, HoldsSchema, HoldsGiven, IsUngiven, IsNoSchemaOf, IsUnreadIn, IsNoOperationOf, IsRefusalOf, IsNoInputsOf, IfAskedRefused}
+use Rattle.operation_commands.specs.Asked.{HoldInputs, request_in, HoldsSchema, HoldsGiven, IsUngiven, LetsFloatsIn, IsNoSchemaOf, IsUnreadIn, IsNoOperationOf, IsRefusalOf, IsNoInputsOf, IfAskedRefused}
 
 pub schema_held : (asked : Asked) (texts : AskedTexts) (text : List ℕ) (schema : Schema) (weights : Weights) → text ≡ texts.schema → HoldsWith text asked.undeclared schema weights → HoldsSchema asked texts
 schema_held asked texts text schema weights same held = subst (λ t. (s : Schema) × (w : Weights) × HoldsWith t asked.undeclared s w) same (schema, weights, held)
+
+-- whether floats are let in, by the schema that was read
+pub floats_held : (asked : Asked) (texts : AskedTexts) (text : List ℕ) (schema : Schema) (weights : Weights) (floats : Bool) → text ≡ texts.schema → HoldsWith text asked.undeclared schema weights → floats ≡ has_floats (schema_data schema)
+    → LetsFloatsIn texts.schema asked.undeclared floats
+floats_held asked texts text schema weights floats same held is = subst (λ t. LetsFloatsIn t asked.undeclared floats) same (schema, weights, held, is)
 
 pub no_schema : (asked : Asked) (texts : AskedTexts) (text : List ℕ) (fault : AskedFault) → text ≡ texts.schema → IfAskedRefused fault (IsNoSchemaOf text) → IfAskedRefused fault (IsNoInputsOf asked texts)
 no_schema asked texts text (Refused (NoSchema refusal)) same refused = subst (λ t. IsUnchecked t refusal) same refused
@@ -40,12 +47,12 @@ not_given asked texts (Refused BadVariables) schema refused = (schema, refused)
 not_given asked texts (Refused (NoOperation refusal)) schema refused = absurd (given_operation texts.variables refusal refused)
 not_given asked texts Memory schema refused = tt
 
-pub not_read : (asked : Asked) (texts : AskedTexts) (text : List ℕ) (fault : AskedFault) → HoldsSchema asked texts → HoldsGiven texts → text ≡ texts.document → IfAskedRefused fault (IsUnreadIn text) → IfAskedRefused fault (IsNoInputsOf asked texts)
-not_read asked texts text (Refused (NoSchema refusal)) schema given same refused = absurd refused
-not_read asked texts text (Refused NotJson) schema given same refused = absurd refused
-not_read asked texts text (Refused BadVariables) schema given same refused = absurd refused
-not_read asked texts text (Refused (NoOperation refusal)) schema given same refused = (schema, given, subst (λ t. IsUnread t refusal) same refused)
-not_read asked texts text Memory schema given same refused = tt
+pub not_read : (asked : Asked) (texts : AskedTexts) (floats : Bool) (text : List ℕ) (fault : AskedFault) → LetsFloatsIn texts.schema asked.undeclared floats → HoldsGiven texts → text ≡ texts.document → IfAskedRefused fault (IsUnreadIn floats text) → IfAskedRefused fault (IsNoInputsOf asked texts)
+not_read asked texts floats text (Refused (NoSchema refusal)) schema given same refused = absurd refused
+not_read asked texts floats text (Refused NotJson) schema given same refused = absurd refused
+not_read asked texts floats text (Refused BadVariables) schema given same refused = absurd refused
+not_read asked texts floats text (Refused (NoOperation refusal)) lets given same refused = (given, (floats, lets, subst (λ t. IsUnread floats t refusal) same refused))
+not_read asked texts floats text Memory schema given same refused = tt
 
 -- it is a refusal then
 pub refused_for : (asked : Asked) (texts : AskedTexts) (fault : AskedFault) → IfAskedRefused fault (IsNoInputsOf asked texts) → IfAskedRefused fault (IsRefusalOf asked texts)

@@ -5,11 +5,10 @@ use Rattle.std.specs.declared.alloc.Global.{Global}
 use Rattle.std.proofs.lemmas.List.{append_assoc, append-nil, drop_all, length-append, get_or-map}
 use Rattle.document_reader.specs.declared.trees.Document.{Document}
 use Rattle.document_reader.specs.declared.trees.Definition.{Definition}
-use Rattle.document_reader.specs.DocumentAnswers.{IsDocumentOf}
 use Rattle.command_words.specs.declared.command.AskedAudit.{AskedAudit}
 use Rattle.operation_commands.specs.declared.asked.AskedTexts.{AskedTexts}
 use Rattle.operation_commands.specs.declared.findings.Finding.{Finding}
-use Rattle.operation_commands.specs.Audit.{operation_names, names_in, IsFinding, FindEach, FindsOperations, AreFoundIn, AreFound, Adds}
+use Rattle.operation_commands.specs.Audit.{operation_names, names_in, IsFinding, FindEach, IsDocumentBy, FindsOperations, AreFoundIn, AreFound, Adds}
 
 abbrev pub bytes_of : Vec ℕ Global → List ℕ
 bytes_of v = v.items
@@ -69,7 +68,7 @@ module _ (audit : AskedAudit) (texts : AskedTexts) (name : List ℕ) (definition
 
 -- ---- a document
 
-module _ (audit : AskedAudit) (texts : AskedTexts) (name : List ℕ) (d : Document) (of : IsDocumentOf texts.document d) where
+module _ (audit : AskedAudit) (texts : AskedTexts) (name : List ℕ) (d : Document) (of : IsDocumentBy audit texts.schema texts.document d) where
   -- something was found
   pub some_found : (before after : List Finding) → length before < length after → Adds (FindEach audit texts name (names_in d.definitions.items)) before after
       → Adds (FindsOperations audit texts.schema name texts.document) before after

@@ -3,13 +3,17 @@ use Rattle.std.proofs.Common.{◌≡◌, ◌<◌, inl, inr, ◌∙◌, ℕ, List
 use Rattle.std.proofs.lemmas.Bool.{cases_lt}
 use Rattle.std.proofs.lemmas.Option.{none-some}
 use Rattle.cost_num.specs.declared.Cost.{Cost}
+use Rattle.cost_num.proofs.Costs.{cost_eq}
 use Rattle.serde_json.specs.Data.{Data}
+use Rattle.serde_json.specs.Read.{read as read_text}
+use Rattle.serde_json.specs.View.{view}
 use Rattle.serde_json.specs.Written.{compact_text}
 use Rattle.response_model.specs.Plan.{Plan as PlanTree}
 use Rattle.response_model.specs.Cost.{types, fields}
 use Rattle.response_model.specs.ResponseText.{response_text}
+use Rattle.response_model.specs.AnswerTexts.{IsAnswerText}
 use Rattle.schema_model.specs.declared.schema.Schema.{Schema}
-use Rattle.schema_model.specs.SchemaData.{type_at}
+use Rattle.schema_model.specs.SchemaData.{type_at, has_floats}
 use Rattle.schema_model.specs.SchemaViews.{schema_data}
 use Rattle.document_reader.specs.Trees.{definition_tree}
 use Rattle.plan_model.specs.SelectedFields.{holds}
@@ -20,7 +24,8 @@ use Rattle.plan_table.specs.TableBounds.{holds_in}
 use Rattle.command_words.specs.declared.command.Asked.{Asked}
 use Rattle.acceptance.specs.Requests.{RequestData, Prepared, plan_tree}
 use Rattle.acceptance.specs.Bounds.{IsAccepted}
-use Rattle.acceptance.specs.Forwarding.{IsFreeIn, sent_body}
+use Rattle.acceptance.specs.Forwarding.{IsFreeIn, sent_body, IsGivenAsRead, IsSentText}
+use Rattle.acceptance.specs.Keys.{HasEachKeyOnce}
 use Rattle.acceptance.specs.AskAlike.{AskAlike}
 use Rattle.response_meter.specs.declared.metered.Metered.{Metered}
 use Rattle.response_meter.specs.declared.fault.MeterFault.{MeterFault}
@@ -28,15 +33,15 @@ use Rattle.response_meter.specs.declared.fault.MeterFault.TheVariants.{NotRespon
 use Rattle.response_meter.specs.Faults.{Fault, not_response, size_broken, Tells}
 use Rattle.response_meter.specs.FirstFault.{AreNamed}
 use Rattle.response_meter.specs.Reply.{ReplyReads, IsResponseOrNone, ReadsOnce, PassesWhereReadable, first_reply_fault, reply_cost}
-use Rattle.response_meter.specs.Metered.{name_in, TypesDiffer, first_fault_in, IsMetered}
+use Rattle.response_meter.specs.Metered.{name_in, TypesDiffer, first_fault_in, IsMetered, HasOneText, AreMeasuredAlike}
 use Rattle.operation_commands.specs.declared.asked.AskedTexts.{AskedTexts}
 use Rattle.operation_commands.specs.declared.asking.Inputs.{Inputs}
 use Rattle.command_outcomes.specs.Check.{HoldsChecked}
-use Rattle.operation_commands.specs.Asked.{HoldInputs, request_in}
+use Rattle.operation_commands.specs.Asked.{IsGiven, HoldInputs, request_in, LetsFloatsIn}
 use Rattle.operation_commands.specs.Price.{HasBound}
-use Rattle.operation_commands.specs.Forward.{IsSent}
+use Rattle.operation_commands.specs.Forward.{IsSent, AreGivenAsRead}
 use Rattle.operation_commands.specs.Meter.{OfAccepted, HasMeasure, HasReplyFault}
-use Rattle.operation_commands.proofs.OnePrice.{OneReading, ask_alike}
+use Rattle.operation_commands.proofs.OnePrice.{OneReading, one_floats, lets_by, read_as, ask_alike}
 
 -- ---- what is accepted has a price
 
@@ -78,6 +83,7 @@ pub record OneReply : Type 0 where
   pub types_differ : (bytes : List ℕ) (schema : Schema) → HoldsChecked bytes schema → TypesDiffer (schema_data schema)
   pub named : (table : Plan) (tree : PlanTree) → TypesDiffer (setting_in table).schema → HasRows table tree → AreNamed (name_in table) tree
   pub one_reply : (name : ℕ → List ℕ) (alias : List ℕ) (plan : PlanTree) (bytes : List ℕ) → AreNamed name plan → ReadsOnce name alias plan bytes
+  pub plain : (table : Plan) (alias : List ℕ) (tree : PlanTree) (bytes : List ℕ) (metered : Metered) → has_floats (setting_in table).schema ≡ false → AreNamed (name_in table) tree → HasOneText table alias tree bytes metered
   pub passes : (holds : ℕ → Data → Bool) (name : ℕ → List ℕ) (alias : List ℕ) (plan : PlanTree) (bytes : List ℕ) → AreNamed name plan → PassesWhereReadable holds name alias plan bytes
 
 named_of : OneReply → (asked : Asked) (texts : AskedTexts) (inputs : Inputs) (plan : Plan) (bound : Cost) → HoldInputs asked texts inputs → (accepted : IsAccepted (request_in asked inputs) plan bound) → plan.schema.now ≡ inputs.weighed.schema
@@ -89,7 +95,9 @@ named_of laws asked texts inputs plan bound held accepted of_schema =
 one_free : OneReply → (asked : Asked) (texts : AskedTexts) (a b : Inputs) → HoldInputs asked texts a → HoldInputs asked texts b → (alias other : List ℕ) → IsFreeIn (request_in asked a) alias → IsFreeIn (request_in asked b) other → alias ≡ other
 one_free laws asked texts a b held held_too alias other free free_too =
     one_alias (names_of_document (map definition_tree b.document.definitions.items)) alias other
-    (subst (λ trees. IsAlias (names_of_document trees) alias) (laws.reading.trees texts.document a.document b.document held.is_document held_too.is_document) free) free_too
+    (subst (λ trees. IsAlias (names_of_document trees) alias)
+    (laws.reading.trees (has_floats (schema_data a.weighed.schema)) texts.document a.document b.document held.is_document
+    (read_as asked texts b (has_floats (schema_data a.weighed.schema)) laws.reading held_too (lets_by asked texts a held))) free) free_too
 
 -- Whatever holds of both holds of one plan, with one alias and one tree.
 same_of : OneReply → (asked : Asked) (texts : AskedTexts) (a b : Inputs) (p q : Plan) (m n : Cost) (alias other : List ℕ) → HoldInputs asked texts a → HoldInputs asked texts b
@@ -126,23 +134,40 @@ fault_alike p q alias other tree tree_too bytes same =
     ∙ (ap (λ t. first_fault_in q alias t bytes) same.tree ∙ ap (λ s. first_reply_fault (holds s) (λ T. (type_at s T).name) alias tree bytes) same.schema)
 
 -- a measure by its parts
-abbrev made : ℕ → ℕ → List ℕ → Metered
-made t f text = record {
-  cost = record {
-    types = t;
-    fields = f;
-  };
-  text = text;
-}
+abbrev made : Cost → List ℕ → Metered
+made cost text = record { cost = cost; text = text }
 
-same_parts : (m n : Metered) → m.cost.types ≡ n.cost.types → m.cost.fields ≡ n.cost.fields → m.text ≡ n.text → m ≡ n
-same_parts m n ts fs texts = ap (λ t. made t m.cost.fields m.text) ts ∙ (ap (λ f. made n.cost.types f m.text) fs ∙ ap (made n.cost.types n.cost.fields) texts)
+module _ (laws : OneReply) (p : Plan) (alias : List ℕ) (tree : PlanTree) (bytes : List ℕ) (m n : Metered) (named : AreNamed (name_in p) tree) (a : IsMetered p alias tree bytes m) (b : IsMetered p alias tree bytes n) where
+  abbrev read_once : (a.content ≡ b.content) × (a.errors ≡ b.errors)
+  read_once = laws.one_reply (name_in p) alias tree bytes named a.content b.content a.errors b.errors a.reads b.reads
 
-measured_once : OneReply → (p : Plan) (alias : List ℕ) (tree : PlanTree) (bytes : List ℕ) (m n : Metered) → AreNamed (name_in p) tree → IsMetered p alias tree bytes m → IsMetered p alias tree bytes n → m ≡ n
-measured_once laws p alias tree bytes m n named a b =
-    let same = laws.one_reply (name_in p) alias tree bytes named a.content b.content a.errors b.errors a.reads b.reads in
-    same_parts m n (a.types_cost ∙ (ap (reply_cost types tree) same.0 ∙ sym b.types_cost)) (a.fields_cost ∙ (ap (reply_cost fields tree) same.0 ∙ sym b.fields_cost))
-    (a.text ∙ (ap (λ content. response_text content a.errors) same.0 ∙ (ap (response_text b.content) same.1 ∙ sym b.text)))
+  cost_once : m.cost ≡ n.cost
+  cost_once =
+      cost_eq m.cost n.cost
+      (a.types_cost ∙ (ap (reply_cost types tree) read_once.0 ∙ sym b.types_cost))
+      (a.fields_cost ∙ (ap (reply_cost fields tree) read_once.0 ∙ sym b.fields_cost))
+
+  metered_alike : AreMeasuredAlike bytes m n
+  metered_alike = record {
+    cost = cost_once;
+    texts = record {
+      name = name_in p;
+      alias = alias;
+      plan = tree;
+      content = a.content;
+      errors = a.errors;
+      reads = a.reads;
+      is_text = a.text;
+      is_other = subst (λ content. IsAnswerText content a.errors n.text) (sym read_once.0) (subst (λ errors. IsAnswerText b.content errors n.text) (sym read_once.1) b.text);
+    };
+  }
+
+  metered_once : has_floats (setting_in p).schema ≡ false → m ≡ n
+  metered_once none =
+      ap (λ cost. made cost m.text) cost_once
+      ∙ ap (made n.cost)
+      (laws.plain p alias tree bytes m none named a
+      ∙ (ap (λ content. response_text content a.errors) read_once.0 ∙ (ap (response_text b.content) read_once.1 ∙ sym (laws.plain p alias tree bytes n none named b))))
 
 -- the fault that an answer tells of the first test that doesn't pass
 abbrev told_by : Option Fault → MeterFault
@@ -166,11 +191,22 @@ no_fault laws p alias tree bytes metered named m = (laws.passes (holds_in p) (na
 
 -- ---- of the texts
 
-pub one_measure : OneReply → (asked : Asked) (texts : AskedTexts) (reply : List ℕ) (metered other : Metered) → HasMeasure asked texts reply metered → HasMeasure asked texts reply other → metered ≡ other
-one_measure laws asked texts reply metered other (a, held, (p, m, accepted, of_schema, (alias, free, measured))) (b, held_too, (q, n, accepted_too, of_schema_too, (alias_too, free_too, measured_too))) =
+-- where the texts let no floats in, the schema of what they hold lets none in
+none_in : OneReply → (asked : Asked) (texts : AskedTexts) (inputs : Inputs) → LetsFloatsIn texts.schema asked.undeclared false → HoldInputs asked texts inputs → has_floats (schema_data inputs.weighed.schema) ≡ false
+none_in laws asked texts inputs lets held = one_floats laws.reading texts.schema asked.undeclared (has_floats (schema_data inputs.weighed.schema)) false (lets_by asked texts inputs held) lets
+
+pub alike_measure : OneReply → (asked : Asked) (texts : AskedTexts) (reply : List ℕ) (metered other : Metered) → HasMeasure asked texts reply metered → HasMeasure asked texts reply other → AreMeasuredAlike reply metered other
+alike_measure laws asked texts reply metered other (a, held, (p, m, accepted, of_schema, (alias, free, measured))) (b, held_too, (q, n, accepted_too, of_schema_too, (alias_too, free_too, measured_too))) =
     let same = same_of laws asked texts a b p q m n alias alias_too held held_too accepted accepted_too of_schema of_schema_too free free_too in
-    measured_once laws p alias (plan_tree (request_in asked a) accepted.is_planned.prepared) reply metered other same.named measured
+    metered_alike laws p alias (plan_tree (request_in asked a) accepted.is_planned.prepared) reply metered other same.named measured
     (measured_alike p q alias alias_too (plan_tree (request_in asked a) accepted.is_planned.prepared) (plan_tree (request_in asked b) accepted_too.is_planned.prepared) reply other same measured_too)
+
+pub one_measure : OneReply → (asked : Asked) (texts : AskedTexts) (reply : List ℕ) (metered other : Metered) → LetsFloatsIn texts.schema asked.undeclared false → HasMeasure asked texts reply metered → HasMeasure asked texts reply other → metered ≡ other
+one_measure laws asked texts reply metered other lets (a, held, (p, m, accepted, of_schema, (alias, free, measured))) (b, held_too, (q, n, accepted_too, of_schema_too, (alias_too, free_too, measured_too))) =
+    let same = same_of laws asked texts a b p q m n alias alias_too held held_too accepted accepted_too of_schema of_schema_too free free_too in
+    metered_once laws p alias (plan_tree (request_in asked a) accepted.is_planned.prepared) reply metered other same.named measured
+    (measured_alike p q alias alias_too (plan_tree (request_in asked a) accepted.is_planned.prepared) (plan_tree (request_in asked b) accepted_too.is_planned.prepared) reply other same measured_too)
+    (ap (λ s. has_floats (schema_data s)) of_schema ∙ none_in laws asked texts a lets held)
 
 pub one_fault : OneReply → (asked : Asked) (texts : AskedTexts) (reply : List ℕ) (fault other : MeterFault) → HasReplyFault asked texts reply fault → HasReplyFault asked texts reply other → fault ≡ other
 one_fault laws asked texts reply fault other (a, held, (p, m, accepted, of_schema, (alias, free, first))) (b, held_too, (q, n, accepted_too, of_schema_too, (alias_too, free_too, first_too))) =
@@ -189,9 +225,31 @@ measured_or_faulty laws asked texts reply metered fault (a, held, (p, m, accepte
 
 -- ---- what is sent
 
-pub one_sent : OneReply → ((r q : RequestData) (p : Prepared r) (other : Prepared q) (alias : List ℕ) → AskAlike r q → sent_body r p alias ≡ sent_body q other alias)
-    → (asked : Asked) (texts : AskedTexts) (text other : List ℕ) → IsSent asked texts text → IsSent asked texts other → text ≡ other
-one_sent laws one_body asked texts text other (a, held, (p, m, accepted, (alias, free, is))) (b, held_too, (q, n, accepted_too, (alias_too, free_too, is_too))) =
-    is
-    ∙ (ap (λ x. compact_text (sent_body (request_in asked a) accepted.is_planned.prepared x)) (one_free laws asked texts a b held held_too alias alias_too free free_too)
-    ∙ (ap compact_text (one_body (request_in asked a) (request_in asked b) accepted.is_planned.prepared accepted_too.is_planned.prepared alias_too (ask_alike laws.reading asked texts a b held held_too)) ∙ sym is_too))
+pub record OneSent : Type 0 where
+  pub reply : OneReply
+  pub one_body : (r q : RequestData) (p : Prepared r) (other : Prepared q) (alias : List ℕ) → AskAlike r q → sent_body r p alias ≡ sent_body q other alias
+  pub once : (text : List ℕ) (json : Data) → read_text text ≡ Some json → HasEachKeyOnce json
+  pub read : (r : RequestData) (p : Prepared r) (alias text : List ℕ) → IsGivenAsRead r → IsSentText r p alias text → read_text text ≡ Some (sent_body r p alias)
+
+once_given : OneSent → (variables : Option (List ℕ)) (json : Data) → IsGiven variables json → HasEachKeyOnce json
+once_given laws None json is = subst HasEachKeyOnce (sym is) tt
+once_given laws (Some text) json is = laws.once text json is.0
+
+-- one body is sent
+body_once : OneSent → (asked : Asked) (texts : AskedTexts) (a b : Inputs) (held : HoldInputs asked texts a) (held_too : HoldInputs asked texts b) (p : Prepared (request_in asked a)) (q : Prepared (request_in asked b)) (alias other : List ℕ)
+    → IsFreeIn (request_in asked a) alias → IsFreeIn (request_in asked b) other → sent_body (request_in asked a) p alias ≡ sent_body (request_in asked b) q other
+body_once laws asked texts a b held held_too p q alias other free free_too =
+    ap (sent_body (request_in asked a) p) (one_free laws.reply asked texts a b held held_too alias other free free_too)
+    ∙ laws.one_body (request_in asked a) (request_in asked b) p q other (ask_alike laws.reply.reading asked texts a b held held_too)
+
+pub one_sent : OneSent → (asked : Asked) (texts : AskedTexts) (text other : List ℕ) → LetsFloatsIn texts.schema asked.undeclared false → IsSent asked texts text → IsSent asked texts other → text ≡ other
+one_sent laws asked texts text other lets (a, held, (p, m, accepted, (alias, free, is))) (b, held_too, (q, n, accepted_too, (alias_too, free_too, is_too))) =
+    is.plain (once_given laws texts.variables (view a.given) held.is_given) (none_in laws.reply asked texts a lets held)
+    ∙ (ap compact_text (body_once laws asked texts a b held held_too accepted.is_planned.prepared accepted_too.is_planned.prepared alias alias_too free free_too)
+    ∙ sym (is_too.plain (once_given laws texts.variables (view b.given) held_too.is_given) (none_in laws.reply asked texts b lets held_too)))
+
+pub alike_sent : OneSent → (asked : Asked) (texts : AskedTexts) (text other : List ℕ) → AreGivenAsRead asked texts → IsSent asked texts text → IsSent asked texts other → read_text text ≡ read_text other
+alike_sent laws asked texts text other given (a, held, (p, m, accepted, (alias, free, is))) (b, held_too, (q, n, accepted_too, (alias_too, free_too, is_too))) =
+    laws.read (request_in asked a) accepted.is_planned.prepared alias text (given a held) is
+    ∙ (ap Some (body_once laws asked texts a b held held_too accepted.is_planned.prepared accepted_too.is_planned.prepared alias alias_too free free_too)
+    ∙ sym (laws.read (request_in asked b) accepted_too.is_planned.prepared alias_too other (given b held_too) is_too))

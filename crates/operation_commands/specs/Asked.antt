@@ -1,5 +1,5 @@
 -- An operation of files: what its files hold, and why it is refused.
-use Rattle.std.specs.Prelude.{◌≡◌, ◌⊎◌, ℕ, List, Option, None, Some, true, false, codes}
+use Rattle.std.specs.Prelude.{◌≡◌, ◌⊎◌, ℕ, Bool, List, Option, None, Some, true, false, codes}
 use Rattle.std.specs.Option.{is_some}
 use Rattle.serde_json.specs.Data.{Data, object, no_members}
 use Rattle.serde_json.specs.Read.{read as read_text}
@@ -7,6 +7,7 @@ use Rattle.serde_json.specs.Find.{as_object}
 use Rattle.serde_json.specs.View.{view}
 use Rattle.document_reader.specs.DocumentAnswers.{IsDocumentOf}
 use Rattle.schema_model.specs.declared.schema.Schema.{Schema}
+use Rattle.schema_model.specs.SchemaData.{has_floats}
 use Rattle.schema_model.specs.SchemaViews.{schema_data}
 use Rattle.cost_directives.specs.declared.weights.Weights.{Weights}
 use Rattle.cost_directives.specs.WeightViews.{weights_data}
@@ -71,7 +72,7 @@ IsGiven (Some text) json = (read_text text ≡ Some json) × (is_some (as_object
 pub record HoldInputs (asked : Asked) (texts : AskedTexts) (inputs : Inputs) : Type 0 where
   pub is_schema : HoldsWith texts.schema asked.undeclared inputs.weighed.schema inputs.weighed.weights
   pub is_given : IsGiven texts.variables (view inputs.given)
-  pub is_document : IsDocumentOf texts.document inputs.document
+  pub is_document : IsDocumentOf (has_floats (schema_data inputs.weighed.schema)) texts.document inputs.document
 
 -- what is asked
 abbrev pub request_in : Asked → Inputs → RequestData
@@ -99,9 +100,13 @@ HoldsSchema asked texts = (schema : Schema) × (weights : Weights) × HoldsWith 
 abbrev pub HoldsGiven : AskedTexts → Type 0
 HoldsGiven texts = (given : Data) × IsGiven texts.variables given
 
+-- The text holds a schema, by which floats are let in or aren't.
+abbrev pub LetsFloatsIn : List ℕ → ℕ → Bool → Type 0
+LetsFloatsIn text undeclared floats = (schema : Schema) × (weights : Weights) × HoldsWith text undeclared schema weights × (floats ≡ has_floats (schema_data schema))
+
 -- The document's text is none, for this reason, where what stands before is given.
 abbrev pub IsUnreadOf : Asked → AskedTexts → Refusal → Type 0
-IsUnreadOf asked texts refusal = HoldsSchema asked texts × HoldsGiven texts × IsUnread texts.document refusal
+IsUnreadOf asked texts refusal = HoldsGiven texts × ((floats : Bool) × LetsFloatsIn texts.schema asked.undeclared floats × IsUnread floats texts.document refusal)
 
 -- The first reason in this order: of the schema, of the variables, of the document's text, of the operation.
 abbrev pub IsRefusalOf : Asked → AskedTexts → AskedRefusal → Type 0
@@ -122,9 +127,9 @@ IsNoSchemaOf text (NoSchema refusal) = IsUnchecked text refusal
 IsNoSchemaOf text other = ⊥
 
 -- The document's text is none, for this reason.
-abbrev pub IsUnreadIn : List ℕ → AskedRefusal → Type 0
-IsUnreadIn text (NoOperation refusal) = IsUnread text refusal
-IsUnreadIn text other = ⊥
+abbrev pub IsUnreadIn : Bool → List ℕ → AskedRefusal → Type 0
+IsUnreadIn floats text (NoOperation refusal) = IsUnread floats text refusal
+IsUnreadIn floats text other = ⊥
 
 -- What is asked is refused, for this reason.
 abbrev pub IsNoOperationOf : RequestData → AskedRefusal → Type 0

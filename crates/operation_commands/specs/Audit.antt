@@ -27,7 +27,7 @@ use Rattle.command_outcomes.specs.Outcomes.{FilesTold, NoFileFailed, IsStopped, 
 use Rattle.counted_work.specs.Counted.{work_text}
 use Rattle.command_outcomes.specs.Check.{HoldsWith, IsUnchecked}
 use Rattle.serde_json.specs.View.{view}
-use Rattle.operation_commands.specs.Asked.{IsGiven}
+use Rattle.operation_commands.specs.Asked.{IsGiven, LetsFloatsIn}
 use Rattle.operation_commands.specs.declared.asking.Inputs.{Inputs}
 use Rattle.operation_commands.specs.declared.auditing.Auditing.{Auditing}
 use Rattle.operation_commands.specs.declared.asked.AskedTexts.{AskedTexts}
@@ -92,18 +92,23 @@ pub record IsFinding (audit : AskedAudit) (schema name text : List ℕ) (operati
 abbrev pub IsWhole : List ℕ → Verdict → List Finding → Type 0
 IsWhole name v findings = findings ≡ record { document = name; subject = Whole; verdict = v; steps = None } ∷ []
 
+-- The text is this document, with floats where the schema's text lets them in.
+abbrev pub IsDocumentBy : AskedAudit → List ℕ → List ℕ → Document → Type 0
+IsDocumentBy audit schema text d = (floats : Bool) × LetsFloatsIn schema audit.undeclared floats × IsDocumentOf floats text d
+
 -- The text is a document with operations, and there is one finding for each, in their order.
 abbrev pub FindsOperations : AskedAudit → List ℕ → List ℕ → List ℕ → List Finding → Type 0
-FindsOperations audit schema name text findings = (d : Document) × IsDocumentOf text d × (names_in d.definitions.items ≢ [])
+FindsOperations audit schema name text findings = (d : Document) × IsDocumentBy audit schema text d × (names_in d.definitions.items ≢ [])
     × AllZip (IsFinding audit schema name text) (names_in d.definitions.items) findings
 
 -- The text is a document without operations, or it is none.
-abbrev pub HasNoOperations : List ℕ → Type 0
-HasNoOperations text = ((d : Document) × IsDocumentOf text d × (names_in d.definitions.items ≡ [])) ⊎ ((refusal : Refusal) × IsUnread text refusal)
+abbrev pub HasNoOperations : AskedAudit → List ℕ → List ℕ → Type 0
+HasNoOperations audit schema text = ((d : Document) × IsDocumentBy audit schema text d × (names_in d.definitions.items ≡ []))
+    ⊎ ((refusal : Refusal) × (floats : Bool) × LetsFloatsIn schema audit.undeclared floats × IsUnread floats text refusal)
 
 -- It has none, and there is one finding of it as a whole: what is said where the price of its one operation is asked for.
 abbrev pub FindsNone : AskedAudit → List ℕ → List ℕ → List ℕ → List Finding → Type 0
-FindsNone audit schema name text findings = HasNoOperations text
+FindsNone audit schema name text findings = HasNoOperations audit schema text
     × ((v : Verdict) × IsWhole name v findings × IsVerdict (asked_alone audit name None) (texts_alone schema text) v)
 
 -- What was found in the bytes of a document's file: they are too many, or no text, or one of these.

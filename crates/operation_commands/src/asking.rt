@@ -111,12 +111,12 @@ fn given_in(alloc: Global, text: &Option<Text>) -> Result<Value, AskedFault>
     }
 }
 
-/// The document of a text.
-pub(crate) fn document_in(alloc: Global, text: &str) -> Result<Document, AskedFault>
-    ensures held { IfOk result (IsDocumentOf text.now) }
-    ensures refused { IfErr result (λ fault. IfAskedRefused fault (IsUnreadIn text.now)) }
+/// The document of a text, where floats are let in or aren't.
+pub(crate) fn document_in(alloc: Global, text: &str, floats: bool) -> Result<Document, AskedFault>
+    ensures held { IfOk result (IsDocumentOf floats text.now) }
+    ensures refused { IfErr result (λ fault. IfAskedRefused fault (IsUnreadIn floats text.now)) }
 {
-    match read(alloc, text) {
+    match read(alloc, text, floats) {
         Ok(document) => Ok(document),
         Err(AcceptFault::Refused(refusal)) => {
             Err(AskedFault::Refused(AskedRefusal::NoOperation(refusal)))
@@ -141,7 +141,7 @@ pub fn inputs_in(alloc: Global, asked: &Asked, texts: &AskedTexts) -> Result<Inp
         Ok(given) => given,
         Err(fault) => return Err(fault),
     };
-    match document_in(alloc, texts.document.as_str()) {
+    match document_in(alloc, texts.document.as_str(), weighed.schema.has_floats()) {
         Ok(document) => Ok(Inputs {
             weighed,
             document,

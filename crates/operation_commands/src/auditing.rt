@@ -4,6 +4,8 @@ ghost use Rattle.std.specs.Prelude.{◌≡◌, ◌≤◌, ℕ, List, Contains, l
 ghost use Rattle.outside.specs.Faults.{StayAll};
 ghost use Rattle.acceptance.specs.Requests.{request_data};
 ghost use Rattle.acceptance.specs.Texts.{naming};
+ghost use Rattle.schema_model.specs.SchemaData.{has_floats};
+ghost use Rattle.schema_model.specs.SchemaViews.{schema_data};
 ghost use Rattle.document_reader.specs.DocumentAnswers.{IsDocumentOf};
 ghost use Rattle.command_outcomes.specs.Reading.{IsText};
 ghost use Rattle.command_outcomes.specs.Outcomes.{files_told, IsStopped};
@@ -171,7 +173,7 @@ fn finding_of(
     operation: &Operation,
 ) -> Result<Finding, AllocError>
     requires ready { IsReady of.now texts.now }
-    requires document { IsDocumentOf texts.now.document document.now }
+    requires document { IsDocumentOf (has_floats (schema_data of.now.weighed.now.schema)) texts.now.document document.now }
     ensures { IfOk result (IsFinding of.now.asked.now texts.now.schema name.now texts.now.document (option_map (λ n. n.text) operation.now.name)) }
 {
     let asked = asked_alone(alloc, of.asked, name, name_of(operation))?;
@@ -199,7 +201,7 @@ fn find_operation(
     into: &mut Vec<Finding>,
 ) -> Result<(), AllocError>
     requires ready { IsReady of.now texts.now }
-    requires document { IsDocumentOf texts.now.document document.now }
+    requires document { IsDocumentOf (has_floats (schema_data of.now.weighed.now.schema)) texts.now.document document.now }
     ensures { OnOk result (Adds (FindEach of.now.asked.now texts.now name.now (operation_names definition.now)) into.old.items into.new.items) }
 {
     match definition {
@@ -221,7 +223,7 @@ fn find_operations(
     into: &mut Vec<Finding>,
 ) -> Result<(), AllocError>
     requires ready { IsReady of.now texts.now }
-    requires document { IsDocumentOf texts.now.document document.now }
+    requires document { IsDocumentOf (has_floats (schema_data of.now.weighed.now.schema)) texts.now.document document.now }
     ensures { OnOk result (Adds (FindEach of.now.asked.now texts.now name.now (names_in document.now.definitions.items)) into.old.items into.new.items) }
 {
     for at in 0..document.definitions.len() {
@@ -267,7 +269,7 @@ fn find_in_document(
     into: &mut Vec<Finding>,
 ) -> Result<(), AllocError>
     requires ready { IsReady of.now texts.now }
-    requires document { IsDocumentOf texts.now.document document.now }
+    requires document { IsDocumentOf (has_floats (schema_data of.now.weighed.now.schema)) texts.now.document document.now }
     requires text { IsText DOCUMENT_LIMIT texts.now.document }
     ensures found { OnOk result (Adds (AreFoundIn of.now.asked.now texts.now.schema name.now texts.now.document) into.old.items into.new.items) }
 {
@@ -295,7 +297,8 @@ fn find_in_text(
     requires text { IsText DOCUMENT_LIMIT texts.now.document }
     ensures found { OnOk result (Adds (AreFoundIn of.now.asked.now texts.now.schema name.now texts.now.document) into.old.items into.new.items) }
 {
-    match document_in(alloc, texts.document.as_str()) {
+    let floats = of.weighed.schema.has_floats();
+    match document_in(alloc, texts.document.as_str(), floats) {
         Ok(document) => find_in_document(alloc, of, texts, name, &document, into),
         Err(AskedFault::Refused(refusal)) => {
             let asked = asked_alone(alloc, of.asked, name, None)?;

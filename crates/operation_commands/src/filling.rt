@@ -5,7 +5,7 @@ ghost use Rattle.response_model.specs.Plan.{Plan as PlanTree};
 ghost use Rattle.response_model.specs.Cost.{Part as PartOfCost};
 ghost use Rattle.response_model.specs.ResponseText.{response_text as text_of_response};
 ghost use Rattle.plan_table.specs.Trees.{tree_of};
-ghost use Rattle.plan_table.specs.Texts.{IsFloatless};
+ghost use Rattle.response_model.specs.WrittenJson.{IsFloatless};
 ghost use Rattle.plan_table.specs.TableBounds.{HoldsSound, IsWithinCap};
 ghost use Rattle.command_outcomes.specs.Reading.{IsText};
 ghost use Rattle.command_outcomes.specs.Outcomes.{files_told, IsDone};

@@ -5,7 +5,6 @@ use Rattle.std.specs.Str.{bytes_eq}
 use Rattle.std.proofs.lemmas.Bool.{cases_Bool}
 use Rattle.std.proofs.lemmas.List.{get_or-map, get_or_past, length-map, map-append, drop_at}
 use Rattle.std.proofs.lemmas.Option.{none-some, same_Some}
-use Rattle.std.proofs.lemmas.Slice.Eq.{bytes_eq-Decides}
 use Rattle.gql_base.specs.names.Names.{has_name}
 use Rattle.gql_base.specs.parts.Arguments.{DirectiveTree}
 use Rattle.gql_base.specs.parts.TypeReferences.{TypeTree, named_type, list_type, non_null_type}
@@ -20,9 +19,8 @@ use Rattle.schema_rules.specs.Items.{ItemTree, type_item, field_item, interface_
 use Rattle.schema_rules.specs.TypeNames.{NamedKind, name_of, with_type, types_defined, with_scalar, with_built_ins, types_of, kind_or_scalar, kind_named}
 use Rattle.schema_rules.specs.Roots.{has_schema}
 use Rattle.schema_rules.specs.WrongKind.{is_wrong, wrong_at, wrong_kind}
-use Rattle.schema_rules.specs.FloatScalar.{is_float_name, is_float, float_at, float_scalar}
 use Rattle.schema_rules.specs.EmptyType.{empty_at, empty_type}
-use Rattle.schema_rules.specs.DirectiveUses.{given_weight}
+use Rattle.schema_rules.specs.DirectiveUses.{given_weight, is_lax}
 use Rattle.schema_rules.proofs.FirstFaults.{neither, not_told}
 use Rattle.input_values.specs.inputs.Shapes.{shape_by}
 use Rattle.schema_model.specs.Drafts.{FieldDraft, TypeDraft, number_named, or_past, shape_of, field_draft, value_name, bare, body_draft, definition_draft, scalar_draft, defined_drafts, drafts_of}
@@ -33,7 +31,7 @@ use Rattle.schema_model.specs.SchemaViews.{schema_data}
 use Rattle.schema_model.specs.declared.schema.Schema.{Schema}
 use Rattle.schema_model.specs.Faults.{fault_of_items, fault_of_names, fault_of_types, fault_of_drafts, fault_from_types, fault_from_names, SchemaBuilds}
 use Rattle.cost_directives.proofs.FittingSizes.{unmapped}
-use Rattle.cost_directives.proofs.FirstsFound.{never, found_passes, Standing, standing}
+use Rattle.cost_directives.proofs.FirstsFound.{never, Standing, standing}
 use Rattle.cost_directives.proofs.DraftedFields.{made, field_or_none}
 use Rattle.document_rules.specs.Sites.{is_composite, type_of_field}
 use Rattle.document_rules.proofs.Lists.{first_of_append}
@@ -47,29 +45,25 @@ none_of_both test xs ys none = neither (first_of test xs) (first_of test ys) (sy
 module _ (types : List NamedKind) (has : Bool) where
   -- Things in which no test finds anything.
   record Clear (items : List ItemTree) : Type 0 where
-    no_float : first_of float_at items ≡ None
     no_input : first_of (wrong_at types has) items ≡ None
     none_empty : first_of empty_at items ≡ None
 
   front_clear : (xs ys : List ItemTree) → Clear (xs ++ ys) → Clear xs
   front_clear xs ys c = record {
-    no_float = (none_of_both float_at xs ys c.no_float).0;
     no_input = (none_of_both (wrong_at types has) xs ys c.no_input).0;
     none_empty = (none_of_both empty_at xs ys c.none_empty).0;
   }
 
   back_clear : (xs ys : List ItemTree) → Clear (xs ++ ys) → Clear ys
   back_clear xs ys c = record {
-    no_float = (none_of_both float_at xs ys c.no_float).1;
     no_input = (none_of_both (wrong_at types has) xs ys c.no_input).1;
     none_empty = (none_of_both empty_at xs ys c.none_empty).1;
   }
 
-  -- the named type of a field is neither Float nor one of values that are given alone
+  -- the named type of a field is none of values that are given alone
   record IsAnswered (f : FieldDraft) : Type 0 where
     type : TypeTree
     shaped : f.shape ≡ shape_of types type
-    no_float : is_float_name (innermost type) ≡ false
     no_input : is_input_only (kind_named types (innermost type)) ≡ false
 
   abbrev AreAnswered : List FieldDraft → Type 0
@@ -88,7 +82,6 @@ module _ (types : List NamedKind) (has : Bool) where
   field_answered of f c = record {
     type = f.3;
     shaped = refl;
-    no_float = not_told (is_float (field_type_of of f)) (place_of (field_type_of of f)) ((neither (float_at (field_type_of of f)) None c.no_float).0);
     no_input = not_told (is_wrong types has (field_type_of of f)) (place_of (field_type_of of f)) ((neither (wrong_at types has (field_type_of of f)) None c.no_input).0);
   }
 
@@ -111,17 +104,17 @@ module _ (types : List NamedKind) (has : Bool) where
   has_names [] some = absurd (cc)
   has_names (v ∷ values) some = tt
 
-  body_filled : (name : NameText) (cost : Option (List ℕ)) (directives : List DirectiveTree) (body : BodyTree) → Clear (body_items name directives body) → AreFilled (body_draft types name cost body)
-  body_filled name cost directives (schema_body roots) c = tt
-  body_filled name cost directives (directive_body arguments repeatable locations) c = tt
-  body_filled name cost directives scalar_body c = (record { fields = tt; names = λ e. absurd (cc) }, tt)
-  body_filled name cost directives (object_body interfaces fields) c = (record { fields = fielded_answered name Object directives interfaces fields c; names = λ e. absurd (cc) }, tt)
-  body_filled name cost directives (interface_body interfaces fields) c = (record { fields = fielded_answered name Interface directives interfaces fields c; names = λ e. absurd (cc) }, tt)
-  body_filled name cost directives (union_body members) c = (record { fields = tt; names = λ e. absurd (cc) }, tt)
-  body_filled name cost directives (enum_body values) c =
+  body_filled : (name : NameText) (cost : Option (List ℕ)) (lax : Bool) (directives : List DirectiveTree) (body : BodyTree) → Clear (body_items name directives body) → AreFilled (body_draft types name cost lax body)
+  body_filled name cost lax directives (schema_body roots) c = tt
+  body_filled name cost lax directives (directive_body arguments repeatable locations) c = tt
+  body_filled name cost lax directives scalar_body c = (record { fields = tt; names = λ e. absurd (cc) }, tt)
+  body_filled name cost lax directives (object_body interfaces fields) c = (record { fields = fielded_answered name Object directives interfaces fields c; names = λ e. absurd (cc) }, tt)
+  body_filled name cost lax directives (interface_body interfaces fields) c = (record { fields = fielded_answered name Interface directives interfaces fields c; names = λ e. absurd (cc) }, tt)
+  body_filled name cost lax directives (union_body members) c = (record { fields = tt; names = λ e. absurd (cc) }, tt)
+  body_filled name cost lax directives (enum_body values) c =
       let some = not_told (is_none_of values) name ((neither (fault_where (is_none_of values) name) (first_of empty_at (map (enum_value_of name) values)) c.none_empty).0) in
       (record { fields = tt; names = λ e. has_names values some }, tt)
-  body_filled name cost directives (input_body fields) c = (record { fields = tt; names = λ e. absurd (cc) }, tt)
+  body_filled name cost lax directives (input_body fields) c = (record { fields = tt; names = λ e. absurd (cc) }, tt)
 
   both_filled : (xs ys : List TypeDraft) → AreFilled xs → AreFilled ys → AreFilled (xs ++ ys)
   both_filled [] ys f g = g
@@ -130,7 +123,7 @@ module _ (types : List NamedKind) (has : Bool) where
   text_filled : (text : List DefinitionTree) → Clear (items_of text) → AreFilled (defined_drafts types text)
   text_filled [] c = tt
   text_filled (d ∷ text) c = both_filled (definition_draft types d) (defined_drafts types text)
-      (body_filled d.1.0 (given_weight d.1.1) d.1.1 d.1.2 (front_clear (definition_items d) (items_of text) c))
+      (body_filled d.1.0 (given_weight d.1.1) (is_lax d.1.1) d.1.1 d.1.2 (front_clear (definition_items d) (items_of text) c))
       (text_filled text (back_clear (definition_items d) (items_of text) c))
 
   scalars_filled : (some : List NamedKind) → AreFilled (map scalar_draft some)
@@ -178,21 +171,21 @@ fielded_skipped name interfaces fields rest =
     ap types_defined (append_assoc (map (interface_item name) interfaces) own rest) ∙ (skipped (interface_item name) (λ x rest. refl) interfaces (own ++ rest) ∙ fields_skipped name fields rest)
 
 module _ (types : List NamedKind) where
-  body_named : (name : NameText) (cost : Option (List ℕ)) (directives : List DirectiveTree) (body : BodyTree) (rest : List ItemTree)
-      → types_defined (body_items name directives body ++ rest) ≡ map named (body_draft types name cost body) ++ types_defined rest
-  body_named name cost directives (schema_body roots) rest = skipped root_item_of (λ x rest. refl) roots rest
-  body_named name cost directives (directive_body arguments repeatable locations) rest = skipped (directive_argument_item name) (λ x rest. refl) arguments rest
-  body_named name cost directives scalar_body rest = refl
-  body_named name cost directives (object_body interfaces fields) rest = ap (λ ts. record { name = name; kind = Object } ∷ ts) (fielded_skipped name interfaces fields rest)
-  body_named name cost directives (interface_body interfaces fields) rest = ap (λ ts. record { name = name; kind = Interface } ∷ ts) (fielded_skipped name interfaces fields rest)
-  body_named name cost directives (union_body members) rest = ap (λ ts. record { name = name; kind = Union } ∷ ts) (skipped (member_item name) (λ x rest. refl) members rest)
-  body_named name cost directives (enum_body values) rest = ap (λ ts. record { name = name; kind = Enum } ∷ ts) (skipped (enum_value_of name) (λ x rest. refl) values rest)
-  body_named name cost directives (input_body fields) rest = ap (λ ts. record { name = name; kind = Input } ∷ ts) (skipped (input_field_item name) (λ x rest. refl) fields rest)
+  body_named : (name : NameText) (cost : Option (List ℕ)) (lax : Bool) (directives : List DirectiveTree) (body : BodyTree) (rest : List ItemTree)
+      → types_defined (body_items name directives body ++ rest) ≡ map named (body_draft types name cost lax body) ++ types_defined rest
+  body_named name cost lax directives (schema_body roots) rest = skipped root_item_of (λ x rest. refl) roots rest
+  body_named name cost lax directives (directive_body arguments repeatable locations) rest = skipped (directive_argument_item name) (λ x rest. refl) arguments rest
+  body_named name cost lax directives scalar_body rest = refl
+  body_named name cost lax directives (object_body interfaces fields) rest = ap (λ ts. record { name = name; kind = Object } ∷ ts) (fielded_skipped name interfaces fields rest)
+  body_named name cost lax directives (interface_body interfaces fields) rest = ap (λ ts. record { name = name; kind = Interface } ∷ ts) (fielded_skipped name interfaces fields rest)
+  body_named name cost lax directives (union_body members) rest = ap (λ ts. record { name = name; kind = Union } ∷ ts) (skipped (member_item name) (λ x rest. refl) members rest)
+  body_named name cost lax directives (enum_body values) rest = ap (λ ts. record { name = name; kind = Enum } ∷ ts) (skipped (enum_value_of name) (λ x rest. refl) values rest)
+  body_named name cost lax directives (input_body fields) rest = ap (λ ts. record { name = name; kind = Input } ∷ ts) (skipped (input_field_item name) (λ x rest. refl) fields rest)
 
   text_named : (text : List DefinitionTree) → types_defined (items_of text) ≡ map named (defined_drafts types text)
   text_named [] = refl
   text_named (d ∷ text) =
-      body_named d.1.0 (given_weight d.1.1) d.1.1 d.1.2 (items_of text)
+      body_named d.1.0 (given_weight d.1.1) (is_lax d.1.1) d.1.1 d.1.2 (items_of text)
       ∙ (ap (λ ts. map named (definition_draft types d) ++ ts) (text_named text) ∙ sym (map-append named (definition_draft types d) (defined_drafts types text)))
 
 -- The second list is the first, and scalars behind it.
@@ -259,13 +252,13 @@ module _ (form : ℕ → InputForm) where
   as_many first [] = refl
   as_many first (d ∷ ds) = ap suc (as_many (first + length d.fields) ds)
 
-fill_by_kind : (k : Kind) (t : TypeData) → is_output_only k ≡ false → is_input_only k ≡ false → bytes_eq t.name (codes "Float") ≡ false → (k ≡ Enum → HasName t.values) → CanFill k t
-fill_by_kind Scalar t output input float names = float
-fill_by_kind Enum t output input float names = names refl
-fill_by_kind Object t output input float names = absurd (cc)
-fill_by_kind Interface t output input float names = absurd (cc)
-fill_by_kind Union t output input float names = absurd (cc)
-fill_by_kind Input t output input float names = absurd (cc)
+fill_by_kind : (k : Kind) (t : TypeData) → is_output_only k ≡ false → is_input_only k ≡ false → (k ≡ Enum → HasName t.values) → CanFill k t
+fill_by_kind Scalar t output input names = tt
+fill_by_kind Enum t output input names = names refl
+fill_by_kind Object t output input names = absurd (cc)
+fill_by_kind Interface t output input names = absurd (cc)
+fill_by_kind Union t output input names = absurd (cc)
+fill_by_kind Input t output input names = absurd (cc)
 
 module _ (form : ℕ → InputForm) (items : List ItemTree) (types : List NamedKind) (ds : List TypeDraft) (agree : map named ds ≡ types) (has : Bool) (filled : AreFilled types has ds) where
   abbrev whole : SchemaData
@@ -275,22 +268,20 @@ module _ (form : ℕ → InputForm) (items : List ItemTree) (types : List NamedK
   as_long = sym (length-map ds named) ∙ ap length agree
 
   -- a type that stands under a name
-  standing_filled : (name : List ℕ) (here : Standing (λ t. bytes_eq (name_of t) name) 0 types) → is_float_name name ≡ false → is_input_only here.item.kind ≡ false
+  standing_filled : (name : List ℕ) (here : Standing (λ t. bytes_eq (name_of t) name) 0 types) → is_input_only here.item.kind ≡ false
       → is_output_only (type_at whole here.place).kind ≡ false → CanFill (type_at whole here.place).kind (type_at whole here.place)
-  standing_filled name here float input leaf =
+  standing_filled name here input leaf =
       let within : here.place < length ds = omega (arith, here.within, as_long) in
       let t = drafted form 0 ds here.place within in
       let is : named (draft_at ds here.place) ≡ here.item =
-      sym (get_or-map named ds here.place (bare [] Scalar None) here.item within) ∙ (ap (λ l. get_or l here.place here.item) agree ∙ here.there) in
-      let of_name : here.item.name ≡ name = (bytes_eq-Decides here.item.name name).0 (found_passes (λ t. bytes_eq (name_of t) name) types here.item here.found) in
-      let same_name : (type_at whole here.place).name ≡ name = t.name ∙ (ap name_of is ∙ of_name) in
+      sym (get_or-map named ds here.place (bare [] Scalar None false) here.item within) ∙ (ap (λ l. get_or l here.place here.item) agree ∙ here.there) in
       let same_kind : (type_at whole here.place).kind ≡ here.item.kind = t.kind ∙ ap (λ (n : NamedKind). n.kind) is in
-      fill_by_kind (type_at whole here.place).kind (type_at whole here.place) leaf (ap is_input_only same_kind ∙ input) (ap is_float_name same_name ∙ float)
+      fill_by_kind (type_at whole here.place).kind (type_at whole here.place) leaf (ap is_input_only same_kind ∙ input)
       (λ e. subst HasName (sym t.values) ((filled_at types has ds here.place filled).names (sym t.kind ∙ e)))
 
-  named_filled : (name : List ℕ) → is_float_name name ≡ false → is_input_only (kind_named types name) ≡ false → is_composite whole (number_named types name) ≡ false
+  named_filled : (name : List ℕ) → is_input_only (kind_named types name) ≡ false → is_composite whole (number_named types name) ≡ false
       → CanFill (type_at whole (number_named types name)).kind (type_at whole (number_named types name))
-  named_filled name float input leaf = elim (standing (λ t. bytes_eq (name_of t) name) 0 types) [
+  named_filled name input leaf = elim (standing (λ t. bytes_eq (name_of t) name) 0 types) [
     | inl none ↦
         let past : number_named types name ≡ length types = ap (or_past types) none.0 in
         let l = as_many form 0 ds in
@@ -300,7 +291,7 @@ module _ (form : ℕ → InputForm) (items : List ItemTree) (types : List NamedK
         let e : 0 + here.place ≡ here.place = omega arith in
         let at : number_named types name ≡ here.place = ap (or_past types) (here.placed ∙ ap Some e) in
         subst (λ n. CanFill (type_at whole n).kind (type_at whole n)) (sym at)
-        (standing_filled name here float (sym (ap (λ found. is_input_only (kind_or_scalar found)) here.found) ∙ input) (sym (ap (λ n. is_composite whole n) at) ∙ leaf))
+        (standing_filled name here (sym (ap (λ found. is_input_only (kind_or_scalar found)) here.found) ∙ input) (sym (ap (λ n. is_composite whole n) at) ∙ leaf))
   ]
     where
       composite_none : (t : TypeData) → t ≡ no_type → is_output_only t.kind ≡ false → ⊥
@@ -314,7 +305,7 @@ module _ (form : ℕ → InputForm) (items : List ItemTree) (types : List NamedK
         let a = answered_among types has (draft_at ds T).fields name f.draft f.drafted ((filled_at types has ds T filled).fields) in
         let at : type_of_field whole field ≡ number_named types (innermost a.type) =
         ap (λ n. type_of_field whole n) (sym same) ∙ (ap (λ g. inside g.shape) f.field ∙ (ap inside a.shaped ∙ inside_shape types true a.type)) in
-        subst (λ n. CanFill (type_at whole n).kind (type_at whole n)) (sym at) (named_filled (innermost a.type) a.no_float a.no_input (sym (ap (λ n. is_composite whole n) at) ∙ leaf))
+        subst (λ n. CanFill (type_at whole n).kind (type_at whole n)) (sym at) (named_filled (innermost a.type) a.no_input (sym (ap (λ n. is_composite whole n) at) ∙ leaf))
   ]
 
 pub built_filled : (text : List DefinitionTree) (schema : Schema) → SchemaBuilds text (Ok schema) → CanBeFilled (schema_data schema)
@@ -329,7 +320,6 @@ built_filled text schema built =
     let by_type = neither (fault_of_types items) (fault_of_drafts ds items) of_types.1 in
     let floats = neither _ _ by_type.0 in
     let c : Clear types (has_schema items) items = record {
-      no_float = unmapped _ (float_scalar items) floats.0;
       no_input = unmapped _ (wrong_kind types items) ((neither _ _ by_name.1).1);
       none_empty = unmapped _ (empty_type items) ((neither _ _ floats.1).1);
     } in

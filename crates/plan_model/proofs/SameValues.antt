@@ -1,10 +1,10 @@
 -- Values that are compared as equal are equal, and only these.
-use Rattle.std.proofs.Common.{◌≡◌, ◌↔◌, ◌&&◌, ℕ, Bool, true, false, List, [], ◌∷◌, map, Option, None, Some, refl, ap, ap₂, subst}
+use Rattle.std.proofs.Common.{◌≡◌, ◌↔◌, ◌&&◌, ℕ, eq-eqb, eqb-true, Bool, true, false, List, [], ◌∷◌, map, Option, None, Some, refl, ap, ap₂, subst}
 use Rattle.std.proofs.lemmas.Bool.Decides.{Decides-int_eq}
 use Rattle.std.proofs.lemmas.Slice.Eq.{bytes_eq-Decides}
 use Rattle.std.specs.Cmp.Derive.{both_true}
 use Rattle.std.specs.Str.{bytes_eq}
-use Rattle.input_values.specs.values.Coerced.{CoercedTree, CoercedTrees, CoercedFields, coerced_null, coerced_integer, coerced_string, coerced_boolean, coerced_enum, coerced_list, coerced_object, no_coerced, coerced_then, no_coerced_field, coerced_field_then}
+use Rattle.input_values.specs.values.Coerced.{CoercedTree, CoercedTrees, CoercedFields, coerced_null, coerced_integer, coerced_float, coerced_string, coerced_boolean, coerced_enum, coerced_list, coerced_object, no_coerced, coerced_then, no_coerced_field, coerced_field_then}
 use Rattle.schema_model.specs.Arguments.{ArgData}
 use Rattle.cost_directives.proofs.FirstsFound.{both}
 use Rattle.plan_model.specs.SameArguments.{same_truth, same_value, same_items, same_fields, value_of, same_argument, same_arguments}
@@ -28,20 +28,31 @@ mutual
   pub value_equal : (t u : CoercedTree) → same_value t u ≡ true → t ≡ u
   value_equal coerced_null coerced_null h = refl
   value_equal coerced_null (coerced_integer y) h = absurd (cc)
+  value_equal coerced_null (coerced_float y) h = absurd (cc)
   value_equal coerced_null (coerced_string y) h = absurd (cc)
   value_equal coerced_null (coerced_boolean y) h = absurd (cc)
   value_equal coerced_null (coerced_enum y) h = absurd (cc)
   value_equal coerced_null (coerced_list y) h = absurd (cc)
   value_equal coerced_null (coerced_object y) h = absurd (cc)
   value_equal (coerced_integer z) coerced_null h = absurd (cc)
+  value_equal (coerced_float z) coerced_null h = absurd (cc)
   value_equal (coerced_integer z) (coerced_integer y) h = ap coerced_integer ((Decides-int_eq z y).0 h)
+  value_equal (coerced_integer z) (coerced_float y) h = absurd (cc)
+  value_equal (coerced_float z) (coerced_integer y) h = absurd (cc)
+  value_equal (coerced_float z) (coerced_float y) h = ap coerced_float (eqb-true z y h)
   value_equal (coerced_integer z) (coerced_string y) h = absurd (cc)
+  value_equal (coerced_float z) (coerced_string y) h = absurd (cc)
   value_equal (coerced_integer z) (coerced_boolean y) h = absurd (cc)
+  value_equal (coerced_float z) (coerced_boolean y) h = absurd (cc)
   value_equal (coerced_integer z) (coerced_enum y) h = absurd (cc)
+  value_equal (coerced_float z) (coerced_enum y) h = absurd (cc)
   value_equal (coerced_integer z) (coerced_list y) h = absurd (cc)
+  value_equal (coerced_float z) (coerced_list y) h = absurd (cc)
   value_equal (coerced_integer z) (coerced_object y) h = absurd (cc)
+  value_equal (coerced_float z) (coerced_object y) h = absurd (cc)
   value_equal (coerced_string s) coerced_null h = absurd (cc)
   value_equal (coerced_string s) (coerced_integer y) h = absurd (cc)
+  value_equal (coerced_string s) (coerced_float y) h = absurd (cc)
   value_equal (coerced_string s) (coerced_string y) h = ap coerced_string ((bytes_eq-Decides s y).0 h)
   value_equal (coerced_string s) (coerced_boolean y) h = absurd (cc)
   value_equal (coerced_string s) (coerced_enum y) h = absurd (cc)
@@ -49,6 +60,7 @@ mutual
   value_equal (coerced_string s) (coerced_object y) h = absurd (cc)
   value_equal (coerced_boolean b) coerced_null h = absurd (cc)
   value_equal (coerced_boolean b) (coerced_integer y) h = absurd (cc)
+  value_equal (coerced_boolean b) (coerced_float y) h = absurd (cc)
   value_equal (coerced_boolean b) (coerced_string y) h = absurd (cc)
   value_equal (coerced_boolean b) (coerced_boolean y) h = ap coerced_boolean (truth_equal b y h)
   value_equal (coerced_boolean b) (coerced_enum y) h = absurd (cc)
@@ -56,6 +68,7 @@ mutual
   value_equal (coerced_boolean b) (coerced_object y) h = absurd (cc)
   value_equal (coerced_enum name) coerced_null h = absurd (cc)
   value_equal (coerced_enum name) (coerced_integer y) h = absurd (cc)
+  value_equal (coerced_enum name) (coerced_float y) h = absurd (cc)
   value_equal (coerced_enum name) (coerced_string y) h = absurd (cc)
   value_equal (coerced_enum name) (coerced_boolean y) h = absurd (cc)
   value_equal (coerced_enum name) (coerced_enum y) h = ap coerced_enum ((bytes_eq-Decides name y).0 h)
@@ -63,6 +76,7 @@ mutual
   value_equal (coerced_enum name) (coerced_object y) h = absurd (cc)
   value_equal (coerced_list items) coerced_null h = absurd (cc)
   value_equal (coerced_list items) (coerced_integer y) h = absurd (cc)
+  value_equal (coerced_list items) (coerced_float y) h = absurd (cc)
   value_equal (coerced_list items) (coerced_string y) h = absurd (cc)
   value_equal (coerced_list items) (coerced_boolean y) h = absurd (cc)
   value_equal (coerced_list items) (coerced_enum y) h = absurd (cc)
@@ -70,6 +84,7 @@ mutual
   value_equal (coerced_list items) (coerced_object y) h = absurd (cc)
   value_equal (coerced_object fields) coerced_null h = absurd (cc)
   value_equal (coerced_object fields) (coerced_integer y) h = absurd (cc)
+  value_equal (coerced_object fields) (coerced_float y) h = absurd (cc)
   value_equal (coerced_object fields) (coerced_string y) h = absurd (cc)
   value_equal (coerced_object fields) (coerced_boolean y) h = absurd (cc)
   value_equal (coerced_object fields) (coerced_enum y) h = absurd (cc)
@@ -97,6 +112,7 @@ mutual
   value_itself : (t : CoercedTree) → same_value t t ≡ true
   value_itself coerced_null = refl
   value_itself (coerced_integer z) = (Decides-int_eq z z).1 refl
+  value_itself (coerced_float z) = eq-eqb z z refl
   value_itself (coerced_string s) = (bytes_eq-Decides s s).1 refl
   value_itself (coerced_boolean b) = truth_itself b
   value_itself (coerced_enum name) = (bytes_eq-Decides name name).1 refl

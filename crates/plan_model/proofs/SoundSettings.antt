@@ -2,7 +2,7 @@
 use Rattle.std.proofs.Common.{◌≡◌, ℕ, zero, suc, ◌+◌, ◌<◌, List, [], ◌∷◌, get_or, Bool, true, false, eqb, eqb-true, Option, None, Some, Result, Ok, Err, refl, sym, subst, ⊎_elim, arith}
 use Rattle.std.proofs.lemmas.Bool.{cases_Bool}
 use Rattle.std.proofs.lemmas.Slice.Eq.{bytes_eq-Decides}
-use Rattle.std.specs.Prelude.{bytes_eq, codes}
+use Rattle.std.specs.Prelude.{bytes_eq, codes, if◌then◌else◌}
 use Rattle.std.specs.List.{list_any}
 use Rattle.response_model.specs.Plan.{listed}
 use Rattle.response_model.specs.Response.{is_null}
@@ -10,7 +10,7 @@ use Rattle.input_values.specs.inputs.Shapes.{ShapeTree, named_shape, list_shape,
 use Rattle.input_values.specs.coercion.Kinds.{scalar_kind}
 use Rattle.input_values.specs.coercion.Places.{innermost}
 use Rattle.input_values.specs.declared.inputs.types.InputKind.{InputKind}
-use Rattle.input_values.specs.declared.inputs.types.InputKind.TheVariants.{Int, String, Boolean, Id, Custom, Enum as EnumKind, Object as ObjectKind, None as NoKind}
+use Rattle.input_values.specs.declared.inputs.types.InputKind.TheVariants.{Int, String, Boolean, Float, Id, Custom, Lax, Enum as EnumKind, Object as ObjectKind, None as NoKind}
 use Rattle.schema_rules.specs.declared.kind.Kind.{Kind}
 use Rattle.schema_rules.specs.declared.kind.Kind.TheVariants.{Scalar, Object, Interface, Union, Enum, Input}
 use Rattle.schema_rules.specs.Kinds.{is_output_only}
@@ -73,19 +73,21 @@ scalar_filled : (k : InputKind) → is_null (scalar_fill k) ≡ false
 scalar_filled Int = refl
 scalar_filled String = refl
 scalar_filled Boolean = refl
+scalar_filled Float = refl
 scalar_filled Id = refl
 scalar_filled Custom = refl
+scalar_filled Lax = refl
 scalar_filled EnumKind = refl
 scalar_filled ObjectKind = refl
 scalar_filled NoKind = refl
 
 filled_by : (k : Kind) (t : TypeData) → is_null (fill_by k t) ≡ false
 filled_by Enum t = refl
-filled_by Scalar t = scalar_filled (scalar_kind t.name)
-filled_by Object t = scalar_filled (scalar_kind t.name)
-filled_by Interface t = scalar_filled (scalar_kind t.name)
-filled_by Union t = scalar_filled (scalar_kind t.name)
-filled_by Input t = scalar_filled (scalar_kind t.name)
+filled_by Scalar t = scalar_filled (scalar_kind t.lax t.name)
+filled_by Object t = scalar_filled (scalar_kind t.lax t.name)
+filled_by Interface t = scalar_filled (scalar_kind t.lax t.name)
+filled_by Union t = scalar_filled (scalar_kind t.lax t.name)
+filled_by Input t = scalar_filled (scalar_kind t.lax t.name)
 
 -- ---- what fills a leaf stands in it
 
@@ -96,8 +98,16 @@ name_among (name ∷ names) has = rw ((bytes_eq-Decides name name).1 refl) refl
 abbrev HoldsFill : InputKind → Type 0
 HoldsFill k = scalar_holds k (scalar_fill k) ≡ true
 
-scalar_held : (name : List ℕ) → bytes_eq name (codes "Float") ≡ false → HoldsFill (scalar_kind name)
-scalar_held name other = ⊎_elim
+-- of a custom scalar, and of Float
+other_held : (lax : Bool) (name : List ℕ) → HoldsFill (if lax then (if bytes_eq name (codes "Float") then Float else Lax) else Custom)
+other_held false name = refl
+other_held true name = ⊎_elim
+    (λ (is : bytes_eq name (codes "Float") ≡ true). rw (is) refl)
+    (λ (other : bytes_eq name (codes "Float") ≡ false). rw (other) refl)
+    (cases_Bool (bytes_eq name (codes "Float")))
+
+scalar_held : (lax : Bool) (name : List ℕ) → HoldsFill (scalar_kind lax name)
+scalar_held lax name = ⊎_elim
     (λ (is : bytes_eq name (codes "Int") ≡ true). rw (is) refl)
     (λ (no_int : bytes_eq name (codes "Int") ≡ false). rw (no_int) (⊎_elim
     (λ (is : bytes_eq name (codes "String") ≡ true). rw (is) refl)
@@ -105,7 +115,7 @@ scalar_held name other = ⊎_elim
     (λ (is : bytes_eq name (codes "Boolean") ≡ true). rw (is) refl)
     (λ (no_boolean : bytes_eq name (codes "Boolean") ≡ false). rw (no_boolean) (⊎_elim
     (λ (is : bytes_eq name (codes "ID") ≡ true). rw (is) refl)
-    (λ (no_id : bytes_eq name (codes "ID") ≡ false). rw (no_id) (rw (other) refl))
+    (λ (no_id : bytes_eq name (codes "ID") ≡ false). rw (no_id) (other_held lax name))
     (cases_Bool (bytes_eq name (codes "ID")))))
     (cases_Bool (bytes_eq name (codes "Boolean")))))
     (cases_Bool (bytes_eq name (codes "String")))))
@@ -113,7 +123,7 @@ scalar_held name other = ⊎_elim
 
 held_by : (k : Kind) (t : TypeData) → CanFill k t → holds_by k t (fill_by k t) ≡ true
 held_by Enum t can = name_among t.values can
-held_by Scalar t can = scalar_held t.name can
+held_by Scalar t can = scalar_held t.lax t.name
 held_by Object t can = absurd can
 held_by Interface t can = absurd can
 held_by Union t can = absurd can

@@ -23,7 +23,7 @@ use Rattle.plan_model.specs.Visits.{Visit, visits, PlanAnswer, answer_of, level_
 -- union Result = User | Post; the list of friends is sliced by `first`, and that of `search` declares no size.
 
 abbrev pub plain_type : List ℕ → Kind → List (List ℕ) → List ℕ → List ℕ → TypeData
-plain_type name kind names fields members = record { name = name; kind = kind; names = names; fields = fields; interfaces = []; members = members; values = []; inputs = []; cost = None }
+plain_type name kind names fields members = record { name = name; kind = kind; names = names; fields = fields; interfaces = []; members = members; values = []; inputs = []; cost = None; lax = false }
 
 abbrev pub plain_field : List ℕ → ℕ → ShapeTree → FieldData
 plain_field name owner shape = record { name = name; owner = owner; shape = shape; arguments = []; cost = None; size = None }

@@ -1,9 +1,9 @@
 -- When the arguments of two fields are equal: by their coerced values, argument by argument. What is absent differs from null,
 -- and whether a value is supplied doesn't matter. The fields of an object count in their order.
-use Rattle.std.specs.Prelude.{Bool, true, false, not, ◌&&◌, List, [], ◌∷◌, Option, None, Some}
+use Rattle.std.specs.Prelude.{nat_eq, Bool, true, false, not, ◌&&◌, List, [], ◌∷◌, Option, None, Some}
 use Rattle.std.specs.Str.{bytes_eq}
 use Rattle.std.specs.Ordering.{int_eq}
-use Rattle.input_values.specs.values.Coerced.{CoercedTree, CoercedTrees, CoercedFields, coerced_null, coerced_integer, coerced_string, coerced_boolean, coerced_enum, coerced_list, coerced_object, no_coerced, coerced_then, no_coerced_field, coerced_field_then}
+use Rattle.input_values.specs.values.Coerced.{CoercedTree, CoercedTrees, CoercedFields, coerced_null, coerced_integer, coerced_float, coerced_string, coerced_boolean, coerced_enum, coerced_list, coerced_object, no_coerced, coerced_then, no_coerced_field, coerced_field_then}
 use Rattle.schema_model.specs.Arguments.{ArgData}
 
 abbrev pub same_truth : Bool → Bool → Bool
@@ -14,6 +14,7 @@ unfoldable mutual
   pub same_value : CoercedTree → CoercedTree → Bool
   same_value coerced_null coerced_null = true
   same_value (coerced_integer z) (coerced_integer other) = int_eq z other
+  same_value (coerced_float bits) (coerced_float other) = nat_eq bits other
   same_value (coerced_string s) (coerced_string other) = bytes_eq s other
   same_value (coerced_boolean b) (coerced_boolean other) = same_truth b other
   same_value (coerced_enum name) (coerced_enum other) = bytes_eq name other

@@ -14,7 +14,7 @@ use Rattle.input_values.specs.coercion.Given.{Given}
 use Rattle.input_values.specs.coercion.Literals.{Environment, literal_given}
 use Rattle.input_values.specs.coercion.Kinds.{scalar_kind}
 use Rattle.input_values.specs.declared.inputs.types.InputKind.{InputKind}
-use Rattle.input_values.specs.declared.inputs.types.InputKind.TheVariants.{Int, String, Boolean, Id, Custom}
+use Rattle.input_values.specs.declared.inputs.types.InputKind.TheVariants.{Int, String, Boolean, Float, Id, Custom, Lax}
 use Rattle.response_model.specs.Plan.{Form, single, listed, LeafType, type_name, numbered}
 use Rattle.schema_rules.specs.declared.kind.Kind.{Kind}
 use Rattle.schema_rules.specs.declared.kind.Kind.TheVariants.{Enum}
@@ -77,7 +77,7 @@ first_name (name ∷ names) = name
 
 abbrev pub fill_by : Kind → TypeData → Data
 fill_by Enum t = string (first_name t.values)
-fill_by kind t = scalar_fill (scalar_kind t.name)
+fill_by kind t = scalar_fill (scalar_kind t.lax t.name)
 
 abbrev pub fill_of : SchemaData → ℕ → Data
 fill_of s of = fill_by (type_at s of).kind (type_at s of)
@@ -87,14 +87,16 @@ abbrev pub is_some_int : Option ℤ → Bool
 is_some_int None = false
 is_some_int (Some z) = is_int z
 
--- What a scalar holds (GraphQL October 2021, 3.5). A custom scalar holds every value whose numbers are whole.
+-- What a scalar holds (GraphQL October 2021, 3.5). A custom scalar holds every value whose numbers are whole; a lax one holds every value.
 abbrev pub scalar_holds : InputKind → Data → Bool
 scalar_holds Int (number n) = is_some_int (as_integer n)
 scalar_holds String (string text) = true
 scalar_holds Boolean (boolean b) = true
+scalar_holds Float (number n) = true
 scalar_holds Id (string text) = true
 scalar_holds Id (number n) = is_some (as_integer n)
 scalar_holds Custom json = not (has_float json)
+scalar_holds Lax json = true
 scalar_holds kind json = false
 
 abbrev pub enum_holds : List (List ℕ) → Data → Bool
@@ -103,7 +105,7 @@ enum_holds names json = false
 
 abbrev pub holds_by : Kind → TypeData → Data → Bool
 holds_by Enum t json = enum_holds t.values json
-holds_by kind t json = scalar_holds (scalar_kind t.name) json
+holds_by kind t json = scalar_holds (scalar_kind t.lax t.name) json
 
 -- whether a leaf of the type of this number holds a JSON value
 unfoldable pub holds : SchemaData → ℕ → Data → Bool

@@ -1,6 +1,5 @@
 -- What a schema and its weights keep, so that plans are sound.
-use Rattle.std.specs.Prelude.{◌≡◌, ℕ, List, [], ◌∷◌, false, Option, None, Some, codes}
-use Rattle.std.specs.Str.{bytes_eq}
+use Rattle.std.specs.Prelude.{◌≡◌, ℕ, List, [], ◌∷◌, false, Option, None, Some}
 use Rattle.response_model.specs.Plan.{Form, single, listed}
 use Rattle.response_model.specs.Response.{is_null, IsLeafOf}
 use Rattle.schema_rules.specs.declared.kind.Kind.{Kind}
@@ -33,14 +32,14 @@ pub record IsSoundSetting (e : Setting) : Type 0 where
   pub places : (T : ℕ) (c : FieldCall) → IsSoundPlace e (place_at e T c)
   pub lists : (T : ℕ) (c : FieldCall) (handed : HandedSize) → IsCountablePlace (form_at e T c) (size_at e T c handed) (place_at e T c)
 
--- A leaf can be filled where it is an enum that has a name, or a scalar other than `Float`.
+-- A leaf can be filled where it is an enum that has a name, or a scalar.
 abbrev pub HasName : List (List ℕ) → Type 0
 HasName [] = ⊥
 HasName (name ∷ names) = Unit {0}
 
 abbrev pub CanFill : Kind → TypeData → Type 0
 CanFill Enum t = HasName t.values
-CanFill Scalar t = bytes_eq t.name (codes "Float") ≡ false
+CanFill Scalar t = Unit {0}
 CanFill kind t = ⊥
 
 -- So it is of the leaves that the fields of types return.

@@ -76,8 +76,7 @@ pub fn nodes_are_counted()
     ensures { (e : Setting) (levels : ℕ) (place : Place) (p : Position) → IsFaultless e levels place p → node_count (planned e levels place p) ≡ length (visits e levels (types_of place) p) }
 {}
 
-/// In a schema that a text says each leaf that a field returns is an enum with a name, or a scalar that isn't `Float`. So
-/// leaves can be filled.
+/// In a schema that a text says each leaf that a field returns is an enum with a name, or a scalar. So leaves can be filled.
 pub fn built_schemas_can_be_filled()
     ensures { (text : List DefinitionTree) (schema : Schema) → SchemaBuilds text (Ok schema) → CanBeFilled (schema_data schema) }
 {}

@@ -5,7 +5,8 @@ ghost use Rattle.serde_json.specs.Data.{null};
 ghost use Rattle.serde_json.specs.Written.{compact_text};
 ghost use Rattle.response_model.specs.ResponseText.{tree_text, elements_text, entries_text, key_text, response_text};
 ghost use Rattle.plan_table.specs.Trees.{tree_of, keyed_tree, elements_from, entries_from};
-ghost use Rattle.plan_table.specs.Texts.{IsFloatless, AreFloatless, HaveFloatless, list_text, object_text};
+ghost use Rattle.response_model.specs.WrittenJson.{IsFloatless, AreFloatless, HaveFloatless};
+ghost use Rattle.plan_table.specs.Texts.{list_text, object_text};
 
 use crate::response::{Entry, Tree};
 use response_model::{write_key, write_value};

@@ -45,8 +45,8 @@ fn weights_in(alloc: Global, schema: &Schema) -> Result<Weights, &'static str>
     }
 }
 
-fn document_in(alloc: Global, text: &str) -> Result<Document, &'static str> {
-    match read(alloc, text) {
+fn document_in(alloc: Global, text: &str, floats: bool) -> Result<Document, &'static str> {
+    match read(alloc, text, floats) {
         Ok(document) => Ok(document),
         Err(_) => Err("the document file is no document"),
     }
@@ -69,7 +69,7 @@ pub fn priced(alloc: Global, schema: &str, document: &str, times: u64) -> Result
     built_schemas_can_be_filled();
     let schema = schema_in(alloc, schema)?;
     let weights = weights_in(alloc, &schema)?;
-    let document = document_in(alloc, document)?;
+    let document = document_in(alloc, document, schema.has_floats())?;
     let request = Request {
         schema: &schema,
         weights: &weights,

@@ -219,7 +219,7 @@ fn arguments_cost_what_they_would_built(rt: HostRuntime) -> Result<(), Fail> {
     let schema = Schema::build(alloc, &read_schema_text(alloc, SCHEMA)?)?;
     let weights = Weights::build(alloc, &schema, 1)?;
     for (text, given, cost) in ROWS {
-        let document = read_document(alloc, text)?;
+        let document = read_document(alloc, text, false)?;
         let given = Value::from_str(alloc, given)?;
         let found = only_operation(document.definitions.as_slice());
         let of = schema.field(schema.number_named("Query"), "f");
@@ -243,7 +243,7 @@ fn arguments_are_seen_to_be_the_same(rt: HostRuntime) -> Result<(), Fail> {
     let schema = Schema::build(alloc, &read_schema_text(alloc, SCHEMA)?)?;
     let weights = Weights::build(alloc, &schema, 1)?;
     for (text, given, same) in PAIRS {
-        let document = read_document(alloc, text)?;
+        let document = read_document(alloc, text, false)?;
         let given = Value::from_str(alloc, given)?;
         let found = only_operation(document.definitions.as_slice());
         let of = schema.field(schema.number_named("Query"), "f");
@@ -275,7 +275,7 @@ fn what_is_weighed_and_compared_is_counted(rt: HostRuntime) -> Result<(), Fail> 
     let schema = Schema::build(alloc, &read_schema_text(alloc, SCHEMA)?)?;
     let weights = Weights::build(alloc, &schema, 1)?;
     for (text, given) in WORK {
-        let document = read_document(alloc, text)?;
+        let document = read_document(alloc, text, false)?;
         let given = Value::from_str(alloc, given)?;
         let found = only_operation(document.definitions.as_slice());
         let of = schema.field(schema.number_named("Query"), "f");

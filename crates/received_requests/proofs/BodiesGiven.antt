@@ -16,8 +16,9 @@ use Rattle.request_bodies.specs.Bodies.{RequestData as BodyData, IsRequest}
 use Rattle.request_bodies.proofs.Bodies.{variables_source}
 use Rattle.acceptance.specs.Requests.{RequestData}
 use Rattle.acceptance.proofs.ReadKeys.{Holds, map_holds, then_holds, anything}
-use Rattle.received_requests.specs.Bodies.{IsOf64Bits, IsAsRead, ItemsAreAsRead, MembersAreAsRead, IsGivenAsRead}
-use Rattle.received_requests.proofs.BodiesOrder.{put_as_read}
+use Rattle.acceptance.specs.Forwarding.{IsGivenAsRead}
+use Rattle.typename_rewrite.specs.ReadJson.{IsOf64Bits, IsAsRead, ItemsAreAsRead, MembersAreAsRead}
+use Rattle.typename_rewrite.proofs.KeysInOrder.{put_as_read}
 
 -- ---- numbers
 

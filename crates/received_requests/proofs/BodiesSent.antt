@@ -1,14 +1,13 @@
 -- The body that is sent: its members, and what a reader of its text gets.
-use Rattle.std.proofs.Common.{ℕ, ◌+◌, ◌<◌, ◌≤◌, max, ◌≡◌, Bool, true, false, if◌then◌else◌, List, Option, None, Some, is_some, Ordering, Less, Equal, Greater, nat_cmp, refl, sym, ap, ap₂, ◌∙◌, subst, arith}
+use Rattle.std.proofs.Common.{ℕ, ◌≡◌, Bool, true, false, if◌then◌else◌, List, Option, None, Some, is_some, Ordering, Less, Equal, Greater, nat_cmp, refl, sym, ap, ap₂, ◌∙◌, subst}
 use Rattle.std.specs.Prelude.{codes, map, option_map}
 use Rattle.std.specs.Str.{is_utf8}
 use Rattle.std.specs.Ordering.{match_ordering}
 use Rattle.std.specs.Cmp.Lexicographic.{slice_cmp}
 use Rattle.std.proofs.lemmas.Option.{same_Some}
-use Rattle.serde_json.specs.Data.{Data, null, boolean, number, string, array, object, Members, no_members, member, depth, members_depth}
+use Rattle.serde_json.specs.Data.{Data, null, boolean, number, string, array, object, Members, no_members, member}
 use Rattle.serde_json.specs.Find.{get, get_member, as_object}
-use Rattle.serde_json.specs.Read.{max_depth, read}
-use Rattle.serde_json.specs.Written.{has_float}
+use Rattle.serde_json.specs.Read.{read}
 use Rattle.gql_base.specs.ways.Reading.{Identifier}
 use Rattle.document_reader.specs.Documents.{VariableTree}
 use Rattle.document_reader.specs.Trees.{maybe_identifier, variable_tree}
@@ -18,11 +17,9 @@ use Rattle.request_bodies.proofs.Bodies.{read_json}
 use Rattle.typename_rewrite.specs.ForwardedBodies.{members_of, members_where, sent_variables, declares, body_with, body_data}
 use Rattle.acceptance.specs.Requests.{RequestData, Prepared}
 use Rattle.acceptance.specs.Keys.{HasEachKeyOnce, MembersHaveEachKeyOnce}
-use Rattle.acceptance.specs.Forwarding.{sent_text, sent_body, IsSentText}
+use Rattle.acceptance.specs.Forwarding.{sent_text, sent_body}
 use Rattle.received_requests.specs.Received.{name_sent, variables_sent}
-use Rattle.received_requests.specs.Bodies.{keys_of, body_keys, request_sent, ComesBefore, IsAsRead, MembersAreAsRead, IsGivenAsRead}
-use Rattle.received_requests.proofs.BodiesOrder.{once as each_once}
-use Rattle.received_requests.proofs.BodiesRead.{text_read}
+use Rattle.received_requests.specs.Bodies.{keys_of, body_keys, request_sent}
 
 -- ---- a body's members
 
@@ -45,14 +42,6 @@ keys_there (Some name) document variables = refl
 once_there : (name : Option Identifier) (document : List ℕ) (variables : Members) → MembersHaveEachKeyOnce variables → HasEachKeyOnce (body_with name document variables)
 once_there None document variables once = (refl, tt, (refl, once, tt))
 once_there (Some name) document variables once = (refl, tt, (refl, tt, (refl, once, tt)))
-
-so_there : (name : Option Identifier) (document : List ℕ) (variables : Members) → MembersAreAsRead variables → IsAsRead (body_with name document variables)
-so_there None document variables are = ((refl, tt), tt, (tt, are, tt))
-so_there (Some name) document variables are = ((refl, (refl, tt)), tt, ((refl, tt), tt, (tt, are, tt)))
-
-deep_there : (name : Option Identifier) (document : List ℕ) (variables : Members) → members_depth variables + 2 ≤ max_depth → depth (body_with name document variables) ≤ max_depth
-deep_there None document variables within = omega (arith, within)
-deep_there (Some name) document variables within = omega (arith, within)
 
 -- ---- of what is given, the members that are sent
 
@@ -80,30 +69,6 @@ module _ (keeps : List ℕ → Bool) where
   once_where no_members once = tt
   once_where (member key d ms) once = once_kept (keeps key) key d (members_where keeps ms) (none_where key ms once.0, once.1, once_where ms once.2)
 
-  before_kept : (test : Bool) (key other : List ℕ) (d : Data) (rest : Members) → ComesBefore key (member other d rest) → ComesBefore key (if test then member other d rest else rest)
-  before_kept true key other d rest before = before
-  before_kept false key other d rest before = before.1
-
-  before_where : (key : List ℕ) (ms : Members) → ComesBefore key ms → ComesBefore key (members_where keeps ms)
-  before_where key no_members before = tt
-  before_where key (member other d ms) before = before_kept (keeps other) key other d (members_where keeps ms) (before.0, before_where key ms before.1)
-
-  so_kept : (test : Bool) (key : List ℕ) (d : Data) (rest : Members) → MembersAreAsRead (member key d rest) → MembersAreAsRead (if test then member key d rest else rest)
-  so_kept true key d rest are = are
-  so_kept false key d rest are = are.2
-
-  so_where : (ms : Members) → MembersAreAsRead ms → MembersAreAsRead (members_where keeps ms)
-  so_where no_members are = tt
-  so_where (member key d ms) are = so_kept (keeps key) key d (members_where keeps ms) (before_where key ms are.0, are.1, so_where ms are.2)
-
-  deep_kept : (test : Bool) (key : List ℕ) (d : Data) (rest : Members) → members_depth (if test then member key d rest else rest) ≤ max (depth d) (members_depth rest)
-  deep_kept true key d rest = omega arith
-  deep_kept false key d rest = omega arith
-
-  deep_where : (ms : Members) → members_depth (members_where keeps ms) ≤ members_depth ms
-  deep_where no_members = omega arith
-  deep_where (member key d ms) = omega (arith, deep_kept (keeps key) key d (members_where keeps ms), deep_where ms)
-
 module _ (vs : List VariableTree) where
   once_sent : (given : Data) → HasEachKeyOnce given → MembersHaveEachKeyOnce (sent_variables vs given)
   once_sent null once = tt
@@ -112,22 +77,6 @@ module _ (vs : List VariableTree) where
   once_sent (string s) once = tt
   once_sent (array ds) once = tt
   once_sent (object ms) once = once_where (declares vs) ms once
-
-  so_sent : (given : Data) → IsAsRead given → MembersAreAsRead (sent_variables vs given)
-  so_sent null is = tt
-  so_sent (boolean b) is = tt
-  so_sent (number n) is = tt
-  so_sent (string s) is = tt
-  so_sent (array ds) is = tt
-  so_sent (object ms) is = so_where (declares vs) ms is
-
-  deep_sent : (given : Data) → depth given < max_depth → members_depth (sent_variables vs given) + 2 ≤ max_depth
-  deep_sent null within = omega arith
-  deep_sent (boolean b) within = omega arith
-  deep_sent (number n) within = omega arith
-  deep_sent (string s) within = omega arith
-  deep_sent (array ds) within = omega arith
-  deep_sent (object ms) within = omega (arith, within, deep_where (declares vs) ms)
 
 -- ---- the body that is sent
 
@@ -151,17 +100,6 @@ module _ (r : RequestData) (p : Prepared r) (alias : List ℕ) where
   pub body_once : HasEachKeyOnce r.given → HasEachKeyOnce (sent_body r p alias)
   unfolding body_data
   body_once once = once_there (maybe_identifier p.operation.name) (sent_text r p alias) _ (once_sent (map variable_tree p.operation.variables.items) r.given once)
-
-  body_so : IsAsRead r.given → IsAsRead (sent_body r p alias)
-  unfolding body_data
-  body_so is = so_there (maybe_identifier p.operation.name) (sent_text r p alias) _ (so_sent (map variable_tree p.operation.variables.items) r.given is)
-
-  body_deep : depth r.given < max_depth → depth (sent_body r p alias) ≤ max_depth
-  unfolding body_data
-  body_deep within = deep_there (maybe_identifier p.operation.name) (sent_text r p alias) _ (deep_sent (map variable_tree p.operation.variables.items) r.given within)
-
-  pub body_read : (text : List ℕ) → IsGivenAsRead r → IsSentText r p alias text → has_float (sent_body r p alias) ≡ false → read text ≡ Some (sent_body r p alias)
-  body_read text is sent none = ap read (sent (each_once r.given is.as_read)) ∙ text_read (sent_body r p alias) (body_so is.as_read) none (body_deep is.within)
 
 -- ---- the request that its reader sees
 

@@ -9,7 +9,6 @@ mod ReachedNames
 mod ReachedWalks
 mod ReachedFragments
 mod BodiesOrder
-mod BodiesRead
 mod BodiesGiven
 mod BodiesSent
 mod ReceivedResponses

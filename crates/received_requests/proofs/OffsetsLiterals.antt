@@ -5,7 +5,7 @@ use Rattle.std.specs.List.{list_any}
 use Rattle.std.proofs.lemmas.Bool.{cases_Bool}
 use Rattle.std.proofs.Math.Path.{fun_ext}
 use Rattle.gql_base.specs.names.Names.{first_of_name}
-use Rattle.gql_base.specs.parts.Values.{ValueTree, NamedValue, variable_value, integer_value, string_value, boolean_value, null_value, enum_value, list_value, object_value, ValueTrees, no_value, value_then, FieldTrees, no_field, field_then}
+use Rattle.gql_base.specs.parts.Values.{ValueTree, NamedValue, variable_value, integer_value, float_value, string_value, boolean_value, null_value, enum_value, list_value, object_value, ValueTrees, no_value, value_then, FieldTrees, no_field, field_then}
 use Rattle.gql_base.specs.parts.Arguments.{DirectiveTree}
 use Rattle.gql_base.specs.printing.PrintedTrees.{placeless, all_placeless, fields_placeless}
 use Rattle.input_values.specs.coercion.Given.{given_list, given_object, given_then, given_field_then}
@@ -34,6 +34,7 @@ module _ (values : Environment) where
     same_literal : (v : ValueTree) → literal_given values (placeless v) ≡ literal_given values v
     same_literal (variable_value name at) = refl
     same_literal (integer_value z) = refl
+    same_literal (float_value z) = refl
     same_literal (string_value s) = refl
     same_literal (boolean_value b) = refl
     same_literal null_value = refl
@@ -66,6 +67,7 @@ module _ (values : Environment) where
   unfolding placeless
   same_truth (variable_value name at) = refl
   same_truth (integer_value z) = refl
+  same_truth (float_value z) = refl
   same_truth (string_value s) = refl
   same_truth (boolean_value b) = refl
   same_truth null_value = refl

@@ -1,9 +1,7 @@
 -- What is received is what is sent, but for the offsets of names.
-use Rattle.std.proofs.Common.{◌≡◌, ℕ, List, [], ◌∷◌, refl, sym, ap, ap₂, ◌∙◌, subst, map, Some, Ok, Result}
+use Rattle.std.proofs.Common.{◌≡◌, ℕ, List, [], ◌∷◌, refl, sym, ap, ap₂, ◌∙◌, subst, Some, Ok, Result}
 use Rattle.document_reader.specs.declared.trees.Operation.{Operation}
 use Rattle.document_reader.specs.Documents.{SelectionTrees}
-use Rattle.document_reader.specs.Trees.{set_tree}
-use Rattle.document_reader.specs.PlacelessDocuments.{selections_placeless}
 use Rattle.response_model.specs.Cost.{Part}
 use Rattle.response_model.specs.Response.{Tree}
 use Rattle.document_rules.specs.Sites.{type_of_kind}

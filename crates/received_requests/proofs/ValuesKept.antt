@@ -6,7 +6,7 @@ use Rattle.std.specs.Cmp.Lexicographic.{slice_cmp}
 use Rattle.std.proofs.Math.Bool.{or-true}
 use Rattle.serde_json.specs.Data.{Data, null, boolean, number, string, array, object, Members, no_members, member}
 use Rattle.serde_json.specs.Find.{get, get_member}
-use Rattle.gql_base.specs.parts.Values.{ValueTree, variable_value, integer_value, string_value, boolean_value, null_value, enum_value, list_value, object_value, ValueTrees, no_value, value_then, FieldTrees, no_field, field_then}
+use Rattle.gql_base.specs.parts.Values.{ValueTree, variable_value, integer_value, float_value, string_value, boolean_value, null_value, enum_value, list_value, object_value, ValueTrees, no_value, value_then, FieldTrees, no_field, field_then}
 use Rattle.gql_base.specs.parts.TypeReferences.{TypeTree, named_type, list_type, non_null_type}
 use Rattle.gql_base.specs.printing.PrintedTrees.{placeless, all_placeless, fields_placeless, type_placeless}
 use Rattle.document_reader.specs.declared.trees.VariableDef.{VariableDef}
@@ -37,6 +37,7 @@ mutual
   literal_alike : (v : ValueTree) → literal_given no_variables (placeless v) ≡ literal_given no_variables v
   literal_alike (variable_value name at) = refl
   literal_alike (integer_value z) = refl
+  literal_alike (float_value z) = refl
   literal_alike (string_value s) = refl
   literal_alike (boolean_value b) = refl
   literal_alike null_value = refl

@@ -6,6 +6,7 @@ use Rattle.document_reader.specs.Documents.{SelectionTrees}
 use Rattle.document_reader.specs.DocumentAnswers.{HasDocument}
 use Rattle.document_reader.specs.Trees.{definition_tree, maybe_identifier, variable_tree, set_tree}
 use Rattle.document_reader.specs.PlacelessDocuments.{selections_placeless, document_placeless}
+use Rattle.schema_model.specs.SchemaData.{has_floats}
 use Rattle.input_values.specs.coercion.Literals.{Environment}
 use Rattle.document_rules.specs.Parts.{FragmentData, name_text}
 use Rattle.plan_model.specs.SelectedFields.{Setting}
@@ -50,7 +51,7 @@ pub record IsReceived (r : RequestData) (p : Prepared r) (alias : List ℕ) (q :
 pub record IsReadOf (r : RequestData) (p : Prepared r) (alias : List ℕ) (q : RequestData) : Type 0 where
   pub schema : q.schema ≡ r.schema
   pub weights : q.weights ≡ r.weights
-  pub document : HasDocument (sent_text r p alias) (map definition_tree q.document)
+  pub document : HasDocument (has_floats r.schema) (sent_text r p alias) (map definition_tree q.document)
   pub operation_name : q.name ≡ name_sent r p
   pub variables : q.given ≡ variables_sent r p
 

@@ -9,13 +9,14 @@ ghost use Rattle.request_bodies.specs.Bodies.{RequestData as BodyData, IsRequest
 ghost use Rattle.typename_rewrite.specs.ForwardedBodies.{members_of};
 ghost use Rattle.acceptance.specs.Requests.{RequestData, Prepared};
 ghost use Rattle.acceptance.specs.Keys.{HasEachKeyOnce};
-ghost use Rattle.acceptance.specs.Forwarding.{IsFreeIn, sent_text, sent_body, IsSentText};
+ghost use Rattle.acceptance.specs.Forwarding.{IsFreeIn, sent_text, sent_body, IsGivenAsRead, IsSentText};
 ghost use Rattle.sent_documents.specs.SentTexts.{IsClientText};
 ghost use Rattle.received_requests.specs.Received.{variables_sent, name_sent};
-ghost use Rattle.received_requests.specs.Bodies.{keys_of, body_keys, request_sent, IsAsRead, IsGivenAsRead, AsksForReceived};
+ghost use Rattle.received_requests.specs.Bodies.{keys_of, body_keys, request_sent, AsksForReceived};
+ghost use Rattle.typename_rewrite.specs.ReadJson.{IsAsRead};
 
 use crate::laws::what_is_read_is_received;
-use acceptance::sent_bodies_hold_no_float;
+use acceptance::sent_texts_are_read_alike;
 
 /// The body that is sent has just the document, the variables and, where the operation has one, its name (GraphQL over HTTP). Where
 /// what is given has each key once, so has the body.
@@ -45,11 +46,10 @@ pub fn what_a_reader_of_the_body_gets()
     ensures request { (r : RequestData) (p : Prepared r) (alias text : List ℕ) → IsGivenAsRead r → IsSentText r p alias text → is_utf8 text ≡ true → IsRequest text (request_sent r p alias) }
     ensures only { (r : RequestData) (p : Prepared r) (alias text : List ℕ) (asked : BodyData) → IsGivenAsRead r → IsSentText r p alias text → IsRequest text asked → asked ≡ request_sent r p alias }
 {
-    sent_bodies_hold_no_float();
+    sent_texts_are_read_alike();
 }
 
-/// Where what is given for the variables was read, and no string of the client's text holds a control character but those that have an
-/// escape by a letter: what the body that is sent asks of the same schema is the request that is received.
+/// Where what is given for the variables was read, what the body that is sent asks of the same schema is the request that is received.
 pub fn what_comes_from_the_body_is_received()
     ensures { (r : RequestData) (p : Prepared r) (alias text body : List ℕ) → IsGivenAsRead r → IsFreeIn r alias → IsClientText r text → IsSentText r p alias body → AsksForReceived r p alias body }
 {

@@ -11,8 +11,7 @@ ghost use Rattle.received_requests.specs.Received.{IsReceived, IsReadOf, HasSele
 
 use sent_documents::laws::what_is_sent_reads_back;
 
-/// Where no string of the client's text holds a control character but those that have an escape by a letter, whoever reads the text that
-/// is sent has the document that is sent, but for the offsets of names.
+/// Whoever reads the text that is sent has the document that is sent, but for the offsets of names.
 pub fn what_is_read_is_received()
     ensures { (r : RequestData) (p : Prepared r) (alias text : List ℕ) (q : RequestData) → IsFreeIn r alias → IsClientText r text → IsReadOf r p alias q → IsReceived r p alias q }
 {

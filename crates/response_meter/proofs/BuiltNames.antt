@@ -19,7 +19,7 @@ use Rattle.schema_rules.specs.declared.kind.Kind.TheVariants.{Scalar}
 use Rattle.schema_rules.specs.Items.{ItemTree, schema_item, root_item, type_item, interface_item, member_item, field_item, argument_item, field_type_item, enum_value_item, input_field_item, directive_item, directive_argument_item, root_item_of, enum_value_of, field_items, field_type_of, body_items, definition_items, items_of, place_of}
 use Rattle.schema_rules.specs.TypeNames.{NamedKind, name_of, with_type, types_defined, with_scalar, with_built_ins, types_of}
 use Rattle.schema_rules.specs.Repeated.{key_of, takes_built_in, earlier, place_at, repeated}
-use Rattle.schema_rules.specs.DirectiveUses.{given_weight}
+use Rattle.schema_rules.specs.DirectiveUses.{given_weight, is_lax}
 use Rattle.schema_rules.proofs.FirstFaults.{neither}
 use Rattle.schema_model.specs.Drafts.{TypeDraft, body_draft, definition_draft, scalar_draft, defined_drafts, drafts_of}
 use Rattle.schema_model.specs.SchemaData.{TypeData, SchemaData}
@@ -207,22 +207,22 @@ nothing_inside name interfaces fields =
     neither_defines (map (interface_item name) interfaces) (flat_map (field_items name) fields) (none_defines (interface_item name) (λ x types. refl) interfaces) (no_field_defines name fields)
 
 module _ (types : List NamedKind) where
-  body_named : (name : NameText) (cost : Option (List ℕ)) (directives : List DirectiveTree) (body : BodyTree) → names_of (types_defined (body_items name directives body)) ≡ map draft_name (body_draft types name cost body)
-  body_named name cost directives (schema_body roots) = ap names_of (none_defines root_item_of (λ x types. refl) roots)
-  body_named name cost directives scalar_body = refl
-  body_named name cost directives (object_body interfaces fields) = ap (λ (ts : List NamedKind). name ∷ names_of ts) (nothing_inside name interfaces fields)
-  body_named name cost directives (interface_body interfaces fields) = ap (λ (ts : List NamedKind). name ∷ names_of ts) (nothing_inside name interfaces fields)
-  body_named name cost directives (union_body members) = ap (λ (ts : List NamedKind). name ∷ names_of ts) (none_defines (member_item name) (λ x types. refl) members)
-  body_named name cost directives (enum_body values) = ap (λ (ts : List NamedKind). name ∷ names_of ts) (none_defines (enum_value_of name) (λ x types. refl) values)
-  body_named name cost directives (input_body fields) = ap (λ (ts : List NamedKind). name ∷ names_of ts) (none_defines (input_field_item name) (λ x types. refl) fields)
-  body_named name cost directives (directive_body arguments repeatable locations) = ap names_of (none_defines (directive_argument_item name) (λ x types. refl) arguments)
+  body_named : (name : NameText) (cost : Option (List ℕ)) (lax : Bool) (directives : List DirectiveTree) (body : BodyTree) → names_of (types_defined (body_items name directives body)) ≡ map draft_name (body_draft types name cost lax body)
+  body_named name cost lax directives (schema_body roots) = ap names_of (none_defines root_item_of (λ x types. refl) roots)
+  body_named name cost lax directives scalar_body = refl
+  body_named name cost lax directives (object_body interfaces fields) = ap (λ (ts : List NamedKind). name ∷ names_of ts) (nothing_inside name interfaces fields)
+  body_named name cost lax directives (interface_body interfaces fields) = ap (λ (ts : List NamedKind). name ∷ names_of ts) (nothing_inside name interfaces fields)
+  body_named name cost lax directives (union_body members) = ap (λ (ts : List NamedKind). name ∷ names_of ts) (none_defines (member_item name) (λ x types. refl) members)
+  body_named name cost lax directives (enum_body values) = ap (λ (ts : List NamedKind). name ∷ names_of ts) (none_defines (enum_value_of name) (λ x types. refl) values)
+  body_named name cost lax directives (input_body fields) = ap (λ (ts : List NamedKind). name ∷ names_of ts) (none_defines (input_field_item name) (λ x types. refl) fields)
+  body_named name cost lax directives (directive_body arguments repeatable locations) = ap names_of (none_defines (directive_argument_item name) (λ x types. refl) arguments)
 
   text_named : (text : List DefinitionTree) → names_of (types_defined (items_of text)) ≡ map draft_name (defined_drafts types text)
   text_named [] = refl
   text_named (d ∷ text) =
       ap names_of (defined_both (definition_items d) (items_of text))
       ∙ (map-append name_of (types_defined (definition_items d)) (types_defined (items_of text))
-      ∙ (ap₂ (λ (xs ys : List (List ℕ)). xs ++ ys) (body_named d.1.0 (given_weight d.1.1) d.1.1 d.1.2) (text_named text) ∙ sym (map-append draft_name (definition_draft types d) (defined_drafts types text))))
+      ∙ (ap₂ (λ (xs ys : List (List ℕ)). xs ++ ys) (body_named d.1.0 (given_weight d.1.1) (is_lax d.1.1) d.1.1 d.1.2) (text_named text) ∙ sym (map-append draft_name (definition_draft types d) (defined_drafts types text))))
 
 scalars_named : (types : List NamedKind) → map draft_name (map scalar_draft types) ≡ names_of types
 scalars_named [] = refl

@@ -12,6 +12,7 @@ pub mod NodesSeen
 pub mod Objects
 pub mod Opened
 pub mod Passing
+pub mod PlainAnswers
 pub mod Places
 pub mod Positions
 pub mod Possible

@@ -1,11 +1,11 @@
 -- An object whose entries were measured.
-use Rattle.std.proofs.Common.{◌≡◌, ◌+◌, ℕ, List, [], ◌++◌, Bool, true, false, codes, Some, Ok, refl, sym, ap, ◌∙◌, arith, append_assoc}
+use Rattle.std.proofs.Common.{◌≡◌, ◌+◌, ℕ, List, [], ◌++◌, Bool, true, false, codes, Some, Ok, refl, sym, ap, ◌∙◌, arith}
 use Rattle.cost_num.specs.Capped.{capped}
 use Rattle.cost_num.specs.declared.Cost.{Cost}
 use Rattle.serde_json.specs.Data.{Members}
 use Rattle.response_model.specs.Plan.{Nodes}
 use Rattle.response_model.specs.Cost.{types, fields, entries_cost}
-use Rattle.response_model.specs.ResponseText.{entries_text}
+use Rattle.response_model.specs.AnswerTexts.{AreEntriesText}
 use Rattle.plan_model.specs.Plans.{type_weight}
 use Rattle.response_meter.specs.declared.fault.MeterFault.{MeterFault}
 use Rattle.response_meter.specs.declared.fault.Why.TheVariants.{ExtraKey}
@@ -14,6 +14,7 @@ use Rattle.response_meter.specs.Faults.{Tells, not_response, tested}
 use Rattle.response_meter.specs.FirstFault.{keys_known}
 use Rattle.response_meter.specs.Walks.{setting, entries_fault, member_entries, object_fault, MeasuresEntries, MeasuresObject}
 use Rattle.response_meter.proofs.Left.{tells_same}
+use Rattle.response_meter.proofs.Places.{behind_appended}
 
 own_and_entries : (own c s w t : ℕ) → own ≡ w → c ≡ capped t → s ≡ capped (own + c) → s ≡ capped (w + t)
 own_and_entries own c s w t o e q = omega arith
@@ -31,5 +32,5 @@ module _ (by : Reading) (asked : Bool) (nodes : Nodes) (ms : Members) (known : B
     sym (ap (λ (b : Bool). tested b ExtraKey (entries_fault by nodes ms)) (sym is ∙ tells)) ∙ m.0,
     own_and_entries own c.types s.types (type_weight (setting by) T) (entries_cost types nodes (member_entries by nodes ms)) weighs m.1 p,
     own_and_entries 0 c.fields s.fields 0 (entries_cost fields nodes (member_entries by nodes ms)) refl m.2 q,
-    m.3 ∙ ap (λ (x : List ℕ). x ++ entries_text [] (member_entries by nodes ms)) opened ∙ append_assoc before (codes "{") (entries_text [] (member_entries by nodes ms)),
+    behind_appended before mid after (codes "{") (AreEntriesText [] (member_entries by nodes ms)) opened m.3,
   )

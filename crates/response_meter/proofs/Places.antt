@@ -10,7 +10,9 @@ use Rattle.serde_json.specs.Written.{compact_text}
 use Rattle.response_model.specs.Plan.{Form, single, listed, LeafType, type_name, numbered, Plan, leaf_plan, position, ObjectTypes, Nodes, is_possible, weight_of, nodes_of}
 use Rattle.response_model.specs.Response.{Tree, null, leaf, list_of, object, Elements, Entries, is_null}
 use Rattle.response_model.specs.Cost.{Part, types, fields, value_cost, entry_cost, cost, entries_cost}
-use Rattle.response_model.specs.ResponseText.{key_text, tree_text, elements_text, entries_text}
+use Rattle.response_model.specs.ResponseText.{key_text}
+use Rattle.response_model.specs.WrittenJson.{Appends}
+use Rattle.response_model.specs.AnswerTexts.{Behind, IsLeafText, IsTreeText, AreElementsText, AreEntriesText}
 use Rattle.plan_model.specs.SelectedFields.{Setting, fill_of}
 use Rattle.input_values.specs.declared.inputs.shape.TypeId.{TypeId}
 use Rattle.schema_model.specs.SchemaData.{type_at}
@@ -27,7 +29,7 @@ use Rattle.response_meter.specs.declared.nested.Node.TheViews.{out-Node}
 use Rattle.response_meter.specs.declared.readings.Reading.{Reading}
 use Rattle.response_meter.specs.Faults.{Fault, not_response, size_broken, tested, given, at_step, key_step}
 use Rattle.response_meter.specs.FirstFault as tests
-use Rattle.response_meter.specs.FirstFault.{size_fault, items_fault, list_fault, place_fault, is_leaf, keys_known, type_told}
+use Rattle.response_meter.specs.FirstFault.{size_fault, items_fault, list_fault, place_fault, is_leaf, type_told}
 use Rattle.response_meter.specs.Metered.{name_in}
 use Rattle.response_meter.specs.Nested.{types_with, plan_with, OneNode, types_of}
 use Rattle.response_meter.specs.Trees as trees
@@ -39,13 +41,18 @@ use Rattle.response_meter.proofs.Opened.{node_opened}
 use Rattle.response_meter.proofs.Passing.{told_type}
 
 -- what was measured, of the same in other words
-pub measures_as : (before after : List ℕ) (r : Result Cost MeterFault) (f g : Option Fault) (costs sums : Part → ℕ) (t u : List ℕ)
-    → f ≡ g → costs types ≡ sums types → costs fields ≡ sums fields → t ≡ u → Measures before after r f costs t → Measures before after r g sums u
-measures_as before after (Ok c) f g costs sums t u e a b s m = (sym e ∙ m.0, m.1 ∙ ap capped a, m.2 ∙ ap capped b, m.3 ∙ ap (λ x. before ++ x) s)
-measures_as before after (Err x) f g costs sums t u e a b s m = tells_same x f g e m
+pub measures_as : (before after : List ℕ) (r : Result Cost MeterFault) (f g : Option Fault) (costs sums : Part → ℕ) (Is Js : List ℕ → Type 0)
+    → f ≡ g → costs types ≡ sums types → costs fields ≡ sums fields → ((text : List ℕ) → Is text → Js text) → Measures before after r f costs Is → Measures before after r g sums Js
+measures_as before after (Ok c) f g costs sums Is Js e a b to m = let part = m.3 in (sym e ∙ m.0, m.1 ∙ ap capped a, m.2 ∙ ap capped b, (part.0, to part.0 part.1, part.2))
+measures_as before after (Err x) f g costs sums Is Js e a b to m = tells_same x f g e m
 
 pub tree_as : (before after : List ℕ) (r : Result Cost MeterFault) (f g : Option Fault) (plan : Plan) (t u : Tree) → f ≡ g → t ≡ u → MeasuresTree before after r f plan t → MeasuresTree before after r g plan u
-tree_as before after r f g plan t u e s m = measures_as before after r f g _ _ _ _ e (ap (λ x. cost types plan x) s) (ap (λ x. cost fields plan x) s) (ap tree_text s) m
+tree_as before after r f g plan t u e s m =
+    measures_as before after r f g _ _ (IsTreeText t) (IsTreeText u) e (ap (λ x. cost types plan x) s) (ap (λ x. cost fields plan x) s) (λ text is. subst (λ x. IsTreeText x text) s is) m
+
+-- what is written behind a text, and the text before it
+pub behind_appended : (before mid after front : List ℕ) (Is : List ℕ → Type 0) → mid ≡ before ++ front → Appends Is mid after → Appends (Behind front Is) before after
+behind_appended before mid after front Is w part = (front ++ part.0, (part.0, refl, part.1), part.2 ∙ ap (λ x. x ++ part.0) w ∙ append_assoc before front part.0)
 
 -- the two tests of null
 pub null_told : (d : Data) → is_some (as_null d) ≡ is_null d
@@ -136,9 +143,9 @@ module _ (by : Reading) where
       ∙ ap (λ (x : Option Members). given x BadObject (λ ms. given (told asked nodes Ts ms) BadType (λ T. tests.object_fault (holds_in by.of.now) (name_in by.of.now) by.alias.now asked T possible ms))) o)
       (sym tree)
       (measures_as before after r (object_fault by asked (nodes T) ms) (tests.object_fault (holds_in by.of.now) (name_in by.of.now) by.alias.now asked T possible ms)
-      (object_cost by T (nodes T) ms) (λ part. cost part (plan_at nodes Ts) (object T es)) _ _
+      (object_cost by T (nodes T) ms) (λ part. cost part (plan_at nodes Ts) (object T es)) (Behind (codes "{") (AreEntriesText [] (member_entries by (nodes T) ms))) (IsTreeText (object T es))
       (sym (fault_found nodes asked Ts T ms is)) (costs types T es possible same is) (costs fields T es possible same is)
-      (ap (λ (x : Entries). codes "{" ++ entries_text [] x) (sym same)) m)
+      (λ text is. subst (λ (x : Entries). Behind (codes "{") (AreEntriesText [] x) text) (sym same) is) m)
     where
       costs : (part : Part) (T : ℕ) (es : Entries) (possible : ObjectTypes) → es ≡ member_entries by (nodes T) ms → is_possible T (types_in (setting by) nodes Ts) ≡ true
           → object_cost by T (nodes T) ms part ≡ value_cost part (weight_of T (types_in (setting by) nodes Ts)) + entries_cost part (nodes_of T (types_in (setting by) nodes Ts)) es
@@ -152,25 +159,25 @@ module _ (by : Reading) where
 
   pub value_leaf : (before after : List ℕ) (r : Result Cost MeterFault) (n : Node) (type : LeafType) (weight : ℕ) (fill d : Data) (b : Bool)
       → (row_in by.of.now (out-Node n).row.now).below ≡ leaf_below type weight fill → b ≡ is_leaf (holds_in by.of.now) type fill d
-      → Measures before after r (tested b BadLeaf None) (λ part. value_cost part weight) (compact_text d) → MeasuresValue by before after r (one_node by n) d
+      → Measures before after r (tested b BadLeaf None) (λ part. value_cost part weight) (IsLeafText d) → MeasuresValue by before after r (one_node by n) d
   value_leaf before after r n type weight fill d b is holds m =
       subst (λ (f : OneNode). MeasuresValue by before after r f d) (opened_below n (leaf_below type weight fill) is)
-      (measures_as before after r (tested b BadLeaf None) (tested (is_leaf (holds_in by.of.now) type fill d) BadLeaf None) _ (λ part. cost part (leaf_plan type weight fill) (leaf d)) _ _ (ap (λ (x : Bool). tested x BadLeaf None) holds) refl refl refl m)
+      (measures_as before after r (tested b BadLeaf None) (tested (is_leaf (holds_in by.of.now) type fill d) BadLeaf None) _ (λ part. cost part (leaf_plan type weight fill) (leaf d)) (IsLeafText d) (IsTreeText (leaf d)) (ap (λ (x : Bool). tested x BadLeaf None) holds) refl refl (λ text is. is) m)
 
   -- the name of the type, and a leaf of a type
   pub value_name : (before after : List ℕ) (r : Result Cost MeterFault) (n : Node) (d : Data) (b : Bool)
       → below_seen (setting by) (out-Node n).row.now.on.number TypeName ≡ (row_in by.of.now (out-Node n).row.now).below
       → b ≡ tests.is_text (type_at (setting by).schema (out-Node n).row.now.on.number).name (Some d)
-      → Measures before after r (tested b BadLeaf None) (λ part. value_cost part 0) (compact_text d) → MeasuresValue by before after r (one_node by n) d
+      → Measures before after r (tested b BadLeaf None) (λ part. value_cost part 0) (IsLeafText d) → MeasuresValue by before after r (one_node by n) d
   value_name before after r n d b seen holds m =
       value_leaf before after r n type_name 0 (string (type_at (setting by).schema (out-Node n).row.now.on.number).name) d b (sym seen) holds m
 
   pub value_of_type : (before after : List ℕ) (r : Result Cost MeterFault) (n : Node) (of : TypeId) (weight : ℕ) (d : Data) (b : Bool)
       → below_seen (setting by) (out-Node n).row.now.on.number (Leaf of) ≡ (row_in by.of.now (out-Node n).row.now).below → b ≡ holds_in by.of.now of.number d → weight ≡ type_weight (setting by) of.number
-      → Measures before after r (tested b BadLeaf None) (λ part. value_cost part weight) (compact_text d) → MeasuresValue by before after r (one_node by n) d
+      → Measures before after r (tested b BadLeaf None) (λ part. value_cost part weight) (IsLeafText d) → MeasuresValue by before after r (one_node by n) d
   value_of_type before after r n of weight d b seen holds weighs m =
       value_leaf before after r n (numbered of.number) (type_weight (setting by) of.number) (fill_of (setting by).schema of.number) d b (sym seen) holds
-      (subst (λ (w : ℕ). Measures before after r (tested b BadLeaf None) (λ part. value_cost part w) (compact_text d)) weighs m)
+      (subst (λ (w : ℕ). Measures before after r (tested b BadLeaf None) (λ part. value_cost part w) (IsLeafText d)) weighs m)
 
   pub value_object : (before after : List ℕ) (r : Result Cost MeterFault) (n : Node) (possible : List PossibleType) (d : Data)
       → (row_in by.of.now (out-Node n).row.now).below ≡ objects_below possible
@@ -182,10 +189,10 @@ module _ (by : Reading) where
   -- ---- a value or null
 
   pub item_null : (before after : List ℕ) (r : Result Cost MeterFault) (nullable : Bool) (f : OneNode) (d : Data)
-      → is_null d ≡ true → Measures before after r (tested nullable NullHere None) (λ part. 0) (compact_text json_null) → MeasuresItem by before after r nullable f d
+      → is_null d ≡ true → Measures before after r (tested nullable NullHere None) (λ part. 0) (λ text. text ≡ compact_text json_null) → MeasuresItem by before after r nullable f d
   item_null before after r nullable f d is m =
       tree_as before after r (tested nullable NullHere None) _ f.1 null _ (ap (λ (b : Bool). cond b (tested nullable NullHere None) (one_fault by f d)) (sym is)) (ap (λ (b : Bool). cond b null (one_tree by f d)) (sym is))
-      (measures_as before after r _ _ _ _ _ _ refl refl refl refl m)
+      (measures_as before after r _ _ _ _ (λ text. text ≡ compact_text json_null) (IsTreeText null) refl refl refl (λ text is. is) m)
 
   pub item_some : (before after : List ℕ) (r : Result Cost MeterFault) (nullable : Bool) (f : OneNode) (d : Data)
       → is_null d ≡ false → MeasuresValue by before after r f d → MeasuresItem by before after r nullable f d
@@ -200,14 +207,14 @@ module _ (by : Reading) where
       (ap (λ (form : Form). place_fault (λ v. one_fault by f v) form f.0.size d) (sym is)) (ap (λ (form : Form). place_tree (λ v. one_tree by f v) form d) (sym is)) m
 
   pub place_null : (before after : List ℕ) (r : Result Cost MeterFault) (nullable item_nullable : Bool) (f : OneNode) (d : Data) → f.0.form ≡ listed nullable item_nullable
-      → is_null d ≡ true → Measures before after r (tested nullable NullHere None) (λ part. 0) (compact_text json_null) → MeasuresPlace by before after r f d
+      → is_null d ≡ true → Measures before after r (tested nullable NullHere None) (λ part. 0) (λ text. text ≡ compact_text json_null) → MeasuresPlace by before after r f d
   place_null before after r nullable i f d is none m =
       let faults = list_fault (λ v. one_fault by f v) i f.0.size d in
       let below = list_tree (λ v. one_tree by f v) d in
       tree_as before after r (tested nullable NullHere None) (field_fault by f d) f.1 null (field_tree by f d)
       (ap (λ (b : Bool). cond b (tested nullable NullHere None) faults) (sym none) ∙ ap (λ (form : Form). place_fault (λ v. one_fault by f v) form f.0.size d) (sym is))
       (ap (λ (b : Bool). cond b null below) (sym none) ∙ ap (λ (form : Form). place_tree (λ v. one_tree by f v) form d) (sym is))
-      (measures_as before after r _ _ _ _ _ _ refl refl refl refl m)
+      (measures_as before after r _ _ _ _ (λ text. text ≡ compact_text json_null) (IsTreeText null) refl refl refl (λ text is. is) m)
 
   pub place_list : (before after : List ℕ) (r : Result Cost MeterFault) (nullable item_nullable : Bool) (f : OneNode) (d : Data) → f.0.form ≡ listed nullable item_nullable
       → is_null d ≡ false → MeasuresList by before after r item_nullable f d → MeasuresPlace by before after r f d
@@ -234,7 +241,7 @@ module _ (by : Reading) where
     where
       opened : (before mid after : List ℕ) (r : Result Cost MeterFault) (f : Option Fault) (plan : Plan) (ts : Elements) → mid ≡ before ++ codes "["
           → MeasuresElements mid after r f plan ts → MeasuresTree before after r f plan (list_of ts)
-      opened before mid after (Ok c) f plan ts w m = (m.0, m.1, m.2, m.3 ∙ ap (λ x. x ++ elements_text [] ts) w ∙ append_assoc before (codes "[") (elements_text [] ts))
+      opened before mid after (Ok c) f plan ts w m = (m.0, m.1, m.2, behind_appended before mid after (codes "[") (AreElementsText [] ts) w m.3)
       opened before mid after (Err x) f plan ts w m = m
 
   -- ---- an entry
@@ -249,15 +256,15 @@ module _ (by : Reading) where
       let tree : field_tree by f d ≡ entry_tree by f ms = ap (λ o. tree_of o (λ x. field_tree by f x)) (e ∙ ap (λ x. get_member x ms) k) in
       measures_as before after (Ok s) None (entry_fault by f ms)
       (λ part. entry_cost part f.0 + cost part f.1 (field_tree by f d)) (λ part. entry_cost part f.0 + cost part f.1 (entry_tree by f ms))
-      (key_text f.0.key ++ tree_text (field_tree by f d)) _
+      (Behind (key_text f.0.key) (IsTreeText (field_tree by f d))) (Behind (key_text f.0.key) (IsTreeText (entry_tree by f ms)))
       (sym (ap (at_step (key_step key)) m.0) ∙ entry_found f key ms (Some d) k e)
       (ap (λ t. entry_cost types f.0 + cost types f.1 t) tree)
       (ap (λ t. entry_cost fields f.0 + cost fields f.1 t) tree)
-      (ap (λ t. key_text f.0.key ++ tree_text t) tree) (
+      (λ text is. subst (λ t. Behind (key_text f.0.key) (IsTreeText t) text) tree is) (
         refl,
         sum_types c.types s.types (cost types f.1 (field_tree by f d)) m.1 p,
         sum_fields (entry_cost fields f.0) w c.fields s.fields (cost fields f.1 (field_tree by f d)) weighs m.2 q,
-        m.3 ∙ ap (λ x. x ++ tree_text (field_tree by f d)) (write ∙ ap (λ x. before ++ key_text x) k) ∙ append_assoc before (key_text f.0.key) (tree_text (field_tree by f d)),
+        behind_appended before mid after (key_text f.0.key) (IsTreeText (field_tree by f d)) (write ∙ ap (λ x. before ++ key_text x) k) m.3,
       )
     where
       sum_types : (c s t : ℕ) → c ≡ capped t → s ≡ capped (0 + c) → s ≡ capped (0 + t)

@@ -6,6 +6,7 @@ use Rattle.serde_json.specs.Find.{get_member, as_object}
 use Rattle.serde_json.specs.Written.{compact_text}
 use Rattle.response_model.specs.Plan.{Plan, position, ObjectTypes, Nodes, no_node}
 use Rattle.response_model.specs.Response.{null, is_null}
+use Rattle.response_model.specs.AnswerTexts.{IsTreeText}
 use Rattle.input_values.specs.declared.inputs.shape.TypeId.{TypeId}
 use Rattle.plan_table.specs.Rows.{PossibleType}
 use Rattle.plan_table.specs.Tables.{row_in, weighed}
@@ -80,11 +81,11 @@ module _ (by : Reading) where
   -- ---- the data of a reply
 
   pub data_null : (before after : List ℕ) (r : Result Cost MeterFault) (plan : Plan) (d : Data) → is_null d ≡ true
-      → Measures before after r (tested true NullHere None) (λ part. 0) (compact_text json_null) → MeasuresData by before after r plan d
+      → Measures before after r (tested true NullHere None) (λ part. 0) (λ text. text ≡ compact_text json_null) → MeasuresData by before after r plan d
   data_null before after r plan d is m =
       tree_as before after r (tested true NullHere None) _ plan null _
       (ap (λ (b : Bool). cond b (tested true NullHere None) (value_fault by false plan d)) (sym is)) (ap (λ (b : Bool). cond b null (value_tree by false plan d)) (sym is))
-      (measures_as before after r _ _ _ _ _ _ refl refl refl refl m)
+      (measures_as before after r _ _ _ _ (λ text. text ≡ compact_text json_null) (IsTreeText null) refl refl refl (λ text is. is) m)
 
   data_some : (before after : List ℕ) (r : Result Cost MeterFault) (plan : Plan) (d : Data) → is_null d ≡ false → MeasuresPosition by before after r false plan d → MeasuresData by before after r plan d
   data_some before after r plan d is m =

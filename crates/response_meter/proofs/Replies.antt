@@ -1,9 +1,10 @@
 -- A whole reply.
-use Rattle.std.proofs.Common.{◌≡◌, ⊎_elim, ◌≤◌, ◌<◌, ℕ, List, ◌++◌, Bool, true, false, true≢false, cond, is_some, codes, IsUtf8, Option, Some, None, Ok, refl, sym, ap, ◌∙◌, subst, arith, zero-le}
+use Rattle.std.proofs.Common.{◌≡◌, ⊎_elim, ◌≤◌, ◌<◌, ℕ, List, [], ◌∷◌, ◌++◌, append-nil, Bool, true, false, true≢false, cond, is_some, codes, IsUtf8, Option, Some, None, Result, Ok, Err, refl, sym, ap, ◌∙◌, subst, arith, append_assoc, zero-le}
 use Rattle.std.proofs.lemmas.Bool.{cases_lt}
 use Rattle.std.proofs.lemmas.Str.{IsUtf8-from_is_utf8, is_utf8-from_IsUtf8}
 use Rattle.std.specs.Str.{is_utf8}
 use Rattle.cost_num.specs.Capped.{capped}
+use Rattle.cost_num.specs.declared.Cost.{Cost}
 use Rattle.cost_num.specs.declared.TheConstants.{CAP}
 use Rattle.serde_json.specs.Data.{Data, null as json_null, boolean, number, string, array, object as json_object, Members}
 use Rattle.serde_json.specs.Read.{read}
@@ -20,10 +21,15 @@ use Rattle.response_model.specs.Errors.{ResponseError, errors_of, has_errors}
 use Rattle.response_meter.specs.Reply.{json_of, errors_entry, data_entry, IsResponseOrNone, reply_cost, entries_fault}
 use Rattle.response_meter.specs.Faults.{at_step, given}
 use Rattle.response_meter.specs.declared.fault.Why.TheVariants.{NotJson, NotObject, BadErrors}
-use Rattle.response_model.specs.ResponseText.{errors_part, data_part}
-use Rattle.response_meter.specs.Walks.{content_fault, content_tree, MeasuresContent, Found}
+use Rattle.response_model.specs.ResponseText.{errors_part}
+use Rattle.response_model.specs.WrittenJson.{Appends}
+use Rattle.response_model.specs.AnswerTexts.{IsTreeText, IsDataPart, IsAnswerText}
+use Rattle.response_meter.specs.Walks.{content_fault, content_tree, MeasuresData, MeasuresContent, Found}
 use Rattle.response_meter.specs.Metered.{name_in, first_fault_in, IsMetered}
+use Rattle.response_meter.specs.declared.fault.MeterFault.{MeterFault}
+use Rattle.response_meter.specs.Trees.{data_tree}
 use Rattle.response_meter.proofs.Passing.{content_reads}
+use Rattle.response_meter.proofs.Places.{behind_appended}
 
 pub json_read : (bytes : List ℕ) (d : Data) → IsUtf8 bytes → read bytes ≡ Some d → json_of bytes ≡ Some d
 json_read bytes d u r = ap (λ b. cond b (read bytes) None) (is_utf8-from_IsUtf8 bytes u) ∙ r
@@ -34,6 +40,35 @@ not_json bytes h = by_test (is_utf8 bytes) refl
     by_test : (b : Bool) → is_utf8 bytes ≡ b → cond b (read bytes) None ≡ None
     by_test true e = h (IsUtf8-from_is_utf8 bytes e)
     by_test false e = refl
+
+-- ---- the data, after the errors
+
+-- what stands before the data
+abbrev pub data_front : Bool → List ℕ
+data_front true = codes ",\"data\":"
+data_front false = codes "\"data\":"
+
+pub no_content : (by : Reading) (before : List ℕ) (plan : Plan) (c : Cost) (some : Bool) (errors : List ResponseError) → c.types ≡ 0 → c.fields ≡ 0 → some ≡ true → some ≡ has_errors errors → MeasuresContent by before before (Ok c) plan errors None
+no_content by before plan c some [] no_types no_fields is has = absurd (true≢false (sym is ∙ has))
+no_content by before plan c some (e ∷ es) no_types no_fields is has = (refl, no_types, no_fields, ([], refl, sym (append-nil before)))
+
+pub content_measured : (by : Reading) (before mid after front : List ℕ) (r : Result Cost MeterFault) (plan : Plan) (errors : List ResponseError) (json : Data) → mid ≡ before ++ front → front ≡ data_front (has_errors errors)
+    → MeasuresData by mid after r plan json → MeasuresContent by before after r plan errors (Some json)
+content_measured by before mid after front (Ok c) plan [] json w f m =
+    (m.0, m.1, m.2, behind_appended before mid after (data_front false) (IsTreeText (data_tree (name_in by.of.now) by.alias.now plan json)) (w ∙ ap (λ x. before ++ x) f) m.3)
+content_measured by before mid after front (Ok c) plan (e ∷ es) json w f m =
+    (m.0, m.1, m.2, behind_appended before mid after (data_front true) (IsTreeText (data_tree (name_in by.of.now) by.alias.now plan json)) (w ∙ ap (λ x. before ++ x) f) m.3)
+content_measured by before mid after front (Err x) plan [] json w f m = m
+content_measured by before mid after front (Err x) plan (e ∷ es) json w f m = m
+
+-- the parts of an answer's text
+answer_put : (errors : List ResponseError) (tree : Option Tree) (start first second whole text : List ℕ) → start ≡ codes "{" → first ≡ start ++ errors_part errors → Appends (IsDataPart errors tree) first second
+    → whole ≡ second ++ codes "}" → text ≡ whole → IsAnswerText tree errors text
+answer_put errors tree start first second whole text s e part t is =
+    let front : first ≡ codes "{" ++ errors_part errors = e ∙ ap (λ x. x ++ errors_part errors) s in
+    let longer : whole ≡ (codes "{" ++ errors_part errors) ++ (part.0 ++ codes "}") =
+    t ∙ ap (λ x. x ++ codes "}") (part.2 ∙ ap (λ x. x ++ part.0) front) ∙ append_assoc (codes "{" ++ errors_part errors) part.0 (codes "}") in
+    (part.0 ++ codes "}", is ∙ longer, (part.0, codes "}", refl, part.1, refl))
 
 -- the parts of a reply, put together
 object_found : (by : Reading) (bytes start first second whole : List ℕ) (plan : Plan) (m : Metered) (some : Bool) (ms : Members) (o p : Option Data)
@@ -49,7 +84,7 @@ object_found by bytes start first second whole plan m some ms o p j s eo w ep me
       no_fault = c.0;
       types_cost = c.1;
       fields_cost = c.2;
-      text = text ∙ t ∙ ap (λ x. x ++ codes "}") (c.3 ∙ ap (λ x. x ++ data_part w.0 (content_tree by plan (data_entry ms))) (w.3 ∙ ap (λ x. x ++ errors_part w.0) s));
+      text = answer_put w.0 (content_tree by plan (data_entry ms)) start first second whole m.text s w.3 c.3 t text;
     }
 
 pub reply_found : (by : Reading) (bytes start first second whole : List ℕ) (plan : Plan) (m : Metered) (some : Bool) (json : Data) (o p : Option Data)

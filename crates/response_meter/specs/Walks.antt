@@ -8,7 +8,8 @@ use Rattle.response_model.specs.Plan.{Form, single, listed, Plan, position, Node
 use Rattle.response_model.specs.Response.{Tree, Elements, Entries}
 use Rattle.response_model.specs.Cost.{Part, types, fields, value_cost, entry_cost, cost, entries_cost, elements_cost}
 use Rattle.response_model.specs.Errors.{ResponseError, errors_of, has_errors}
-use Rattle.response_model.specs.ResponseText.{key_text, tree_text, elements_text, entries_text, errors_part, data_part, response_text}
+use Rattle.response_model.specs.ResponseText.{key_text, errors_part}
+use Rattle.response_model.specs.WrittenJson.{Appends}
 use Rattle.plan_model.specs.SelectedFields.{Setting}
 use Rattle.plan_model.specs.Plans.{type_weight}
 use Rattle.plan_table.specs.Tables.{setting_in, row_in, weighed}
@@ -22,6 +23,7 @@ use Rattle.response_meter.specs.declared.nested.Node.{Node}
 use Rattle.response_meter.specs.declared.nested.Node.TheViews.{out-Node}
 use Rattle.response_meter.specs.declared.nested.Types.{Types}
 use Rattle.response_meter.specs.declared.readings.Reading.{Reading}
+use Rattle.response_model.specs.AnswerTexts.{Behind, IsTreeText, AreElementsText, AreEntriesText, IsDataPart, IsAnswerText}
 use Rattle.response_meter.specs.Faults.{Fault, Tells, tested, given, at_step, key_step}
 use Rattle.response_meter.specs.FirstFault as tests
 use Rattle.response_meter.specs.FirstFault.{keys_known}
@@ -36,17 +38,17 @@ abbrev pub form_seen : ValueForm → Form
 form_seen (Single nullable) = single nullable
 form_seen (Listed nullable item_nullable) = listed nullable item_nullable
 
--- Nothing is wrong, the cost so far is capped, and the text was appended. Or a fault is told.
-abbrev pub Measures : List ℕ → List ℕ → Result Cost MeterFault → Option Fault → (Part → ℕ) → List ℕ → Type 0
-Measures before after (Ok c) fault costs text = (fault ≡ None) × (c.types ≡ capped (costs types)) × (c.fields ≡ capped (costs fields)) × (after ≡ before ++ text)
-Measures before after (Err f) fault costs text = Tells f fault
+-- Nothing is wrong, the cost so far is capped, and a text of which this holds was appended. Or a fault is told.
+abbrev pub Measures : List ℕ → List ℕ → Result Cost MeterFault → Option Fault → (Part → ℕ) → (List ℕ → Type 0) → Type 0
+Measures before after (Ok c) fault costs Is = (fault ≡ None) × (c.types ≡ capped (costs types)) × (c.fields ≡ capped (costs fields)) × Appends Is before after
+Measures before after (Err f) fault costs Is = Tells f fault
 
 -- A value with its plan, and the entries of an object and the elements of a list with what stands before the first.
 abbrev pub MeasuresTree : List ℕ → List ℕ → Result Cost MeterFault → Option Fault → Plan → Tree → Type 0
-MeasuresTree before after result fault plan t = Measures before after result fault (λ part. cost part plan t) (tree_text t)
+MeasuresTree before after result fault plan t = Measures before after result fault (λ part. cost part plan t) (IsTreeText t)
 
 abbrev pub MeasuresElements : List ℕ → List ℕ → Result Cost MeterFault → Option Fault → Plan → Elements → Type 0
-MeasuresElements before after result fault plan ts = Measures before after result fault (λ part. elements_cost part plan ts) (elements_text [] ts)
+MeasuresElements before after result fault plan ts = Measures before after result fault (λ part. elements_cost part plan ts) (AreElementsText [] ts)
 
 module _ (by : Reading) where
   abbrev pub setting : Setting
@@ -119,13 +121,13 @@ module _ (by : Reading) where
     MeasuresPosition asked plan json = MeasuresTree before after result (value_fault asked plan json) plan (value_tree asked plan json)
 
     abbrev pub MeasuresObject : Bool → ℕ → Nodes → Members → Type 0
-    MeasuresObject asked T nodes ms = Measures before after result (object_fault asked nodes ms) (object_cost T nodes ms) (codes "{" ++ entries_text [] (member_entries nodes ms))
+    MeasuresObject asked T nodes ms = Measures before after result (object_fault asked nodes ms) (object_cost T nodes ms) (Behind (codes "{") (AreEntriesText [] (member_entries nodes ms)))
 
     abbrev pub MeasuresEntry : OneNode → Members → Type 0
-    MeasuresEntry f ms = Measures before after result (entry_fault f ms) (λ part. entry_cost part f.0 + cost part f.1 (entry_tree f ms)) (key_text f.0.key ++ tree_text (entry_tree f ms))
+    MeasuresEntry f ms = Measures before after result (entry_fault f ms) (λ part. entry_cost part f.0 + cost part f.1 (entry_tree f ms)) (Behind (key_text f.0.key) (IsTreeText (entry_tree f ms)))
 
     abbrev pub MeasuresEntries : Nodes → Members → Type 0
-    MeasuresEntries nodes ms = Measures before after result (entries_fault nodes ms) (λ part. entries_cost part nodes (member_entries nodes ms)) (entries_text [] (member_entries nodes ms))
+    MeasuresEntries nodes ms = Measures before after result (entries_fault nodes ms) (λ part. entries_cost part nodes (member_entries nodes ms)) (AreEntriesText [] (member_entries nodes ms))
 
     abbrev pub MeasuresList : Bool → OneNode → Data → Type 0
     MeasuresList nullable f json = MeasuresTree before after result (tests.list_fault (λ v. one_fault f v) nullable f.0.size json) f.1 (trees.list_tree (λ v. one_tree f v) json)
@@ -149,7 +151,7 @@ module _ (by : Reading) where
 
   abbrev pub MeasuresContent : List ℕ → List ℕ → Result Cost MeterFault → Plan → List ResponseError → Option Data → Type 0
   MeasuresContent before after result plan errors json =
-      Measures before after result (content_fault plan errors json) (λ part. reply_cost part plan (content_tree plan json)) (data_part errors (content_tree plan json))
+      Measures before after result (content_fault plan errors json) (λ part. reply_cost part plan (content_tree plan json)) (IsDataPart errors (content_tree plan json))
 
   -- What was found in a reply that passes every test.
   pub record Found (plan : Plan) (bytes : List ℕ) (metered : Metered) : Type 0 where
@@ -160,7 +162,7 @@ module _ (by : Reading) where
     pub no_fault : content_fault plan errors (data_entry members) ≡ None
     pub types_cost : metered.cost.types ≡ capped (reply_cost types plan (content_tree plan (data_entry members)))
     pub fields_cost : metered.cost.fields ≡ capped (reply_cost fields plan (content_tree plan (data_entry members)))
-    pub text : metered.text ≡ response_text (content_tree plan (data_entry members)) errors
+    pub text : IsAnswerText (content_tree plan (data_entry members)) errors metered.text
 
   abbrev pub MeasuresReply : Result Metered MeterFault → Plan → List ℕ → Type 0
   MeasuresReply (Ok metered) plan bytes = Found plan bytes metered

@@ -60,7 +60,9 @@ fn scalar_holds(kind: InputKind, value: &Value) -> bool
         (InputKind::String | InputKind::Id, Value::String(_)) => true,
         (InputKind::Boolean, Value::Bool(_)) => true,
         (InputKind::Id, Value::Number(number)) => number.as_i128().is_some(),
+        (InputKind::Float, Value::Number(_)) => true,
         (InputKind::Custom, value) => !has_float(value),
+        (InputKind::Lax, _) => true,
         _ => false,
     }
 }
@@ -81,7 +83,10 @@ pub(crate) fn type_holds(schema: &Schema, of: TypeId, value: &Value) -> bool
 {
     match schema.kind(of) {
         Kind::Enum => enum_holds(schema, of, value),
-        _ => scalar_holds(scalar_kind(schema.type_name(of).as_str()), value),
+        _ => scalar_holds(
+            scalar_kind(schema.is_lax(of), schema.type_name(of).as_str()),
+            value,
+        ),
     }
 }
 

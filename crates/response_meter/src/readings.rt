@@ -1,8 +1,7 @@
 //! What a reply is read beside.
 
-ghost use Rattle.std.specs.Prelude.{◌≡◌, Some, true, false};
+ghost use Rattle.std.specs.Prelude.{◌≡◌, Some};
 ghost use Rattle.serde_json.specs.View.{view};
-ghost use Rattle.serde_json.specs.Written.{has_float};
 ghost use Rattle.schema_model.specs.SchemaData.{type_at};
 ghost use Rattle.plan_model.specs.Plans.{type_weight};
 ghost use Rattle.plan_table.specs.Tables.{setting_in};
@@ -33,16 +32,14 @@ impl<'a> Reading<'a> {
 
     /// Whether the value is the name of this type.
     pub(crate) fn is_name(&self, of: TypeId, value: &Value) -> bool
-        ensures told { result ≡ is_text (type_at (setting_in self.now.of.now).schema of.number).name (Some (view value.now)) }
-        ensures whole { result ≡ true → has_float (view value.now) ≡ false }
+        ensures { result ≡ is_text (type_at (setting_in self.now.of.now).schema of.number).name (Some (view value.now)) }
     {
         is_text(self.of.schema().type_name(of).as_str(), value)
     }
 
     /// Whether the scalar or enum type holds the value.
     pub(crate) fn holds(&self, of: TypeId, value: &Value) -> bool
-        ensures told { result ≡ holds_in self.now.of.now of.number (view value.now) }
-        ensures whole { result ≡ true → has_float (view value.now) ≡ false }
+        ensures { result ≡ holds_in self.now.of.now of.number (view value.now) }
     {
         type_holds(self.of.schema(), of, value)
     }

@@ -3,7 +3,8 @@
 ghost use Rattle.std.specs.Prelude.{◌≡◌, ◌+◌, ◌||◌, ◌&&◌, bytes_eq, [], ◌∷◌, None, IfOk, true, false, length, option_map, string_bytes};
 ghost use Rattle.serde_json.specs.Data.{null};
 ghost use Rattle.serde_json.specs.View.{view, items_view, members_view};
-ghost use Rattle.serde_json.specs.Written.{compact_text, has_float};
+ghost use Rattle.serde_json.specs.Written.{compact_text};
+ghost use Rattle.response_model.specs.AnswerTexts.{IsLeafText};
 ghost use Rattle.cost_num.specs.Capped.{capped};
 ghost use Rattle.response_model.specs.Cost.{fields, value_cost, entry_cost};
 ghost use Rattle.response_model.specs.Reading.{has_key};
@@ -60,8 +61,7 @@ fn meter_leaf(
     value: &Value,
     into: &mut String,
 ) -> Result<Cost, MeterFault>
-    requires { holds ≡ true → has_float (view value.now) ≡ false }
-    ensures { Measures (string_bytes into.old) (string_bytes into.new) result (tested holds BadLeaf None) (λ part. value_cost part weight) (compact_text (view value.now)) }
+    ensures { Measures (string_bytes into.old) (string_bytes into.new) result (tested holds BadLeaf None) (λ part. value_cost part weight) (IsLeafText (view value.now)) }
 {
     if !holds {
         return Err(not_response(alloc, Why::BadLeaf));
@@ -79,7 +79,7 @@ pub(crate) fn meter_null(
     nullable: bool,
     into: &mut String,
 ) -> Result<Cost, MeterFault>
-    ensures { Measures (string_bytes into.old) (string_bytes into.new) result (tested nullable NullHere None) (λ part. 0) (compact_text null) }
+    ensures { Measures (string_bytes into.old) (string_bytes into.new) result (tested nullable NullHere None) (λ part. 0) (λ text. text ≡ compact_text null) }
 {
     if !nullable {
         return Err(not_response(alloc, Why::NullHere));

@@ -7,4 +7,6 @@ pub mod Filled
 pub mod Reading
 pub mod Errors
 pub mod ResponseText
+pub mod WrittenJson
+pub mod AnswerTexts
 pub mod Examples

@@ -1,23 +1,27 @@
 //! Writing the pieces of a response's text.
 
-ghost use Rattle.std.specs.Prelude.{◌≡◌, ◌++◌, ◌∷◌, [], false, None, OnOk, string_bytes};
-ghost use Rattle.serde_json.specs.Data.{string};
+ghost use Rattle.std.specs.Prelude.{◌≡◌, ◌≤◌, ◌++◌, ◌∷◌, [], false, None, OnOk, string_bytes};
+ghost use Rattle.serde_json.specs.Data.{depth, string};
+ghost use Rattle.serde_json.specs.Read.{max_depth};
 ghost use Rattle.serde_json.specs.View.{view};
 ghost use Rattle.serde_json.specs.Written.{has_float, compact_text};
 ghost use Rattle.response_model.specs.Errors.{pathless};
 ghost use Rattle.response_model.specs.ResponseText.{key_text, response_text};
+ghost use Rattle.response_model.specs.WrittenJson.{IsValueText, Appends};
+ghost use Rattle.response_model.specs.AnswerTexts.{IsLeafText};
 
 use serde_json::Value;
 use std::alloc::{AllocError, Global};
 
-/// Appends a JSON value as serde_json writes it compactly. Nothing is said of the text of a value that
-/// holds a float.
+/// Appends a JSON value as serde_json writes it compactly. Which digits a float has isn't said, but that they read as it.
 ///
 /// # Errors
 ///
 /// `AllocError` where there was not enough memory; then some part of it may have been appended.
 pub fn write_value(alloc: Global, value: &Value, into: &mut String) -> Result<(), AllocError>
-    ensures { OnOk result (has_float (view value.now) ≡ false → string_bytes into.new ≡ string_bytes into.old ++ compact_text (view value.now)) }
+    ensures written { OnOk result (depth (view value.now) ≤ max_depth → Appends (IsValueText (view value.now)) (string_bytes into.old) (string_bytes into.new)) }
+    ensures leaf { OnOk result (Appends (IsLeafText (view value.now)) (string_bytes into.old) (string_bytes into.new)) }
+    ensures text { OnOk result (has_float (view value.now) ≡ false → string_bytes into.new ≡ string_bytes into.old ++ compact_text (view value.now)) }
 {
     let text = value.to_string(alloc)?;
     into.push_str(text.as_str())

@@ -2,7 +2,7 @@
 -- and arguments the first counts.
 use Rattle.std.specs.Prelude.{ℕ, ◌+◌, Bool, List, [], ◌∷◌, Option, None, Some, is_some, codes, if◌then◌else◌}
 use Rattle.std.specs.Str.{bytes_eq}
-use Rattle.gql_base.specs.parts.Values.{ValueTree, NamedValue, variable_value, integer_value, string_value, boolean_value, null_value, enum_value, list_value, object_value}
+use Rattle.gql_base.specs.parts.Values.{ValueTree, NamedValue, variable_value, integer_value, float_value, string_value, boolean_value, null_value, enum_value, list_value, object_value}
 use Rattle.gql_base.specs.parts.Arguments.{DirectiveTree}
 use Rattle.schema_rules.specs.First.{or_else}
 
@@ -36,6 +36,7 @@ abbrev pub string_of : ValueTree → Option (List ℕ)
 string_of (string_value text) = Some text
 string_of (variable_value name at) = None
 string_of (integer_value n) = None
+string_of (float_value n) = None
 string_of (boolean_value b) = None
 string_of null_value = None
 string_of (enum_value name at) = None

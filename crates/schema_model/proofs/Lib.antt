@@ -15,3 +15,4 @@ pub mod BuildLaws
 pub mod OwnForms
 pub mod PlainNames
 pub mod SharedSchemas
+pub mod PlainTypes

@@ -1,5 +1,5 @@
 -- The types of a schema ask what those of its text ask, with the defaults filled.
-use Rattle.std.proofs.Common.{◌≡◌, ◌+◌, ℕ, zero, suc, false, true≢false, List, [], ◌∷◌, ◌++◌, map, length, get_or, Option, None, Some, Ok, Err, refl, sym, ap, ap₂, ◌∙◌, subst}
+use Rattle.std.proofs.Common.{◌≡◌, ◌+◌, ℕ, zero, suc, Bool, false, true≢false, List, [], ◌∷◌, ◌++◌, map, length, get_or, Option, None, Some, Ok, Err, refl, sym, ap, ap₂, ◌∙◌, subst}
 use Rattle.std.specs.Prelude.{slice_get}
 use Rattle.std.proofs.Math.Path.{fun_ext}
 use Rattle.gql_base.specs.parts.Values.{ValueTree}
@@ -87,22 +87,22 @@ module _ (form : ℕ → InputForm) where
     fields_good of [] good = tt
     fields_good of (f ∷ fields) good = (not_told (is_bad_draft form (input_draft types f)) _ good.0, fields_good of fields good.1)
 
-    body_good : (name : List ℕ) (cost : Option (List ℕ)) (directives : List DirectiveTree) (body : BodyTree) → AllGood (body_items name directives body) → TypesGood (body_draft types name cost body)
+    body_good : (name : List ℕ) (cost : Option (List ℕ)) (lax : Bool) (directives : List DirectiveTree) (body : BodyTree) → AllGood (body_items name directives body) → TypesGood (body_draft types name cost lax body)
     unfolding AreGood
-    body_good name cost directives (schema_body roots) good = tt
-    body_good name cost directives scalar_body good = (tt, tt)
-    body_good name cost directives (object_body interfaces fields) good = (tt, tt)
-    body_good name cost directives (interface_body interfaces fields) good = (tt, tt)
-    body_good name cost directives (union_body members) good = (tt, tt)
-    body_good name cost directives (enum_body values) good = (tt, tt)
-    body_good name cost directives (input_body fields) good = (fields_good name fields good.1, tt)
-    body_good name cost directives (directive_body arguments repeatable locations) good = tt
+    body_good name cost lax directives (schema_body roots) good = tt
+    body_good name cost lax directives scalar_body good = (tt, tt)
+    body_good name cost lax directives (object_body interfaces fields) good = (tt, tt)
+    body_good name cost lax directives (interface_body interfaces fields) good = (tt, tt)
+    body_good name cost lax directives (union_body members) good = (tt, tt)
+    body_good name cost lax directives (enum_body values) good = (tt, tt)
+    body_good name cost lax directives (input_body fields) good = (fields_good name fields good.1, tt)
+    body_good name cost lax directives (directive_body arguments repeatable locations) good = tt
 
     text_good : (text : List DefinitionTree) → AllGood (items_of text) → TypesGood (defined_drafts types text)
     text_good [] good = tt
     text_good (d ∷ text) good =
         let two = split (definition_items d) (items_of text) good in
-        types_append (definition_draft types d) (defined_drafts types text) (body_good d.1.0 _ d.1.1 d.1.2 two.0) (text_good text two.1)
+        types_append (definition_draft types d) (defined_drafts types text) (body_good d.1.0 _ _ d.1.1 d.1.2 two.0) (text_good text two.1)
 
     drafts_good : (text : List DefinitionTree) → bad_default form types (items_of text) ≡ None → TypesGood (drafts_of types text)
     drafts_good text none = types_append (defined_drafts types text) _ (text_good text (none_are_good (bad_default_at form types) (items_of text) none)) (scalars_good _)

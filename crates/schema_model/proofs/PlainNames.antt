@@ -15,7 +15,7 @@ use Rattle.schema_rules.specs.First.{or_else, first_of, fault_where}
 use Rattle.schema_rules.specs.Items.{ItemTree, schema_item, root_item, type_item, interface_item, member_item, field_item, argument_item, field_type_item, enum_value_item, input_field_item, directive_item, directive_argument_item, body_items, definition_items, items_of, place_of}
 use Rattle.schema_rules.specs.TypeNames.{NamedKind, name_of, types_defined, with_scalar, with_built_ins, types_of}
 use Rattle.schema_rules.specs.Reserved.{begins_reserved, reserved_at, reserved}
-use Rattle.schema_rules.specs.DirectiveUses.{given_weight}
+use Rattle.schema_rules.specs.DirectiveUses.{given_weight, is_lax}
 use Rattle.schema_rules.proofs.FirstFaults.{neither, not_told}
 use Rattle.schema_model.specs.Drafts.{TypeDraft, body_draft, definition_draft, scalar_draft, defined_drafts, drafts_of}
 use Rattle.schema_model.specs.SchemaData.{TypeData, SchemaData, type_name_of, type_named}
@@ -99,21 +99,21 @@ own : (name : List ℕ) (place : PlaceTree) (others : Option PlaceTree) → or_e
 own name place others none = not_told (begins_reserved name) place (neither (fault_where (begins_reserved name) place) others none).0
 
 module _ (types : List NamedKind) where
-  body_plain : (name : NameText) (cost : Option (List ℕ)) (directives : List DirectiveTree) (body : BodyTree) → reserved (body_items name directives body) ≡ None → ArePlain (map draft_name (body_draft types name cost body))
-  body_plain name cost directives (schema_body roots) none = tt
-  body_plain name cost directives scalar_body none = (own name _ _ none, tt)
-  body_plain name cost directives (object_body interfaces fields) none = (own name _ _ none, tt)
-  body_plain name cost directives (interface_body interfaces fields) none = (own name _ _ none, tt)
-  body_plain name cost directives (union_body members) none = (own name _ _ none, tt)
-  body_plain name cost directives (enum_body values) none = (own name _ _ none, tt)
-  body_plain name cost directives (input_body fields) none = (own name _ _ none, tt)
-  body_plain name cost directives (directive_body arguments repeatable locations) none = tt
+  body_plain : (name : NameText) (cost : Option (List ℕ)) (lax : Bool) (directives : List DirectiveTree) (body : BodyTree) → reserved (body_items name directives body) ≡ None → ArePlain (map draft_name (body_draft types name cost lax body))
+  body_plain name cost lax directives (schema_body roots) none = tt
+  body_plain name cost lax directives scalar_body none = (own name _ _ none, tt)
+  body_plain name cost lax directives (object_body interfaces fields) none = (own name _ _ none, tt)
+  body_plain name cost lax directives (interface_body interfaces fields) none = (own name _ _ none, tt)
+  body_plain name cost lax directives (union_body members) none = (own name _ _ none, tt)
+  body_plain name cost lax directives (enum_body values) none = (own name _ _ none, tt)
+  body_plain name cost lax directives (input_body fields) none = (own name _ _ none, tt)
+  body_plain name cost lax directives (directive_body arguments repeatable locations) none = tt
 
   drafts_plain : (text : List DefinitionTree) → reserved (items_of text) ≡ None → ArePlain (map draft_name (defined_drafts types text))
   drafts_plain [] none = tt
   drafts_plain (d ∷ text) none =
       let parts = parted (definition_items d) (items_of text) none in
-      joined (definition_draft types d) (defined_drafts types text) (body_plain d.1.0 (given_weight d.1.1) d.1.1 d.1.2 parts.0) (drafts_plain text parts.1)
+      joined (definition_draft types d) (defined_drafts types text) (body_plain d.1.0 (given_weight d.1.1) (is_lax d.1.1) d.1.1 d.1.2 parts.0) (drafts_plain text parts.1)
 
 -- ---- the types of the schema
 

@@ -19,7 +19,7 @@ abbrev pub asked_field : InputDraft → FieldDraft
 asked_field d = record { name = d.name; shape = d.shape; default = d.default }
 
 abbrev pub asked_by : Kind → TypeDraft → Draft
-asked_by Scalar d = settled (scalar_form d.name)
+asked_by Scalar d = settled (scalar_form d.lax d.name)
 asked_by Enum d = settled (enum_form d.values)
 asked_by Input d = drafted (map asked_field d.inputs)
 asked_by Object d = settled no_form

@@ -17,7 +17,7 @@ abbrev pub field_view : DraftField → FieldDraft
 field_view f = record { name = f.name.now; shape = shape_tree f.shape; arguments = map input_view f.arguments.items.items; cost = maybe_name f.cost; size = maybe_arguments f.size }
 
 abbrev pub type_view : DraftType → TypeDraft
-type_view t = record { name = t.name.now; kind = t.kind; interfaces = map type_number t.interfaces.items; members = map type_number t.members.items; fields = map field_view t.fields.items.items; values = map value_name (map enum_value_tree t.values.now); inputs = map input_view t.inputs.items; cost = maybe_name t.cost }
+type_view t = record { name = t.name.now; kind = t.kind; interfaces = map type_number t.interfaces.items; members = map type_number t.members.items; fields = map field_view t.fields.items.items; values = map value_name (map enum_value_tree t.values.now); inputs = map input_view t.inputs.items; cost = maybe_name t.cost; lax = t.lax }
 
 abbrev pub maybe_drafts : Option DraftType → List TypeDraft
 maybe_drafts None = []

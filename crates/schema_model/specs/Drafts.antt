@@ -10,7 +10,7 @@ use Rattle.schema_reader.specs.Schemas.{NameText, InputDefTree, FieldDefTree, En
 use Rattle.schema_rules.specs.declared.kind.Kind.{Kind}
 use Rattle.schema_rules.specs.declared.kind.Kind.TheVariants.{Scalar, Object, Interface, Union, Enum, Input}
 use Rattle.schema_rules.specs.TypeNames.{NamedKind, name_of}
-use Rattle.schema_rules.specs.DirectiveUses.{given_weight, size_arguments}
+use Rattle.schema_rules.specs.DirectiveUses.{given_weight, is_lax, size_arguments}
 
 pub record InputDraft : Type 0 where
   pub name : List ℕ
@@ -34,6 +34,8 @@ pub record TypeDraft : Type 0 where
   pub values : List (List ℕ)
   pub inputs : List InputDraft
   pub cost : Option (List ℕ)
+  -- whether it is a scalar that has `@floats`
+  pub lax : Bool
 
 abbrev pub or_past : {A : Type 0} → List A → Option ℕ → ℕ
 or_past all None = length all
@@ -56,38 +58,38 @@ field_draft types f = record { name = f.1; shape = shape_of types f.3; arguments
 abbrev pub value_name : EnumValueTree → List ℕ
 value_name v = v.1.0
 
--- a type that has nothing but its name, its kind and its weight
-abbrev pub bare : List ℕ → Kind → Option (List ℕ) → TypeDraft
-bare name kind cost = record { name = name; kind = kind; interfaces = []; members = []; fields = []; values = []; inputs = []; cost = cost }
+-- a type that has nothing but its name, its kind and its weight, and may be lax
+abbrev pub bare : List ℕ → Kind → Option (List ℕ) → Bool → TypeDraft
+bare name kind cost lax = record { name = name; kind = kind; interfaces = []; members = []; fields = []; values = []; inputs = []; cost = cost; lax = lax }
 
 abbrev pub fielded : List NamedKind → List ℕ → Kind → Option (List ℕ) → List NameText → List FieldDefTree → TypeDraft
-fielded types name kind cost interfaces fields = record { name = name; kind = kind; interfaces = map (number_named types) interfaces; members = []; fields = map (field_draft types) fields; values = []; inputs = []; cost = cost }
+fielded types name kind cost interfaces fields = record { name = name; kind = kind; interfaces = map (number_named types) interfaces; members = []; fields = map (field_draft types) fields; values = []; inputs = []; cost = cost; lax = false }
 
 abbrev pub union_draft : List ℕ → Option (List ℕ) → List ℕ → TypeDraft
-union_draft name cost members = record { name = name; kind = Union; interfaces = []; members = members; fields = []; values = []; inputs = []; cost = cost }
+union_draft name cost members = record { name = name; kind = Union; interfaces = []; members = members; fields = []; values = []; inputs = []; cost = cost; lax = false }
 
 abbrev pub enum_draft : List ℕ → Option (List ℕ) → List EnumValueTree → TypeDraft
-enum_draft name cost values = record { name = name; kind = Enum; interfaces = []; members = []; fields = []; values = map value_name values; inputs = []; cost = cost }
+enum_draft name cost values = record { name = name; kind = Enum; interfaces = []; members = []; fields = []; values = map value_name values; inputs = []; cost = cost; lax = false }
 
 abbrev pub object_draft : List ℕ → Option (List ℕ) → List InputDraft → TypeDraft
-object_draft name cost inputs = record { name = name; kind = Input; interfaces = []; members = []; fields = []; values = []; inputs = inputs; cost = cost }
+object_draft name cost inputs = record { name = name; kind = Input; interfaces = []; members = []; fields = []; values = []; inputs = inputs; cost = cost; lax = false }
 
 -- the type that a body defines, if it defines one
-abbrev pub body_draft : List NamedKind → List ℕ → Option (List ℕ) → BodyTree → List TypeDraft
-body_draft types name cost (schema_body roots) = []
-body_draft types name cost scalar_body = bare name Scalar cost ∷ []
-body_draft types name cost (object_body interfaces fields) = fielded types name Object cost interfaces fields ∷ []
-body_draft types name cost (interface_body interfaces fields) = fielded types name Interface cost interfaces fields ∷ []
-body_draft types name cost (union_body members) = union_draft name cost (map (number_named types) members) ∷ []
-body_draft types name cost (enum_body values) = enum_draft name cost values ∷ []
-body_draft types name cost (input_body fields) = object_draft name cost (map (input_draft types) fields) ∷ []
-body_draft types name cost (directive_body arguments repeatable locations) = []
+abbrev pub body_draft : List NamedKind → List ℕ → Option (List ℕ) → Bool → BodyTree → List TypeDraft
+body_draft types name cost lax (schema_body roots) = []
+body_draft types name cost lax scalar_body = bare name Scalar cost lax ∷ []
+body_draft types name cost lax (object_body interfaces fields) = fielded types name Object cost interfaces fields ∷ []
+body_draft types name cost lax (interface_body interfaces fields) = fielded types name Interface cost interfaces fields ∷ []
+body_draft types name cost lax (union_body members) = union_draft name cost (map (number_named types) members) ∷ []
+body_draft types name cost lax (enum_body values) = enum_draft name cost values ∷ []
+body_draft types name cost lax (input_body fields) = object_draft name cost (map (input_draft types) fields) ∷ []
+body_draft types name cost lax (directive_body arguments repeatable locations) = []
 
 abbrev pub definition_draft : List NamedKind → DefinitionTree → List TypeDraft
-definition_draft types d = body_draft types d.1.0 (given_weight d.1.1) d.1.2
+definition_draft types d = body_draft types d.1.0 (given_weight d.1.1) (is_lax d.1.1) d.1.2
 
 abbrev pub scalar_draft : NamedKind → TypeDraft
-scalar_draft t = bare t.name Scalar None
+scalar_draft t = bare t.name Scalar None false
 
 -- the types that a text defines
 abbrev pub defined_drafts : List NamedKind → List DefinitionTree → List TypeDraft

@@ -36,7 +36,7 @@ abbrev pub field_data : FieldEntry → FieldData
 field_data f = record { name = f.name; owner = f.owner.number; shape = shape_tree f.shape; arguments = map input_data f.arguments.items.items; cost = f.cost; size = option_map size_data f.size }
 
 abbrev pub type_data : TypeEntry → TypeData
-type_data t = record { name = t.name; kind = t.kind; names = t.names.items.items; fields = map field_number t.fields.items; interfaces = map type_number t.interfaces.items; members = map type_number t.members.items; values = t.values.items.items; inputs = map input_data t.inputs.items.items; cost = t.cost }
+type_data t = record { name = t.name; kind = t.kind; names = t.names.items.items; fields = map field_number t.fields.items; interfaces = map type_number t.interfaces.items; members = map type_number t.members.items; values = t.values.items.items; inputs = map input_data t.inputs.items.items; cost = t.cost; lax = t.lax }
 
 abbrev pub numbers_in : Vec TypeId Global → List ℕ
 numbers_in v = map type_number v.items

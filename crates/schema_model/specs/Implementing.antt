@@ -10,7 +10,7 @@ use Rattle.schema_model.specs.Drafts.{InputDraft, FieldDraft, TypeDraft, bare}
 
 -- the type of this number, or one without anything
 abbrev pub draft_at : List TypeDraft → ℕ → TypeDraft
-draft_at types number = get_or types number (bare [] Scalar None)
+draft_at types number = get_or types number (bare [] Scalar None false)
 
 -- whether a value of one named type is one of the other: they are the same, or it implements the interface, or it is a
 -- member of the union

@@ -9,7 +9,7 @@ use Rattle.schema_model.specs.declared.schema.Schema.{Schema}
 use Rattle.schema_model.specs.SchemaViews.{schema_data}
 
 abbrev pub form_by : Kind → TypeData → InputForm
-form_by Scalar t = scalar_form t.name
+form_by Scalar t = scalar_form t.lax t.name
 form_by Enum t = enum_form t.values
 form_by Input t = object_form (map field_form t.inputs)
 form_by Object t = no_form

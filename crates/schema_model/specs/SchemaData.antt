@@ -1,5 +1,5 @@
 -- A checked schema, as contracts see it. Types and fields stand at their numbers.
-use Rattle.std.specs.Prelude.{◌≡◌, ◌<◌, ℕ, ◌+◌, ℤ, Bool, true, false, nat_eq, List, [], ◌∷◌, length, get_or, Option, None, Some, if◌then◌else◌}
+use Rattle.std.specs.Prelude.{◌≡◌, ◌<◌, ℕ, ◌+◌, ℤ, Bool, true, false, ◌||◌, nat_eq, List, [], ◌∷◌, length, get_or, Option, None, Some, codes, if◌then◌else◌}
 use Rattle.std.specs.List.{list_any}
 use Rattle.gql_base.specs.names.Names.{first_of_name, place_of_name}
 use Rattle.input_values.specs.inputs.Shapes.{ShapeTree}
@@ -34,6 +34,8 @@ pub record TypeData : Type 0 where
   pub values : List (List ℕ)
   pub inputs : List InputData
   pub cost : Option (List ℕ)
+  -- whether it is a scalar that may hold numbers that aren't whole
+  pub lax : Bool
 
 pub record SchemaData : Type 0 where
   pub types : List TypeData
@@ -60,6 +62,21 @@ type_name_of t = t.name
 -- the number of the type of this name
 abbrev pub type_named : SchemaData → List ℕ → Option ℕ
 type_named s name = place_of_name type_name_of s.types name
+
+-- whether the type Float may be used
+abbrev pub lax_at : SchemaData → Option ℕ → Bool
+lax_at s None = false
+lax_at s (Some of) = (type_at s of).lax
+
+abbrev pub takes_float : SchemaData → Bool
+takes_float s = lax_at s (type_named s (codes "Float"))
+
+-- whether some scalar may hold numbers that aren't whole, so that documents may have floats
+abbrev pub has_lax : List TypeData → Bool
+has_lax types = list_any (λ t. t.lax) types
+
+abbrev pub has_floats : SchemaData → Bool
+has_floats s = has_lax s.types || s.other_type.lax
 
 abbrev pub number_at : List ℕ → Option ℕ → Option ℕ
 number_at numbers None = None

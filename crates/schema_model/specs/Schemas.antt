@@ -1,8 +1,8 @@
 -- The schema that a text says.
-use Rattle.std.specs.Prelude.{ℕ, zero, suc, ◌+◌, ℤ, Bool, true, List, [], ◌∷◌, ◌++◌, map, length, Option, None, Some, option_map, codes, if◌then◌else◌}
+use Rattle.std.specs.Prelude.{ℕ, zero, suc, ◌+◌, ℤ, Bool, true, false, List, [], ◌∷◌, ◌++◌, map, length, Option, None, Some, option_map, codes, if◌then◌else◌}
 use Rattle.std.specs.Str.{bytes_eq}
 use Rattle.gql_base.specs.declared.parts.trees.OperationKind.TheVariants.{Query, Mutation, Subscription}
-use Rattle.gql_base.specs.parts.Values.{ValueTree, ValueTrees, no_value, value_then, variable_value, integer_value, string_value, boolean_value, null_value, enum_value, list_value, object_value, NamedValue}
+use Rattle.gql_base.specs.parts.Values.{ValueTree, ValueTrees, no_value, value_then, variable_value, integer_value, float_value, string_value, boolean_value, null_value, enum_value, list_value, object_value, NamedValue}
 use Rattle.input_values.specs.inputs.Shapes.{named_shape}
 use Rattle.input_values.specs.inputs.Definitions.{InputData}
 use Rattle.input_values.specs.coercion.Forms.{InputForm}
@@ -30,6 +30,7 @@ as_int n = if is_int n then Some n else None
 
 abbrev pub integer_in : ValueTree → Option ℤ
 integer_in (integer_value n) = as_int n
+integer_in (float_value digits) = None
 integer_in (variable_value name at) = None
 integer_in (string_value s) = None
 integer_in (boolean_value b) = None
@@ -42,6 +43,7 @@ abbrev pub before_texts : ValueTree → List (List ℕ) → List (List ℕ)
 before_texts (string_value s) others = s ∷ others
 before_texts (variable_value name at) others = others
 before_texts (integer_value n) others = others
+before_texts (float_value digits) others = others
 before_texts (boolean_value b) others = others
 before_texts null_value others = others
 before_texts (enum_value name at) others = others
@@ -58,6 +60,7 @@ texts_in (list_value values) = texts_of values
 texts_in (string_value s) = s ∷ []
 texts_in (variable_value name at) = []
 texts_in (integer_value n) = []
+texts_in (float_value digits) = []
 texts_in (boolean_value b) = []
 texts_in null_value = []
 texts_in (enum_value name at) = []
@@ -70,6 +73,7 @@ boolean_in (list_value values) = true
 boolean_in (string_value s) = true
 boolean_in (variable_value name at) = true
 boolean_in (integer_value n) = true
+boolean_in (float_value digits) = true
 boolean_in null_value = true
 boolean_in (enum_value name at) = true
 boolean_in (object_value fields) = true
@@ -101,7 +105,7 @@ numbers first (suc count) = first ∷ numbers (first + 1) count
 
 -- a type whose fields have these numbers
 abbrev pub type_with : (ℕ → InputForm) → List ℕ → TypeDraft → TypeData
-type_with form fields d = record { name = d.name; kind = d.kind; names = map field_name d.fields; fields = fields; interfaces = d.interfaces; members = d.members; values = d.values; inputs = map (input_of form) d.inputs; cost = d.cost }
+type_with form fields d = record { name = d.name; kind = d.kind; names = map field_name d.fields; fields = fields; interfaces = d.interfaces; members = d.members; values = d.values; inputs = map (input_of form) d.inputs; cost = d.cost; lax = d.lax }
 
 -- a type whose first field has this number
 abbrev pub type_of : (ℕ → InputForm) → ℕ → TypeDraft → TypeData
@@ -140,7 +144,7 @@ directives_of (i ∷ items) = before_directive i (directives_of items)
 
 -- a union without members
 abbrev pub no_type : TypeData
-no_type = record { name = []; kind = Union; names = []; fields = []; interfaces = []; members = []; values = []; inputs = []; cost = None }
+no_type = record { name = []; kind = Union; names = []; fields = []; interfaces = []; members = []; values = []; inputs = []; cost = None; lax = false }
 
 abbrev pub no_field : FieldData
 no_field = record { name = []; owner = 0; shape = named_shape 0 true; arguments = []; cost = None; size = None }

@@ -57,7 +57,7 @@ fn asked<'a>(alloc: Global, draft: &DraftType<'a>) -> Result<AskedType<'a>, Allo
     ensures { IfOk result (λ t. type_draft t ≡ asked (type_view draft.now)) }
 {
     match draft.kind {
-        Kind::Scalar => Ok(AskedType::Simple(scalar_kind(draft.name))),
+        Kind::Scalar => Ok(AskedType::Simple(scalar_kind(draft.lax, draft.name))),
         Kind::Enum => {
             let names = value_names(alloc, draft.values)?;
             Ok(AskedType::Enum(index_owned(alloc, names)?))

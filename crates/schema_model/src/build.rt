@@ -16,6 +16,7 @@ use crate::asked::filled;
 use crate::bad_default::first_bad_default;
 use crate::draft::drafts_of;
 use crate::draft_types::DraftType;
+use crate::entries::has_lax;
 use crate::fault::SchemaFault;
 use crate::finish::{no_field, no_type, tables_of};
 use crate::implementing::first_not_implemented;
@@ -170,6 +171,7 @@ fn schema_with<T: InputTypes>(
 {
     let tables = tables_of(alloc, forms, drafts)?;
     let possible = all_possible(alloc, &tables.types)?;
+    let floats = has_lax(&tables.types);
     let directives = directives_of(alloc, items)?;
     Ok(Schema {
         types: hashed_by_name(alloc, tables.types)?,
@@ -182,6 +184,7 @@ fn schema_with<T: InputTypes>(
         mutation: root_of(items, types, OperationKind::Mutation),
         subscription: root_of(items, types, OperationKind::Subscription),
         possible,
+        floats,
     })
 }
 

@@ -16,7 +16,7 @@ use crate::shapes::{number_named, shape_of};
 use gql_base::{NameIndex, Text, Value, index_owned};
 use input_values::TypeId;
 use schema_reader::{DefBody, EnumValueDef, FieldDef, InputValue, SchemaDef, SchemaText};
-use schema_rules::{Kind, TypeName, given_weight, size_arguments};
+use schema_rules::{Kind, TypeName, given_weight, is_lax, size_arguments};
 use std::alloc::{AllocError, Global};
 
 /// The literal of a default, if there is a default.
@@ -108,8 +108,9 @@ fn bare<'a>(
     name: &'a str,
     kind: Kind,
     cost: Option<&'a str>,
+    lax: bool,
 ) -> Result<DraftType<'a>, AllocError>
-    ensures { IfOk result (λ d. type_view d ≡ bare name.now kind (maybe_name cost.entry)) }
+    ensures { IfOk result (λ d. type_view d ≡ bare name.now kind (maybe_name cost.entry) lax) }
 {
     Ok(DraftType {
         name,
@@ -120,6 +121,7 @@ fn bare<'a>(
         values: &[],
         inputs: Vec::new(alloc),
         cost,
+        lax,
     })
 }
 
@@ -144,6 +146,7 @@ fn fielded<'a>(
         values: &[],
         inputs: Vec::new(alloc),
         cost: given_weight(&def.directives),
+        lax: false,
     })
 }
 
@@ -164,6 +167,7 @@ fn union<'a>(
         values: &[],
         inputs: Vec::new(alloc),
         cost,
+        lax: false,
     })
 }
 
@@ -184,6 +188,7 @@ fn enumeration<'a>(
         values,
         inputs: Vec::new(alloc),
         cost,
+        lax: false,
     })
 }
 
@@ -204,6 +209,7 @@ fn input_object<'a>(
         values: &[],
         inputs,
         cost,
+        lax: false,
     })
 }
 
@@ -218,7 +224,10 @@ fn draft_type<'a>(
     let cost = given_weight(&def.directives);
     match &def.body {
         DefBody::Schema(_) => Ok(None),
-        DefBody::Scalar => Ok(Some(bare(alloc, name, Kind::Scalar, cost)?)),
+        DefBody::Scalar => {
+            let lax = is_lax(&def.directives);
+            Ok(Some(bare(alloc, name, Kind::Scalar, cost, lax)?))
+        }
         DefBody::Object { interfaces, fields } => Ok(Some(fielded(
             alloc,
             types,
@@ -292,7 +301,7 @@ fn add_scalars<'a>(
 {
     let defined = count_of(&*drafts);
     for at in defined..types.len() {
-        let draft = bare(alloc, types[at].name, Kind::Scalar, None)?;
+        let draft = bare(alloc, types[at].name, Kind::Scalar, None, false)?;
         drafts.push(draft)?;
     }
     Ok(())

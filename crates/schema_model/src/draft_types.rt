@@ -35,6 +35,8 @@ pub struct DraftType<'a> {
     pub values: &'a [EnumValueDef],
     pub inputs: Vec<DraftInput<'a>>,
     pub cost: Option<&'a str>,
+    /// Whether it has `@floats`.
+    pub lax: bool,
 }
 
 impl<'a> Named for DraftInput<'a> {

@@ -1,5 +1,9 @@
 //! What a checked schema holds of its types and fields.
 
+ghost use Rattle.std.specs.Prelude.{◌≡◌, map};
+ghost use Rattle.schema_model.specs.SchemaData.{has_lax};
+ghost use Rattle.schema_model.specs.Entries.{type_data};
+
 use gql_base::{Hashed, Named, Text};
 use input_values::{InputDef, Shape, TypeId};
 use schema_rules::Kind;
@@ -49,6 +53,8 @@ pub struct TypeEntry {
     pub inputs: Hashed<InputDef>,
     /// The text of the weight of its own `@cost`.
     pub cost: Option<Text>,
+    /// Whether it has `@floats`: a scalar that may hold numbers that aren't whole.
+    pub lax: bool,
 }
 
 impl Named for TypeEntry {
@@ -57,4 +63,16 @@ impl Named for TypeEntry {
     fn name(&self) -> &str {
         self.name.as_str()
     }
+}
+
+/// Whether one of the types may hold numbers that aren't whole.
+pub fn has_lax(types: &[TypeEntry]) -> bool
+    ensures { result ≡ has_lax (map type_data types.now) }
+{
+    for entry in types {
+        if entry.lax {
+            return true;
+        }
+    }
+    false
 }

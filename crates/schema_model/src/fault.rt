@@ -28,7 +28,7 @@ pub enum SchemaFault {
     /// A type stands where its kind may not.
     #[error("{place} has a type of a wrong kind")]
     WrongKind { place: Text },
-    /// Something has the type Float.
+    /// Something has the type Float, which the text doesn't let in.
     #[error("{place} has the type Float")]
     FloatScalar { place: Text },
     /// A field has a list of lists.

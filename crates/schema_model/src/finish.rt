@@ -157,6 +157,7 @@ fn type_of<T: InputTypes>(
         values: hashed_by_name(alloc, values)?,
         inputs: hashed_by_name(alloc, inputs)?,
         cost: maybe_copy(alloc, draft.cost)?,
+        lax: draft.lax,
     })
 }
 
@@ -223,6 +224,7 @@ pub fn no_type(alloc: Global) -> Result<TypeEntry, AllocError>
         values: hashed_by_name(alloc, Vec::new(alloc))?,
         inputs: hashed_by_name(alloc, Vec::new(alloc))?,
         cost: None,
+        lax: false,
     })
 }
 

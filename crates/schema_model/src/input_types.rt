@@ -23,7 +23,7 @@ impl InputTypes for Schema {
     fn kind(&self, of: TypeId) -> InputKind {
         let entry = self.entry(of);
         match entry.kind {
-            Kind::Scalar => scalar_kind(entry.name.as_str()),
+            Kind::Scalar => scalar_kind(entry.lax, entry.name.as_str()),
             Kind::Enum => InputKind::Enum,
             Kind::Input => InputKind::Object,
             Kind::Object | Kind::Interface | Kind::Union => InputKind::None,

@@ -6,7 +6,7 @@ ghost use Rattle.std.specs.List.{list_any};
 ghost use Rattle.gql_base.specs.names.Names.{first_of_name, has_name};
 ghost use Rattle.input_values.specs.inputs.Shapes.{shape_tree};
 ghost use Rattle.input_values.specs.inputs.Definitions.{input_data};
-ghost use Rattle.schema_model.specs.SchemaData.{type_at, field_at, type_named, field_named, input_name, argument_named, input_field_named, possible, applies, root_of, same_text, number_at};
+ghost use Rattle.schema_model.specs.SchemaData.{type_at, field_at, type_named, field_named, input_name, argument_named, input_field_named, possible, applies, root_of, same_text, number_at, takes_float, has_floats};
 ghost use Rattle.schema_model.specs.Drafts.{or_past};
 ghost use Rattle.schema_model.specs.Numbers.{type_number};
 ghost use Rattle.schema_model.specs.Entries.{type_data, field_data, field_number, maybe_text, maybe_size, maybe_input};
@@ -46,6 +46,23 @@ impl Schema {
             Some(number) => Some(TypeId { number }),
             None => None,
         }
+    }
+
+    /// Whether the scalar Float may be used: the text defines it with `@floats`.
+    pub fn takes_float(&self) -> bool
+        ensures { result ≡ takes_float (schema_data self.now) }
+    {
+        match self.find("Float") {
+            Some(of) => self.is_lax(of),
+            None => false,
+        }
+    }
+
+    /// Whether a type, or what stands at other numbers, is a scalar that may hold numbers that aren't whole.
+    pub fn has_floats(&self) -> bool
+        ensures { result ≡ has_floats (schema_data self.now) }
+    {
+        self.floats || self.other_type.lax
     }
 
     /// The number of the type of this name, or the number of all types where none has it.
@@ -221,6 +238,13 @@ impl Schema {
         ensures { map input_data result.now ≡ (type_at (schema_data self.now) of.number).inputs }
     {
         self.entry(of).inputs.items()
+    }
+
+    /// Whether a type is a scalar that may hold numbers that aren't whole, by its `@floats`.
+    pub fn is_lax(&self, of: TypeId) -> bool
+        ensures { result ≡ (type_at (schema_data self.now) of.number).lax }
+    {
+        self.entry(of).lax
     }
 
     /// The text of the weight of a type's own `@cost`.

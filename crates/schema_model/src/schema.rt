@@ -1,6 +1,8 @@
 //! The checked schema.
 
-ghost use Rattle.schema_model.specs.Entries.{KnowsPossible};
+ghost use Rattle.std.specs.Prelude.{◌≡◌, map};
+ghost use Rattle.schema_model.specs.SchemaData.{has_lax};
+ghost use Rattle.schema_model.specs.Entries.{type_data, KnowsPossible};
 
 use crate::entries::{FieldEntry, TypeEntry};
 use crate::marks::TypeList;
@@ -23,5 +25,8 @@ pub struct Schema {
     pub(crate) subscription: Option<TypeId>,
     /// The object types of each type.
     pub(crate) possible: Vec<TypeList>,
+    /// Whether one of the types is lax.
+    pub(crate) floats: bool,
     ghost knows: { KnowsPossible possible.items types.items.items },
+    ghost knows_floats: { floats ≡ has_lax (map type_data types.items.items) },
 }

@@ -3,7 +3,7 @@ use Rattle.std.proofs.Common.{ℕ, ◌+◌, ◌≡◌, ◌≤◌, Bool, true, fa
 use Rattle.std.specs.Prelude.{◌||◌, codes}
 use Rattle.gql_base.specs.declared.lexical.token.TokenKind.TheVariants.{Amp, Colon, Equals, At, OpenBrace, CloseBrace, Pipe}
 use Rattle.gql_base.specs.declared.parts.trees.OperationKind.{OperationKind}
-use Rattle.gql_base.specs.ways.Symbols.{Symbol, punctuator, identifier, integer, string}
+use Rattle.gql_base.specs.ways.Symbols.{Symbol, punctuator, identifier, integer, decimal, string}
 use Rattle.gql_base.specs.ways.Reading.{Test, takes, second, exact, keyword, up_to, never}
 use Rattle.gql_base.specs.ways.Grammar.{Optional, Repeated, Choice}
 use Rattle.gql_base.specs.parts.TypeReferences.{there}
@@ -47,6 +47,7 @@ kind_begins : (w : Symbol) (k : OperationKind) → kind_word w ≡ Some k → up
 kind_begins (identifier bytes at) k e = refl
 kind_begins (punctuator kind) k e = cc
 kind_begins (integer v) k e = cc
+kind_begins (decimal bytes) k e = cc
 kind_begins (string v) k e = cc
 
 pub root_begins : (d : ℕ) → Heads true (up_to CloseBrace) (IsRoot d)

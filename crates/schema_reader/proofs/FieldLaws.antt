@@ -3,7 +3,7 @@ use Rattle.std.proofs.Common.{ℕ, ◌+◌, ◌≡◌, ◌≤◌, Bool, true, fa
 use Rattle.std.specs.Prelude.{◌||◌}
 use Rattle.gql_base.specs.declared.lexical.token.TokenKind.{TokenKind}
 use Rattle.gql_base.specs.declared.lexical.token.TokenKind.TheVariants.{Bang, Colon, Equals, OpenParen, CloseParen}
-use Rattle.gql_base.specs.ways.Symbols.{Symbol, punctuator, identifier, integer, string}
+use Rattle.gql_base.specs.ways.Symbols.{Symbol, punctuator, identifier, integer, decimal, string}
 use Rattle.gql_base.specs.ways.Reading.{Reader, Test, takes, optional, second, listed, exact, any_string, up_to, never}
 use Rattle.gql_base.specs.ways.Grammar.{Nested, Single, Pair, Optional}
 use Rattle.gql_base.proofs.WayLaws.ReadingLaws.{Law, Heads, image_law, single_law, after, wider_law}
@@ -103,6 +103,7 @@ pub enum_name_is : (w : Symbol) (name : NameText) → enum_name w ≡ Some name 
 enum_name_is (identifier bytes at) name e = (at, ap (λ b. identifier b at) (unless_is _ bytes name e))
 enum_name_is (punctuator kind) name e = cc
 enum_name_is (integer v) name e = cc
+enum_name_is (decimal bytes) name e = cc
 enum_name_is (string v) name e = cc
 
 heads_enum_name : {b : Bool} {test : Test} {d : ℕ} → SaysOfNames b test → Heads b test (Single enum_name d)

@@ -4,7 +4,7 @@ use Rattle.std.specs.Prelude.{codes}
 use Rattle.gql_base.specs.declared.lexical.token.TokenKind.{TokenKind}
 use Rattle.gql_base.specs.declared.lexical.token.TokenKind.TheVariants.{Amp, Colon, Equals, At, OpenParen, CloseParen, OpenBrace, CloseBrace, Pipe}
 use Rattle.gql_base.specs.declared.parts.trees.OperationKind.{OperationKind}
-use Rattle.gql_base.specs.ways.Symbols.{Symbol, punctuator, identifier, integer, string, kind_of}
+use Rattle.gql_base.specs.ways.Symbols.{Symbol, punctuator, identifier, integer, decimal, string, kind_of}
 use Rattle.gql_base.specs.ways.Reading.{exact, second, inside, listed}
 use Rattle.gql_base.specs.ways.Grammar.{Nested, Single, Pair, Image, Optional, Repeated}
 use Rattle.gql_base.specs.parts.TypeReferences.{there}
@@ -52,6 +52,7 @@ kind_flat : (w : Symbol) (k : OperationKind) → kind_word w ≡ Some k → IsFl
 kind_flat (identifier bytes at) k e = (refl, refl, refl)
 kind_flat (punctuator kind) k e = cc
 kind_flat (integer v) k e = cc
+kind_flat (decimal bytes) k e = cc
 kind_flat (string v) k e = cc
 
 root_labelled : Labelled (IsRoot 0) false false 0

@@ -1,6 +1,6 @@
 -- What follows for calls that read schema texts.
 use Rattle.std.proofs.Common.{ℕ, ◌≡◌, Bool, true, false, length, map, List, [], ◌∷◌, Result, Ok, Err, refl, sym, ap, ◌∙◌, subst}
-use Rattle.std.specs.Prelude.{◌==◌, IfOk, IfErr}
+use Rattle.std.specs.Prelude.{codes, ◌==◌, IfOk, IfErr}
 use Rattle.std.proofs.lemmas.Bool.{eqb-true}
 use Rattle.std.proofs.lemmas.List.{nil_from_length}
 use Rattle.gql_base.specs.declared.ways.source.Source.{Source}
@@ -16,6 +16,7 @@ use Rattle.gql_base.specs.ways.Grammar.{Repeated}
 use Rattle.gql_base.specs.ways.FirstFaults.{level_limit, IsWritten}
 use Rattle.gql_base.specs.ways.Sources.{ahead, Halts, offset_of}
 use Rattle.gql_base.specs.ways.Halting.{fault_of_halt, fault_of_lexing}
+use Rattle.gql_base.proofs.LexicalLaws.DirectiveUses.{used_once}
 use Rattle.gql_base.proofs.WayLaws.ReadingLaws.{ok_same, no_symbol}
 use Rattle.gql_base.proofs.WayLaws.LevelLaws.{is_unexpected, is_too_deep, is_written, is_read}
 use Rattle.gql_base.proofs.WayLaws.Readings.{halts_for_memory}
@@ -26,7 +27,7 @@ use Rattle.schema_reader.specs.declared.trees.SchemaDef.{SchemaDef}
 use Rattle.schema_reader.specs.Trees.{definition_tree, schema_trees}
 use Rattle.schema_reader.specs.Schemas.{DefinitionTree, IsDefinition, IsSchema}
 use Rattle.schema_reader.specs.SchemaReading.{begins_definition, definitions_at}
-use Rattle.schema_reader.specs.SchemaAnswers.{HasSchema, IsFaultAmong, IsSchemaFault, schema_fault}
+use Rattle.schema_reader.specs.SchemaAnswers.{LetsFloats, HasSchema, IsFaultAmong, IsFaultIf, IsSchemaFault, schema_fault}
 use Rattle.schema_reader.proofs.DefinitionLaws.{definitions_family}
 use Rattle.schema_reader.proofs.SchemaSteps.{are_definitions, written_schema, unexpected_schema, too_deep_schema, none_unexpected, no_extension, extends_there}
 
@@ -95,31 +96,35 @@ memory_alone s h told trees is e told_is = told_is ∙ ap (λ h. schema_fault (f
 
 -- texts
 
-pub found_in_text : (text : List ℕ) (tokens : List Token) (answer : Result SchemaText SchemaTextFault) → Lexes text tokens → IfOk answer (λ s. IsWritten IsSchema level_limit (symbols_from text tokens 0) (schema_trees s) []) → IfOk answer (λ s. HasSchema text (schema_trees s))
-found_in_text text tokens (Ok schema) l is = (tokens, l, is)
-found_in_text text tokens (Err told) l is = tt
+pub found_in_text : (floats : Bool) (text : List ℕ) (tokens : List Token) (answer : Result SchemaText SchemaTextFault) → LetsFloats text floats → Lexes floats text tokens → IfOk answer (λ s. IsWritten IsSchema level_limit (symbols_from text tokens 0) (schema_trees s) []) → IfOk answer (λ s. HasSchema text (schema_trees s))
+found_in_text floats text tokens (Ok schema) lets l is = (floats, lets, (tokens, l, is))
+found_in_text floats text tokens (Err told) lets l is = tt
 
-fault_of_text : (text : List ℕ) (tokens : List Token) (told : SchemaTextFault) → Lexes text tokens → IsFaultAmong text tokens told → IsSchemaFault text told
-fault_of_text text tokens (fault.Lex f) l is = absurd is
-fault_of_text text tokens (fault.Unexpected at) l is = (tokens, l, is)
-fault_of_text text tokens (fault.Extension at) l is = (tokens, l, is)
-fault_of_text text tokens (fault.TooDeep at) l is = (tokens, l, is)
-fault_of_text text tokens fault.Memory l is = tt
+fault_of_text : (floats : Bool) (text : List ℕ) (tokens : List Token) (told : SchemaTextFault) → Lexes floats text tokens → IsFaultAmong text tokens told → IsFaultIf floats text told
+fault_of_text floats text tokens (fault.Lex f) l is = absurd is
+fault_of_text floats text tokens (fault.Unexpected at) l is = (tokens, l, is)
+fault_of_text floats text tokens (fault.Extension at) l is = (tokens, l, is)
+fault_of_text floats text tokens (fault.TooDeep at) l is = (tokens, l, is)
+fault_of_text floats text tokens fault.Memory l is = tt
 
-pub fault_in_text : (text : List ℕ) (tokens : List Token) (answer : Result SchemaText SchemaTextFault) → Lexes text tokens → IfErr answer (λ f. IsFaultAmong text tokens f) → IfErr answer (λ f. IsSchemaFault text f)
-fault_in_text text tokens (Ok schema) l is = tt
-fault_in_text text tokens (Err told) l is = fault_of_text text tokens told l is
+pub fault_in_text : (floats : Bool) (text : List ℕ) (tokens : List Token) (answer : Result SchemaText SchemaTextFault) → LetsFloats text floats → Lexes floats text tokens → IfErr answer (λ f. IsFaultAmong text tokens f) → IfErr answer (λ f. IsSchemaFault text f)
+fault_in_text floats text tokens (Ok schema) lets l is = tt
+fault_in_text floats text tokens (Err told) lets l is = (floats, lets, fault_of_text floats text tokens told l is)
 
-told_lexical : (text : List ℕ) (f : LexFault) → IsFaultOf text f → IsSchemaFault text (schema_fault (fault_of_lexing f))
-told_lexical text lexical.Memory is = tt
-told_lexical text (lexical.BadChar at) is = (is, λ e. cc)
-told_lexical text (lexical.BadNumber at) is = (is, λ e. cc)
-told_lexical text (lexical.OpenText at) is = (is, λ e. cc)
-told_lexical text (lexical.BadEscape at) is = (is, λ e. cc)
-told_lexical text (lexical.FloatValue at) is = (is, λ e. cc)
+told_lexical : (floats : Bool) (text : List ℕ) (f : LexFault) → IsFaultOf floats text f → IsFaultIf floats text (schema_fault (fault_of_lexing f))
+told_lexical floats text lexical.Memory is = tt
+told_lexical floats text (lexical.BadChar at) is = (is, λ e. cc)
+told_lexical floats text (lexical.BadNumber at) is = (is, λ e. cc)
+told_lexical floats text (lexical.OpenText at) is = (is, λ e. cc)
+told_lexical floats text (lexical.BadEscape at) is = (is, λ e. cc)
+told_lexical floats text (lexical.FloatValue at) is = (is, λ e. cc)
 
-pub fault_of_no_tokens : (text : List ℕ) (f : LexFault) (told : SchemaTextFault) → IsFaultOf text f → told ≡ schema_fault (fault_of_lexing f) → IsSchemaFault text told
-fault_of_no_tokens text f told is e = subst (IsSchemaFault text) (sym e) (told_lexical text f is)
+pub fault_of_no_tokens : (floats : Bool) (text : List ℕ) (f : LexFault) (told : SchemaTextFault) → LetsFloats text floats → IsFaultOf floats text f → told ≡ schema_fault (fault_of_lexing f) → IsSchemaFault text told
+fault_of_no_tokens floats text f told lets is e = (floats, lets, subst (IsFaultIf floats text) (sym e) (told_lexical floats text f is))
 
 pub memory_of_lexing : (f : LexFault) (told : SchemaTextFault) → f ≡ lexical.Memory → told ≡ schema_fault (fault_of_lexing f) → told ≡ fault.Memory
 memory_of_lexing f told is e = e ∙ ap (λ f. schema_fault (fault_of_lexing f)) is
+
+-- the tokens of a schema text are those of the same text as it was lexed
+pub lexed_alike : (text : List ℕ) (floats other : Bool) (tokens : List Token) → LetsFloats text floats → LetsFloats text other → Lexes other text tokens → Lexes floats text tokens
+lexed_alike text floats other tokens lets it l = subst (λ b. Lexes b text tokens) (used_once (codes "floats") text other floats it lets) l

@@ -4,10 +4,10 @@
 use Rattle.std.proofs.Common.{ℕ, zero, suc, ◌≡◌, inl, inr, Bool, true, false, List, [], ◌∷◌, ◌++◌, Some, refl, sym, ap, ◌∙◌, subst, append_assoc, append-nil}
 use Rattle.gql_base.specs.declared.lexical.token.TokenKind.{TokenKind}
 use Rattle.gql_base.specs.declared.lexical.token.TokenKind.TheVariants.{Bang, Dollar, Colon, Equals, At, OpenParen, CloseParen, OpenBracket, CloseBracket, OpenBrace, CloseBrace}
-use Rattle.gql_base.specs.ways.Symbols.{Symbol, punctuator, identifier, integer, string, Symbols, kind_of}
+use Rattle.gql_base.specs.ways.Symbols.{Symbol, punctuator, identifier, integer, decimal, string, Symbols, kind_of}
 use Rattle.gql_base.specs.ways.Reading.{Taking, exact, any_name, any_string, keyword, second, inside, some_second, listed}
 use Rattle.gql_base.specs.ways.Grammar.{Nested, plain, Single, Pair, Image, Choice, Optional, Repeated, OneOrMore, Bracketed}
-use Rattle.gql_base.specs.parts.Values.{ValueTree, variable_value, integer_value, string_value, boolean_value, null_value, enum_value, list_value, object_value, ValueTrees, no_value, value_then, FieldTrees, no_field, field_then, literal, named_value_of, IsValue, AreValues, AreFields}
+use Rattle.gql_base.specs.parts.Values.{ValueTree, variable_value, integer_value, float_value, string_value, boolean_value, null_value, enum_value, list_value, object_value, ValueTrees, no_value, value_then, FieldTrees, no_field, field_then, literal, named_value_of, IsValue, AreValues, AreFields}
 use Rattle.gql_base.specs.parts.TypeReferences.{TypeTree, named_type, list_type, non_null_type, IsType}
 use Rattle.gql_base.specs.parts.Arguments.{IsArgument, AreArguments, AreDirectives, IsDefault}
 use Rattle.gql_base.proofs.WayLaws.ReadingLaws.{regroup}
@@ -133,6 +133,7 @@ literal_flat : (b : Bool) (d : ℕ) (w : Symbol) (t : ValueTree) → literal w �
 literal_flat b d (punctuator kind) t e = cc
 literal_flat b d (identifier bytes at) t e = (refl, refl, refl)
 literal_flat b d (integer v) t e = (refl, refl, refl)
+literal_flat b d (decimal bytes) t e = (refl, refl, refl)
 literal_flat b d (string v) t e = (refl, refl, refl)
 
 leaf_runs : (b : Bool) (d : ℕ) (t : ValueTree) (ws : Nested) → Single literal d t ws → Runs b false d ws
@@ -144,6 +145,7 @@ mutual
   value_runs : (k b : Bool) (d : ℕ) → brace_level b d ≡ suc d → (t : ValueTree) (ws : Nested) → IsValue k d t ws → Runs b false d ws
   value_runs k b d h (variable_value name at) ws is = joined_runs b false false d ((punctuator Dollar, d) ∷ []) ((identifier name at, d) ∷ []) ws (one_runs b false d (punctuator Dollar) (refl, refl, refl)) (one_runs false false d (identifier name at) (refl, refl, refl)) is.1
   value_runs k b d h (integer_value v) ws is = leaf_runs b d (integer_value v) ws is
+  value_runs k b d h (float_value bytes) ws is = leaf_runs b d (float_value bytes) ws is
   value_runs k b d h (string_value v) ws is = leaf_runs b d (string_value v) ws is
   value_runs k b d h (boolean_value v) ws is = leaf_runs b d (boolean_value v) ws is
   value_runs k b d h null_value ws is = leaf_runs b d null_value ws is

@@ -1,7 +1,8 @@
 -- What the reader of schema texts answers.
-use Rattle.std.specs.Prelude.{ℕ, ◌≡◌, List, ◌∷◌, Result, Ok, Err, codes}
+use Rattle.std.specs.Prelude.{ℕ, ◌≡◌, Bool, List, ◌∷◌, Result, Ok, Err, codes}
 use Rattle.gql_base.specs.declared.lexical.token.Token.{Token}
 use Rattle.gql_base.specs.lexical.Tokens.{Lexes}
+use Rattle.gql_base.specs.lexical.Uses.{IsUsed}
 use Rattle.gql_base.specs.ways.Symbols.{Symbols, identifier, symbols_from}
 use Rattle.gql_base.specs.ways.Grammar.{Repeated}
 use Rattle.gql_base.specs.ways.FirstFaults.{level_limit, IsUnexpected, IsTooDeep, IsWritten}
@@ -13,9 +14,13 @@ use Rattle.schema_reader.specs.declared.trees.SchemaText.{SchemaText}
 use Rattle.schema_reader.specs.Schemas.{DefinitionTree, IsDefinition, IsSchema}
 use Rattle.schema_reader.specs.Trees.{schema_trees}
 
+-- whether floats may stand in the text of a schema: where `@floats` is applied in it
+abbrev pub LetsFloats : List ℕ → Bool → Type 0
+LetsFloats text floats = IsUsed (codes "floats") text floats
+
 -- The text is a schema text with these trees.
 abbrev pub HasSchema : List ℕ → List DefinitionTree → Type 0
-HasSchema = HasTree IsSchema
+HasSchema text trees = (floats : Bool) × LetsFloats text floats × HasTree floats IsSchema text trees
 
 -- The symbols before the rest are definitions or none, nested n deep at most, and the rest begins with `extend`.
 pub record BeginsExtension (n : ℕ) (ws rest : Symbols) : Type 0 where
@@ -36,17 +41,21 @@ IsFaultAmong text tokens (Extension at) = (place : ℕ) × (at ≡ offset_of tex
 IsFaultAmong text tokens (TooDeep at) = (place : ℕ) × (at ≡ offset_of text tokens place) × IsTooDeep IsSchema level_limit (symbols_from text tokens 0) (symbols_from text tokens place)
 IsFaultAmong text tokens Memory = Unit {0}
 
--- the same of the tokens that the text has
-abbrev pub HasFaultAmong : List ℕ → SchemaTextFault → Type 0
-HasFaultAmong text fault = (tokens : List Token) × Lexes text tokens × IsFaultAmong text tokens fault
+-- the same of the tokens that the text has, in which floats may stand or may not
+abbrev pub HasFaultAmong : Bool → List ℕ → SchemaTextFault → Type 0
+HasFaultAmong floats text fault = (tokens : List Token) × Lexes floats text tokens × IsFaultAmong text tokens fault
+
+-- why a text in which floats may stand or may not is no schema text
+abbrev pub IsFaultIf : Bool → List ℕ → SchemaTextFault → Type 0
+IsFaultIf floats text (Lex fault) = IsLexical floats text fault
+IsFaultIf floats text (Unexpected at) = HasFaultAmong floats text (Unexpected at)
+IsFaultIf floats text (Extension at) = HasFaultAmong floats text (Extension at)
+IsFaultIf floats text (TooDeep at) = HasFaultAmong floats text (TooDeep at)
+IsFaultIf floats text Memory = Unit {0}
 
 -- why a text is no schema text
 abbrev pub IsSchemaFault : List ℕ → SchemaTextFault → Type 0
-IsSchemaFault text (Lex fault) = IsLexical text fault
-IsSchemaFault text (Unexpected at) = HasFaultAmong text (Unexpected at)
-IsSchemaFault text (Extension at) = HasFaultAmong text (Extension at)
-IsSchemaFault text (TooDeep at) = HasFaultAmong text (TooDeep at)
-IsSchemaFault text Memory = Unit {0}
+IsSchemaFault text fault = (floats : Bool) × LetsFloats text floats × IsFaultIf floats text fault
 
 -- The text has this fault; want of memory is none of its own.
 abbrev pub HasSchemaFault : List ℕ → SchemaTextFault → Type 0

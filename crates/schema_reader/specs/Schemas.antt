@@ -4,7 +4,7 @@ use Rattle.std.specs.Str.{bytes_eq}
 use Rattle.gql_base.specs.declared.lexical.token.TokenKind.{TokenKind}
 use Rattle.gql_base.specs.declared.lexical.token.TokenKind.TheVariants.{Amp, Colon, Equals, At, OpenParen, CloseParen, OpenBrace, CloseBrace, Pipe}
 use Rattle.gql_base.specs.declared.parts.trees.OperationKind.{OperationKind}
-use Rattle.gql_base.specs.ways.Symbols.{punctuator, identifier, integer, string}
+use Rattle.gql_base.specs.ways.Symbols.{punctuator, identifier, integer, decimal, string}
 use Rattle.gql_base.specs.ways.Reading.{Taking, exact, Identifier, any_name, any_string, keyword, second, inside, listed}
 use Rattle.gql_base.specs.ways.Grammar.{Nested, Single, Pair, Image, Choice, Optional, Repeated, OneOrMore}
 use Rattle.gql_base.specs.parts.Values.{ValueTree}
@@ -111,6 +111,7 @@ abbrev pub enum_name : Taking NameText
 enum_name (identifier bytes at) = unless (bytes_eq bytes (codes "true") || (bytes_eq bytes (codes "false") || bytes_eq bytes (codes "null"))) bytes
 enum_name (punctuator kind) = None
 enum_name (integer value) = None
+enum_name (decimal bytes) = None
 enum_name (string value) = None
 
 abbrev pub IsEnumValue : ℕ → EnumValueTree → Nested → Type 0

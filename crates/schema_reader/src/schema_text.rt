@@ -8,13 +8,13 @@ ghost use Rattle.gql_base.specs.ways.Halting.{fault_of_halt, fault_of_lexing};
 ghost use Rattle.schema_reader.specs.Schemas.{DefinitionTree, IsSchema};
 ghost use Rattle.schema_reader.specs.SchemaReading.{body_at, definition_at, begins_definition, definitions_at};
 ghost use Rattle.schema_reader.specs.Trees.{named_tree, definition_tree, schema_trees};
-ghost use Rattle.schema_reader.specs.SchemaAnswers.{HasSchema, IsFaultAmong, IsSchemaFault, schema_fault, GivesSchema};
+ghost use Rattle.schema_reader.specs.SchemaAnswers.{LetsFloats, HasSchema, IsFaultAmong, IsSchemaFault, schema_fault, GivesSchema};
 
 use crate::other_definitions::{directive_definition, schema_definition};
 use crate::parts::description;
 use crate::trees::{SchemaDef, SchemaText};
 use crate::type_definitions::{NamedDef, type_definition};
-use gql_base::{Halt, LEVEL_LIMIT, LexFault, Source, Text, lex};
+use gql_base::{Halt, LEVEL_LIMIT, LexFault, Source, Text, lex, uses_directive};
 use std::alloc::Global;
 use thiserror::Error;
 
@@ -151,7 +151,14 @@ fn parse(alloc: Global, source: &Source) -> Result<SchemaText, SchemaTextFault>
     }
 }
 
-/// The schema text that `text` is (GraphQL October 2021, 3). Where the text has no tokens, that is its fault. Otherwise
+/// Whether floats may stand in the text of a schema: where `@floats` is applied in it.
+fn lets_floats(text: &str) -> bool
+    ensures { LetsFloats text.now result }
+{
+    uses_directive(text, "floats")
+}
+
+/// The schema text that `text` is (GraphQL October 2021, 3). Floats may stand in it where it applies `@floats`. Where the text has no tokens, that is its fault. Otherwise
 /// the fault is the first token with which no schema text goes on (an extension where a definition begins with
 /// `extend`), or that opens a level above the limit: a list, an object or a list type.
 pub fn read_schema_text(alloc: Global, text: &str) -> Result<SchemaText, SchemaTextFault>
@@ -159,7 +166,7 @@ pub fn read_schema_text(alloc: Global, text: &str) -> Result<SchemaText, SchemaT
     ensures only { (trees : List DefinitionTree) → HasSchema text.now trees → GivesSchema trees result }
     ensures fault { IfErr result (λ f. IsSchemaFault text.now f) }
 {
-    match lex(alloc, text) {
+    match lex(alloc, text, lets_floats(text)) {
         Ok(tokens) => parse(
             alloc,
             &Source {

@@ -5,11 +5,11 @@ use Rattle.gql_base.specs.declared.parts.trees.TypeRef.{TypeRef}
 use Rattle.gql_base.specs.declared.parts.trees.TypeRef.TheBlock.{Named}
 use Rattle.gql_base.specs.declared.parts.trees.TypeRef.TheViews.{ListOf, NonNull}
 use Rattle.gql_base.specs.parts.Trees.{type_tree}
-use Rattle.gql_base.proofs.PartLaws.ValueSteps.{list_tree, object_tree, variable_tree, integer_tree, string_tree, boolean_tree, null_tree, enum_tree, list_type_tree, non_null_tree, named_type_tree}
+use Rattle.gql_base.proofs.PartLaws.ValueSteps.{list_tree, object_tree, variable_tree, integer_tree, float_tree, string_tree, boolean_tree, null_tree, enum_tree, list_type_tree, non_null_tree, named_type_tree}
 use Rattle.schema_rules.specs.Items.{innermost}
 use Rattle.schema_rules.specs.NestedList.{is_list, is_nested}
 
-pub ruleset value_levels = (list_tree, object_tree, variable_tree, integer_tree, string_tree, boolean_tree, null_tree, enum_tree)
+pub ruleset value_levels = (list_tree, object_tree, variable_tree, integer_tree, float_tree, string_tree, boolean_tree, null_tree, enum_tree)
 
 pub innermost_named : (n : Name) → innermost (type_tree (Named n)) ≡ n.text
 unfolding innermost

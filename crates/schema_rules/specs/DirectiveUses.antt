@@ -1,11 +1,11 @@
--- What the cost directives say where they are applied (IBM GraphQL Cost Directives Specification):
--- `@cost(weight: String!)` and `@listSize(assumedSize: Int, slicingArguments: [String!], sizedFields: [String!],
+-- What the cost directives say where they are applied (IBM GraphQL Cost Directives Specification), and `@floats`, which has no
+-- arguments and lets a scalar hold numbers that aren't whole. `@cost(weight: String!)` and `@listSize(assumedSize: Int, slicingArguments: [String!], sizedFields: [String!],
 -- requireOneSlicingArgument: Boolean = true)`. A null for an optional argument is none, a single string is a list of one.
 use Rattle.std.specs.Prelude.{ℕ, Bool, true, false, not, ◌&&◌, List, [], ◌∷◌, map, Option, None, Some, codes, if◌then◌else◌}
 use Rattle.std.specs.List.{list_all, list_any}
 use Rattle.std.specs.Str.{bytes_eq}
 use Rattle.gql_base.specs.names.Names.{are_distinct}
-use Rattle.gql_base.specs.parts.Values.{ValueTree, ValueTrees, no_value, value_then, variable_value, integer_value, string_value, boolean_value, null_value, enum_value, list_value, object_value, NamedValue}
+use Rattle.gql_base.specs.parts.Values.{ValueTree, ValueTrees, no_value, value_then, variable_value, integer_value, float_value, string_value, boolean_value, null_value, enum_value, list_value, object_value, NamedValue}
 use Rattle.gql_base.specs.parts.Arguments.{DirectiveTree}
 use Rattle.gql_base.specs.parts.Ints.{is_int}
 
@@ -21,6 +21,7 @@ abbrev pub string_in : ValueTree → Option (List ℕ)
 string_in (string_value s) = Some s
 string_in (variable_value name at) = None
 string_in (integer_value n) = None
+string_in (float_value digits) = None
 string_in (boolean_value b) = None
 string_in null_value = None
 string_in (enum_value name at) = None
@@ -31,6 +32,7 @@ abbrev pub is_string : ValueTree → Bool
 is_string (string_value s) = true
 is_string (variable_value name at) = false
 is_string (integer_value n) = false
+is_string (float_value digits) = false
 is_string (boolean_value b) = false
 is_string null_value = false
 is_string (enum_value name at) = false
@@ -39,6 +41,7 @@ is_string (object_value fields) = false
 
 abbrev pub is_maybe_int : ValueTree → Bool
 is_maybe_int (integer_value n) = is_int n
+is_maybe_int (float_value digits) = false
 is_maybe_int null_value = true
 is_maybe_int (string_value s) = false
 is_maybe_int (variable_value name at) = false
@@ -51,6 +54,7 @@ abbrev pub is_maybe_boolean : ValueTree → Bool
 is_maybe_boolean (boolean_value b) = true
 is_maybe_boolean null_value = true
 is_maybe_boolean (integer_value n) = false
+is_maybe_boolean (float_value digits) = false
 is_maybe_boolean (string_value s) = false
 is_maybe_boolean (variable_value name at) = false
 is_maybe_boolean (enum_value name at) = false
@@ -66,6 +70,7 @@ are_maybe_strings (string_value s) = true
 are_maybe_strings null_value = true
 are_maybe_strings (list_value values) = are_strings values
 are_maybe_strings (integer_value n) = false
+are_maybe_strings (float_value digits) = false
 are_maybe_strings (variable_value name at) = false
 are_maybe_strings (boolean_value b) = false
 are_maybe_strings (enum_value name at) = false
@@ -105,11 +110,16 @@ abbrev pub is_some_text : Option (List ℕ) → Bool
 is_some_text None = false
 is_some_text (Some s) = true
 
--- whether a directive is right where `@cost` or `@listSize` may stand, or not
-abbrev pub is_right : Bool → Bool → DirectiveTree → Bool
-is_right may_cost may_size d =
+abbrev pub has_no_argument : List NamedValue → Bool
+has_no_argument [] = true
+has_no_argument (a ∷ others) = false
+
+-- whether a directive is right where `@cost`, `@listSize` or `@floats` may stand, or not
+abbrev pub is_right : Bool → Bool → Bool → DirectiveTree → Bool
+is_right may_cost may_size may_float d =
     if bytes_eq (directive_name d) (codes "cost") then may_cost && is_some_text (weight_text d.1)
     else if bytes_eq (directive_name d) (codes "listSize") then may_size && are_size_arguments d.1
+    else if bytes_eq (directive_name d) (codes "floats") then may_float && has_no_argument d.1
     else true
 
 abbrev pub is_use_of : List ℕ → DirectiveTree → Bool
@@ -120,8 +130,13 @@ abbrev pub is_rare : List ℕ → List DirectiveTree → Bool
 is_rare name [] = true
 is_rare name (d ∷ ds) = if is_use_of name d then not (list_any (is_use_of name) ds) else is_rare name ds
 
-abbrev pub are_right : Bool → Bool → List DirectiveTree → Bool
-are_right may_cost may_size ds = list_all (is_right may_cost may_size) ds && (is_rare (codes "cost") ds && is_rare (codes "listSize") ds)
+abbrev pub are_right : Bool → Bool → Bool → List DirectiveTree → Bool
+are_right may_cost may_size may_float ds =
+    list_all (is_right may_cost may_size may_float) ds && (is_rare (codes "cost") ds && (is_rare (codes "listSize") ds && is_rare (codes "floats") ds))
+
+-- whether `@floats` is one of these
+abbrev pub is_lax : List DirectiveTree → Bool
+is_lax ds = list_any (is_use_of (codes "floats")) ds
 
 -- the text of the weight that the first `@cost` has
 abbrev pub given_weight : List DirectiveTree → Option (List ℕ)

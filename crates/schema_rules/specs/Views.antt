@@ -3,14 +3,14 @@ use Rattle.std.specs.Prelude.{ℕ, List, map, Option, None, Some}
 use Rattle.std.specs.Borrow.{Bor}
 use Rattle.gql_base.specs.parts.Trees.{value_tree, named_value, type_tree, directive_tree}
 use Rattle.gql_base.specs.declared.parts.trees.Argument.{Argument as ArgumentOf}
-use Rattle.gql_base.specs.parts.Values.{NamedValue, ValueTree, variable_value, integer_value, string_value, boolean_value, null_value, enum_value, list_value, object_value, values_from, fields_from}
+use Rattle.gql_base.specs.parts.Values.{NamedValue, ValueTree, variable_value, integer_value, float_value, string_value, boolean_value, null_value, enum_value, list_value, object_value, values_from, fields_from}
 use Rattle.schema_reader.specs.Trees.{input_tree}
 use Rattle.schema_rules.specs.declared.place.Place.{Place}
 use Rattle.schema_rules.specs.declared.place.Place.TheVariants.{«Type» as TypePlace, Field as FieldPlace, Argument as ArgumentPlace, Directive as DirectivePlace, DirectiveArgument as DirectiveArgumentPlace, Schema as SchemaPlace}
 use Rattle.schema_rules.specs.declared.items.Item.{Item}
 use Rattle.schema_rules.specs.declared.items.Item.TheVariants.{Schema, Root, «Type» as TypeItem, Interface, Member, Field, Argument, FieldType, EnumValue, InputField, Directive, DirectiveArgument}
 use Rattle.schema_rules.specs.declared.literals.Literal.{Literal}
-use Rattle.schema_rules.specs.declared.literals.Literal.TheVariants.{Var, Int, Str, Bool as BoolLiteral, Null, EnumName, List as ListLiteral, Object}
+use Rattle.schema_rules.specs.declared.literals.Literal.TheVariants.{Var, Int, Float as FloatLiteral, Str, Bool as BoolLiteral, Null, EnumName, List as ListLiteral, Object}
 use Rattle.schema_rules.specs.declared.type_names.TypeName.{TypeName}
 use Rattle.schema_rules.specs.Places.{PlaceTree, at_type, at_field, at_argument, at_directive, at_directive_argument, at_schema}
 use Rattle.schema_rules.specs.Items.{ItemTree, schema_item, root_item, type_item, interface_item, member_item, field_item, argument_item, field_type_item, enum_value_item, input_field_item, directive_item, directive_argument_item}
@@ -49,6 +49,7 @@ item_tree (DirectiveArgument directive input) = directive_argument_item directiv
 abbrev pub literal_tree : Literal → ValueTree
 literal_tree (Var name at) = variable_value name.now at
 literal_tree (Int n) = integer_value n
+literal_tree (FloatLiteral digits) = float_value digits.now
 literal_tree (Str s) = string_value s.now
 literal_tree (BoolLiteral b) = boolean_value b
 literal_tree Null = null_value

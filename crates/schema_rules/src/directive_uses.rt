@@ -1,4 +1,4 @@
-//! What the cost directives say where they are applied (IBM GraphQL Cost Directives Specification).
+//! What the cost directives (IBM GraphQL Cost Directives Specification) and `@floats` say where they are applied.
 
 ghost use Rattle.std.specs.Prelude.{◌≡◌, map, drop, length, nat_le, codes, find, Option, Some, None};
 ghost use Rattle.std.specs.List.{list_all, list_any, filter};
@@ -6,7 +6,7 @@ ghost use Rattle.std.specs.Str.{bytes_eq};
 ghost use Rattle.gql_base.specs.names.Names.{are_distinct};
 ghost use Rattle.gql_base.specs.parts.Trees.{value_tree, named_value, directive_tree};
 ghost use Rattle.gql_base.specs.parts.Values.{values_from};
-ghost use Rattle.schema_rules.specs.DirectiveUses.{string_in, is_string, is_maybe_int, is_maybe_boolean, are_strings, are_maybe_strings, one_weight, weight_text, fits_size, is_size_argument, are_size_arguments, is_right, is_use_of, is_rare, are_right, is_some_text, argument_name, given_weight, size_arguments};
+ghost use Rattle.schema_rules.specs.DirectiveUses.{string_in, is_string, is_maybe_int, is_maybe_boolean, are_strings, are_maybe_strings, one_weight, weight_text, fits_size, is_size_argument, are_size_arguments, has_no_argument, is_right, is_use_of, is_rare, are_right, is_lax, is_some_text, argument_name, given_weight, size_arguments};
 ghost use Rattle.schema_rules.specs.Views.{literal_tree, maybe_name, maybe_arguments};
 
 use crate::literals::{Literal, opened};
@@ -176,8 +176,17 @@ fn are_size_arguments(arguments: &[Argument]) -> bool
     }
 }
 
-fn is_right(may_cost: bool, may_size: bool, directive: &Directive) -> bool
-    ensures { result ≡ is_right may_cost may_size (directive_tree directive.now) }
+fn has_no_argument(arguments: &[Argument]) -> bool
+    ensures { result ≡ has_no_argument (map named_value arguments.now) }
+{
+    match arguments {
+        [] => true,
+        _ => false,
+    }
+}
+
+fn is_right(may_cost: bool, may_size: bool, may_float: bool, directive: &Directive) -> bool
+    ensures { result ≡ is_right may_cost may_size may_float (directive_tree directive.now) }
 {
     if directive.name.text.as_str() == "cost" {
         if may_cost {
@@ -191,16 +200,18 @@ fn is_right(may_cost: bool, may_size: bool, directive: &Directive) -> bool
         } else {
             false
         }
+    } else if directive.name.text.as_str() == "floats" {
+        may_float && has_no_argument(&directive.arguments)
     } else {
         true
     }
 }
 
-fn all_right(may_cost: bool, may_size: bool, directives: &[Directive]) -> bool
-    ensures { result ≡ list_all (is_right may_cost may_size) (map directive_tree directives.now) }
+fn all_right(may_cost: bool, may_size: bool, may_float: bool, directives: &[Directive]) -> bool
+    ensures { result ≡ list_all (is_right may_cost may_size may_float) (map directive_tree directives.now) }
 {
     for directive in directives {
-        if !is_right(may_cost, may_size, directive) {
+        if !is_right(may_cost, may_size, may_float, directive) {
             return false;
         }
     }
@@ -236,15 +247,23 @@ fn is_rare(name: &str, directives: &[Directive]) -> bool
     true
 }
 
-/// Whether the cost directives of a place are right, where `@cost` and `@listSize` may stand there, or may not.
-pub fn are_right(may_cost: bool, may_size: bool, directives: &[Directive]) -> bool
-    ensures { result ≡ are_right may_cost may_size (map directive_tree directives.now) }
+/// Whether the directives of a place are right, where `@cost`, `@listSize` and `@floats` may stand there, or may not.
+pub fn are_right(may_cost: bool, may_size: bool, may_float: bool, directives: &[Directive]) -> bool
+    ensures { result ≡ are_right may_cost may_size may_float (map directive_tree directives.now) }
 {
-    if all_right(may_cost, may_size, directives) {
-        is_rare("cost", directives) && is_rare("listSize", directives)
+    if all_right(may_cost, may_size, may_float, directives) {
+        is_rare("cost", directives)
+            && (is_rare("listSize", directives) && is_rare("floats", directives))
     } else {
         false
     }
+}
+
+/// Whether `@floats` is one of the directives: the scalar that has it may hold numbers that aren't whole.
+pub fn is_lax(directives: &[Directive]) -> bool
+    ensures { result ≡ is_lax (map directive_tree directives.now) }
+{
+    is_used_from("floats", 0, directives)
 }
 
 /// The text of the weight that the first `@cost` has, where its arguments are right.

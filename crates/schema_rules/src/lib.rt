@@ -13,7 +13,7 @@ mod roots;
 mod sharing;
 mod type_names;
 
-pub use directive_uses::{are_right, given_weight, size_arguments};
+pub use directive_uses::{are_right, given_weight, is_lax, size_arguments};
 pub use faults::bad_directive::first_bad_directive;
 pub use faults::empty_type::first_empty_type;
 pub use faults::float_scalar::first_float_scalar;

@@ -11,6 +11,8 @@ use gql_base::{Argument, Value};
 pub enum Literal<'a> {
     Var { name: &'a str, at: usize },
     Int(i128),
+    /// A float, as it is written.
+    Float(&'a str),
     Str(&'a str),
     Bool(bool),
     Null,
@@ -30,6 +32,7 @@ pub fn opened(value: &Value) -> Literal<'_>
             at: name.at,
         },
         Value::Int(number) => Literal::Int(*number),
+        Value::Float(digits) => Literal::Float(digits.as_str()),
         Value::Str(text) => Literal::Str(text.as_str()),
         Value::Bool(value) => Literal::Bool(*value),
         Value::Null => Literal::Null,

@@ -146,9 +146,9 @@ places_of surprise s w = map (λ n. place_of_field s (field_at s n)) (filter (is
 -- ---- scalars
 
 abbrev pub is_own_scalar : SchemaData → ℕ → Bool
-is_own_scalar s n = is_scalar (type_at s n).kind
+is_own_scalar s n = is_scalar (type_at s n).kind && not (type_at s n).lax
 
--- the names of the scalars that the text defines
+-- the names of the scalars that the text defines, but for those that may hold numbers that aren't whole
 abbrev pub own_scalars : SchemaData → List (List ℕ)
 own_scalars s = map (λ n. (type_at s n).name) (filter (is_own_scalar s) (type_numbers s))
 

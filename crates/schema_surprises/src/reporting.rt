@@ -4,7 +4,7 @@ ghost use Rattle.std.specs.Prelude.{◌≡◌, ◌++◌, IfOk, OnOk, length, cod
 ghost use Rattle.std.specs.Fmt.{decimal};
 ghost use Rattle.schema_model.specs.SchemaViews.{schema_data};
 ghost use Rattle.cost_directives.specs.WeightViews.{weights_data};
-ghost use Rattle.schema_surprises.specs.Surprises.{own_scalars, group_text, counts_told, found_told, report_text, places_of};
+ghost use Rattle.schema_surprises.specs.Surprises.{is_own_scalar, own_scalars, group_text, counts_told, found_told, report_text, places_of};
 
 use crate::fields::places_of;
 use crate::surprise::Surprise;
@@ -24,7 +24,14 @@ struct Found {
     scalars: Vec<Text>,
 }
 
-// The names of the scalars that the text defines.
+// Whether a type is a scalar whose numbers are whole.
+fn is_own_scalar(schema: &Schema, of: TypeId) -> bool
+    ensures { result ≡ is_own_scalar (schema_data schema.now) of.number }
+{
+    schema.kind(of).is_scalar() && !schema.is_lax(of)
+}
+
+// The names of the scalars that the text defines, but for those that may hold numbers that aren't whole.
 fn own_scalars(alloc: Global, schema: &Schema) -> Result<Vec<Text>, AllocError>
     ensures { IfOk result (λ names. names.items ≡ own_scalars (schema_data schema.now)) }
 {
@@ -32,7 +39,7 @@ fn own_scalars(alloc: Global, schema: &Schema) -> Result<Vec<Text>, AllocError>
     let (types, _) = schema.counts();
     for number in 0..types {
         let of = TypeId { number };
-        if schema.kind(of).is_scalar() {
+        if is_own_scalar(schema, of) {
             names.push(Text::copy_of(alloc, schema.type_name(of).as_str())?)?;
         }
     }

@@ -10,9 +10,8 @@ ghost use Rattle.sent_documents.specs.SentResponses.{ReadsAllByPlan};
 
 use sent_replies::laws::replies_to_what_is_sent;
 
-/// Where no string of the client's text holds a control character but those that have an escape by a letter (GraphQL October
-/// 2021, 2.9.4), the text that is sent is UTF-8. It is the text of the document that is sent, but for the offsets of
-/// names, is nested no deeper than documents may be, and is no other document's.
+/// The text that is sent is UTF-8. It is the text of the document that is sent, but for the offsets of names, is nested no deeper than
+/// documents may be, and is no other document's.
 pub fn what_is_sent_reads_back()
     ensures reads_back { (r : RequestData) (p : Prepared r) (alias text : List ℕ) → IsFreeIn r alias → IsClientText r text → ReadsBack r p alias }
     ensures utf8 { (r : RequestData) (p : Prepared r) (alias text : List ℕ) → IsFreeIn r alias → IsClientText r text → IsUtf8 (sent_text r p alias) }

@@ -13,7 +13,7 @@ use Rattle.schema_rules.specs.declared.kind.Kind.TheVariants.{Scalar, Union}
 use Rattle.schema_rules.specs.Places.{PlaceTree, at_type}
 use Rattle.schema_rules.specs.Items.{ItemTree}
 use Rattle.schema_rules.specs.TypeNames.{NamedKind}
-use Rattle.schema_rules.specs.DirectiveUses.{given_weight}
+use Rattle.schema_rules.specs.DirectiveUses.{given_weight, is_lax}
 use Rattle.schema_model.specs.Drafts.{FieldDraft, TypeDraft, bare, body_draft, definition_draft, scalar_draft, defined_drafts, drafts_of}
 use Rattle.schema_model.specs.Implementing.{draft_at, is_kind_of, is_no_looser, is_narrower, names_all, lacks_interfaces, lacking_field, in_type, lack_at, not_implemented}
 use Rattle.schema_model.specs.Schemas.{field_name, types_from, no_type}
@@ -40,27 +40,27 @@ scalars_right (t ∷ types) zero = (λ T is. no_member is, λ is. absurd (cc))
 scalars_right (t ∷ types) (suc of) = scalars_right types of
 
 module _ (types : List NamedKind) where
-  body_right : (name : List ℕ) (cost : Option (List ℕ)) (body : BodyTree) (rest : List TypeDraft) → ((of : ℕ) → OnlyUnions (draft_at rest of)) → (of : ℕ) → OnlyUnions (draft_at (body_draft types name cost body ++ rest) of)
-  body_right name cost (schema_body roots) rest right of = right of
-  body_right name cost (directive_body arguments repeatable locations) rest right of = right of
-  body_right name cost scalar_body rest right zero = (λ T is. no_member is, λ is. absurd (cc))
-  body_right name cost scalar_body rest right (suc of) = right of
-  body_right name cost (object_body interfaces fields) rest right zero = (λ T is. no_member is, λ is. absurd (cc))
-  body_right name cost (object_body interfaces fields) rest right (suc of) = right of
-  body_right name cost (interface_body interfaces fields) rest right zero = (λ T is. no_member is, λ is. absurd (cc))
-  body_right name cost (interface_body interfaces fields) rest right (suc of) = right of
-  body_right name cost (union_body members) rest right zero = (λ T is. refl, λ is. (refl, refl))
-  body_right name cost (union_body members) rest right (suc of) = right of
-  body_right name cost (enum_body values) rest right zero = (λ T is. no_member is, λ is. absurd (cc))
-  body_right name cost (enum_body values) rest right (suc of) = right of
-  body_right name cost (input_body fields) rest right zero = (λ T is. no_member is, λ is. absurd (cc))
-  body_right name cost (input_body fields) rest right (suc of) = right of
+  body_right : (name : List ℕ) (cost : Option (List ℕ)) (lax : Bool) (body : BodyTree) (rest : List TypeDraft) → ((of : ℕ) → OnlyUnions (draft_at rest of)) → (of : ℕ) → OnlyUnions (draft_at (body_draft types name cost lax body ++ rest) of)
+  body_right name cost lax (schema_body roots) rest right of = right of
+  body_right name cost lax (directive_body arguments repeatable locations) rest right of = right of
+  body_right name cost lax scalar_body rest right zero = (λ T is. no_member is, λ is. absurd (cc))
+  body_right name cost lax scalar_body rest right (suc of) = right of
+  body_right name cost lax (object_body interfaces fields) rest right zero = (λ T is. no_member is, λ is. absurd (cc))
+  body_right name cost lax (object_body interfaces fields) rest right (suc of) = right of
+  body_right name cost lax (interface_body interfaces fields) rest right zero = (λ T is. no_member is, λ is. absurd (cc))
+  body_right name cost lax (interface_body interfaces fields) rest right (suc of) = right of
+  body_right name cost lax (union_body members) rest right zero = (λ T is. refl, λ is. (refl, refl))
+  body_right name cost lax (union_body members) rest right (suc of) = right of
+  body_right name cost lax (enum_body values) rest right zero = (λ T is. no_member is, λ is. absurd (cc))
+  body_right name cost lax (enum_body values) rest right (suc of) = right of
+  body_right name cost lax (input_body fields) rest right zero = (λ T is. no_member is, λ is. absurd (cc))
+  body_right name cost lax (input_body fields) rest right (suc of) = right of
 
   text_right : (text : List DefinitionTree) (rest : List TypeDraft) → ((of : ℕ) → OnlyUnions (draft_at rest of)) → (of : ℕ) → OnlyUnions (draft_at (defined_drafts types text ++ rest) of)
   text_right [] rest right of = right of
   text_right (d ∷ text) rest right of =
       subst (λ (drafts : List TypeDraft). OnlyUnions (draft_at drafts of)) (sym (append_assoc (definition_draft types d) (defined_drafts types text) rest))
-      (body_right d.1.0 (given_weight d.1.1) d.1.2 (defined_drafts types text ++ rest) (text_right text rest right) of)
+      (body_right d.1.0 (given_weight d.1.1) (is_lax d.1.1) d.1.2 (defined_drafts types text ++ rest) (text_right text rest right) of)
 
   pub drafts_right : (text : List DefinitionTree) (of : ℕ) → OnlyUnions (draft_at (drafts_of types text) of)
   drafts_right text of =
@@ -139,7 +139,7 @@ module _ (form : ℕ → InputForm) (items : List ItemTree) (types : List NamedK
   pub above_too : (T I J : ℕ) → Implements s T I → Implements s I J → Implements s T J
   above_too T I J first second =
       let t : TypeDraft = draft_at ds T in
-      let lacks_none : lack_at ds t ≡ None = none_at (lack_at ds) ds (bare [] Scalar None) T refl kept in
+      let lacks_none : lack_at ds t ≡ None = none_at (lack_at ds) ds (bare [] Scalar None false) T refl kept in
       let lacks : lacks_interfaces ds t.interfaces t.interfaces ≡ false = unlacked (lacks_interfaces ds t.interfaces t.interfaces) (at_type t.name) t.name (lacking_field ds t.fields t.interfaces) lacks_none in
       let all : names_all t.interfaces (draft_at ds I).interfaces ≡ true =
       not-false (names_all t.interfaces (draft_at ds I).interfaces) (none_passes (λ i. not (names_all t.interfaces (draft_at ds i).interfaces)) t.interfaces I lacks (drafted T I first)) in

@@ -15,7 +15,7 @@ use Rattle.schema_rules.specs.First.{first_of}
 use Rattle.schema_rules.specs.Items.{ItemTree, interface_item, member_item, argument_item, input_field_item, directive_argument_item, type_item, root_item_of, field_type_of, enum_value_of, field_items, is_none_of, body_items, definition_items, items_of, place_of}
 use Rattle.schema_rules.specs.TypeNames.{NamedKind, name_of, with_type, types_defined, with_scalar, with_built_ins, types_of, kind_or_scalar, kind_named}
 use Rattle.schema_rules.specs.WrongKind.{is_wrong, wrong_at}
-use Rattle.schema_rules.specs.DirectiveUses.{given_weight}
+use Rattle.schema_rules.specs.DirectiveUses.{given_weight, is_lax}
 use Rattle.schema_rules.proofs.FirstFaults.{neither, not_told}
 use Rattle.schema_model.specs.Drafts.{TypeDraft, number_named, or_past, bare, body_draft, definition_draft, scalar_draft, defined_drafts, drafts_of}
 use Rattle.schema_model.specs.Implementing.{draft_at}
@@ -60,20 +60,20 @@ abbrev pub named_kind : TypeDraft → NamedKind
 named_kind d = record { name = d.name; kind = d.kind }
 
 module _ (types : List NamedKind) where
-  body_kinds : (name : NameText) (cost : Option (List ℕ)) (directives : List DirectiveTree) (body : BodyTree) (rest : List ItemTree) → types_defined (body_items name directives body ++ rest) ≡ map named_kind (body_draft types name cost body) ++ types_defined rest
-  body_kinds name cost directives (schema_body roots) rest = none_defined (map root_item_of roots) rest (each_mapped root_item_of (λ x others. refl) roots)
-  body_kinds name cost directives (directive_body arguments repeatable locations) rest = none_defined (map (directive_argument_item name) arguments) rest (each_mapped (directive_argument_item name) (λ x others. refl) arguments)
-  body_kinds name cost directives scalar_body rest = refl
-  body_kinds name cost directives (object_body interfaces fields) rest = ap (λ (ts : List NamedKind). record { name = name; kind = Object } ∷ ts) (none_defined (map (interface_item name) interfaces ++ flat_map (field_items name) fields) rest (parts_define_none name interfaces fields))
-  body_kinds name cost directives (interface_body interfaces fields) rest = ap (λ (ts : List NamedKind). record { name = name; kind = Interface } ∷ ts) (none_defined (map (interface_item name) interfaces ++ flat_map (field_items name) fields) rest (parts_define_none name interfaces fields))
-  body_kinds name cost directives (union_body members) rest = ap (λ (ts : List NamedKind). record { name = name; kind = Union } ∷ ts) (none_defined (map (member_item name) members) rest (each_mapped (member_item name) (λ x others. refl) members))
-  body_kinds name cost directives (enum_body values) rest = ap (λ (ts : List NamedKind). record { name = name; kind = Enum } ∷ ts) (none_defined (map (enum_value_of name) values) rest (each_mapped (enum_value_of name) (λ x others. refl) values))
-  body_kinds name cost directives (input_body fields) rest = ap (λ (ts : List NamedKind). record { name = name; kind = Input } ∷ ts) (none_defined (map (input_field_item name) fields) rest (each_mapped (input_field_item name) (λ x others. refl) fields))
+  body_kinds : (name : NameText) (cost : Option (List ℕ)) (lax : Bool) (directives : List DirectiveTree) (body : BodyTree) (rest : List ItemTree) → types_defined (body_items name directives body ++ rest) ≡ map named_kind (body_draft types name cost lax body) ++ types_defined rest
+  body_kinds name cost lax directives (schema_body roots) rest = none_defined (map root_item_of roots) rest (each_mapped root_item_of (λ x others. refl) roots)
+  body_kinds name cost lax directives (directive_body arguments repeatable locations) rest = none_defined (map (directive_argument_item name) arguments) rest (each_mapped (directive_argument_item name) (λ x others. refl) arguments)
+  body_kinds name cost lax directives scalar_body rest = refl
+  body_kinds name cost lax directives (object_body interfaces fields) rest = ap (λ (ts : List NamedKind). record { name = name; kind = Object } ∷ ts) (none_defined (map (interface_item name) interfaces ++ flat_map (field_items name) fields) rest (parts_define_none name interfaces fields))
+  body_kinds name cost lax directives (interface_body interfaces fields) rest = ap (λ (ts : List NamedKind). record { name = name; kind = Interface } ∷ ts) (none_defined (map (interface_item name) interfaces ++ flat_map (field_items name) fields) rest (parts_define_none name interfaces fields))
+  body_kinds name cost lax directives (union_body members) rest = ap (λ (ts : List NamedKind). record { name = name; kind = Union } ∷ ts) (none_defined (map (member_item name) members) rest (each_mapped (member_item name) (λ x others. refl) members))
+  body_kinds name cost lax directives (enum_body values) rest = ap (λ (ts : List NamedKind). record { name = name; kind = Enum } ∷ ts) (none_defined (map (enum_value_of name) values) rest (each_mapped (enum_value_of name) (λ x others. refl) values))
+  body_kinds name cost lax directives (input_body fields) rest = ap (λ (ts : List NamedKind). record { name = name; kind = Input } ∷ ts) (none_defined (map (input_field_item name) fields) rest (each_mapped (input_field_item name) (λ x others. refl) fields))
 
   text_kinds : (text : List DefinitionTree) → types_defined (items_of text) ≡ map named_kind (defined_drafts types text)
   text_kinds [] = refl
   text_kinds (d ∷ text) =
-      body_kinds d.1.0 (given_weight d.1.1) d.1.1 d.1.2 (items_of text)
+      body_kinds d.1.0 (given_weight d.1.1) (is_lax d.1.1) d.1.1 d.1.2 (items_of text)
       ∙ (ap (λ (ts : List NamedKind). map named_kind (definition_draft types d) ++ ts) (text_kinds text) ∙ sym (map-append named_kind (definition_draft types d) (defined_drafts types text)))
 
 -- The types are these, and scalars behind them.
@@ -141,28 +141,28 @@ module _ (types : List NamedKind) (has : Bool) where
       let parts : List ItemTree = map (interface_item name) interfaces ++ flat_map (field_items name) fields in
       named_interfaces name interfaces (both_right (map (interface_item name) interfaces) (flat_map (field_items name) fields) (neither (wrong_at types has (type_item name kind (is_none_of fields) directives)) (first_of (wrong_at types has) parts) none).1).0
 
-  body_interfaces : (name : NameText) (cost : Option (List ℕ)) (directives : List DirectiveTree) (body : BodyTree) (rest : List TypeDraft) → first_of (wrong_at types has) (body_items name directives body) ≡ None → AreOfInterfaces rest → AreOfInterfaces (body_draft types name cost body ++ rest)
-  body_interfaces name cost directives (schema_body roots) rest none others of = others of
-  body_interfaces name cost directives (directive_body arguments repeatable locations) rest none others of = others of
-  body_interfaces name cost directives scalar_body rest none others zero = tt
-  body_interfaces name cost directives scalar_body rest none others (suc of) = others of
-  body_interfaces name cost directives (object_body interfaces fields) rest none others zero = in_parts name Object directives interfaces fields none
-  body_interfaces name cost directives (object_body interfaces fields) rest none others (suc of) = others of
-  body_interfaces name cost directives (interface_body interfaces fields) rest none others zero = in_parts name Interface directives interfaces fields none
-  body_interfaces name cost directives (interface_body interfaces fields) rest none others (suc of) = others of
-  body_interfaces name cost directives (union_body members) rest none others zero = tt
-  body_interfaces name cost directives (union_body members) rest none others (suc of) = others of
-  body_interfaces name cost directives (enum_body values) rest none others zero = tt
-  body_interfaces name cost directives (enum_body values) rest none others (suc of) = others of
-  body_interfaces name cost directives (input_body fields) rest none others zero = tt
-  body_interfaces name cost directives (input_body fields) rest none others (suc of) = others of
+  body_interfaces : (name : NameText) (cost : Option (List ℕ)) (lax : Bool) (directives : List DirectiveTree) (body : BodyTree) (rest : List TypeDraft) → first_of (wrong_at types has) (body_items name directives body) ≡ None → AreOfInterfaces rest → AreOfInterfaces (body_draft types name cost lax body ++ rest)
+  body_interfaces name cost lax directives (schema_body roots) rest none others of = others of
+  body_interfaces name cost lax directives (directive_body arguments repeatable locations) rest none others of = others of
+  body_interfaces name cost lax directives scalar_body rest none others zero = tt
+  body_interfaces name cost lax directives scalar_body rest none others (suc of) = others of
+  body_interfaces name cost lax directives (object_body interfaces fields) rest none others zero = in_parts name Object directives interfaces fields none
+  body_interfaces name cost lax directives (object_body interfaces fields) rest none others (suc of) = others of
+  body_interfaces name cost lax directives (interface_body interfaces fields) rest none others zero = in_parts name Interface directives interfaces fields none
+  body_interfaces name cost lax directives (interface_body interfaces fields) rest none others (suc of) = others of
+  body_interfaces name cost lax directives (union_body members) rest none others zero = tt
+  body_interfaces name cost lax directives (union_body members) rest none others (suc of) = others of
+  body_interfaces name cost lax directives (enum_body values) rest none others zero = tt
+  body_interfaces name cost lax directives (enum_body values) rest none others (suc of) = others of
+  body_interfaces name cost lax directives (input_body fields) rest none others zero = tt
+  body_interfaces name cost lax directives (input_body fields) rest none others (suc of) = others of
 
   text_interfaces : (text : List DefinitionTree) (rest : List TypeDraft) → first_of (wrong_at types has) (items_of text) ≡ None → AreOfInterfaces rest → AreOfInterfaces (defined_drafts types text ++ rest)
   text_interfaces [] rest none others of = others of
   text_interfaces (d ∷ text) rest none others of =
       let apart = both_right (definition_items d) (items_of text) none in
       subst (λ (drafts : List TypeDraft). Each IsOfInterface (draft_at drafts of).interfaces) (sym (append_assoc (definition_draft types d) (defined_drafts types text) rest))
-      (body_interfaces d.1.0 (given_weight d.1.1) d.1.1 d.1.2 (defined_drafts types text ++ rest) apart.0 (text_interfaces text rest apart.1 others) of)
+      (body_interfaces d.1.0 (given_weight d.1.1) (is_lax d.1.1) d.1.1 d.1.2 (defined_drafts types text ++ rest) apart.0 (text_interfaces text rest apart.1 others) of)
 
   scalar_interfaces : (some : List NamedKind) → AreOfInterfaces (map scalar_draft some)
   scalar_interfaces [] of = tt
@@ -199,7 +199,7 @@ module _ (form : ℕ → InputForm) (types : List NamedKind) (ds : List TypeDraf
       let e : 0 + here.place ≡ here.place = omega arith in
       let at : number_named types name ≡ here.place = ap (or_past types) (here.placed ∙ ap Some e) in
       let same : named_kind (draft_at ds here.place) ≡ here.item =
-      sym (get_or-map named_kind ds here.place (bare [] Scalar None) here.item within) ∙ (ap (λ l. get_or l here.place here.item) agree ∙ here.there) in
+      sym (get_or-map named_kind ds here.place (bare [] Scalar None false) here.item within) ∙ (ap (λ l. get_or l here.place here.item) agree ∙ here.there) in
       let found : here.item.kind ≡ Interface = only_interface here.item.kind (sym (ap (λ o. is_interface (kind_or_scalar o)) here.found) ∙ is) in
       ap (λ n. (get_or (types_from form 0 ds) n no_type).kind) at ∙ (kind_at form 0 ds here.place within ∙ (ap (λ (t : NamedKind). t.kind) same ∙ found))
       ))

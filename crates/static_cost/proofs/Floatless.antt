@@ -4,7 +4,7 @@ use Rattle.std.proofs.lemmas.List.{drop-map}
 use Rattle.serde_json.specs.Written.{has_float}
 use Rattle.input_values.specs.coercion.Kinds.{scalar_kind}
 use Rattle.input_values.specs.declared.inputs.types.InputKind.{InputKind}
-use Rattle.input_values.specs.declared.inputs.types.InputKind.TheVariants.{Int, String, Boolean, Id, Custom, Enum as EnumInput, Object as ObjectInput, None as NoInput}
+use Rattle.input_values.specs.declared.inputs.types.InputKind.TheVariants.{Int, String, Boolean, Float, Id, Custom, Lax, Enum as EnumInput, Object as ObjectInput, None as NoInput}
 use Rattle.response_model.specs.Plan.{Form, single, listed}
 use Rattle.response_model.specs.Response.{Tree, no_entry, object, Entries}
 use Rattle.response_model.specs.Filled.{repeated, filled_in, filled_count}
@@ -18,7 +18,7 @@ use Rattle.plan_table.specs.declared.rows.NodeRow.{NodeRow}
 use Rattle.plan_table.specs.declared.table.Plan.{Plan}
 use Rattle.plan_table.specs.Rows.{Row, Below, leaf_below, objects_below}
 use Rattle.plan_table.specs.Tables.{meaning_of, below_at, row_of, row_in, setting_in}
-use Rattle.plan_table.specs.Texts.{IsFloatless, AreFloatless, HaveFloatless}
+use Rattle.response_model.specs.WrittenJson.{IsFloatless, AreFloatless, HaveFloatless}
 use Rattle.static_cost.specs.Choices.{item_by, entries_by}
 use Rattle.static_cost.specs.Filling.{entries_from_row}
 
@@ -26,19 +26,21 @@ scalar_floatless : (kind : InputKind) → has_float (scalar_fill kind) ≡ false
 scalar_floatless Int = refl
 scalar_floatless String = refl
 scalar_floatless Boolean = refl
+scalar_floatless Float = refl
 scalar_floatless Id = refl
 scalar_floatless Custom = refl
+scalar_floatless Lax = refl
 scalar_floatless EnumInput = refl
 scalar_floatless ObjectInput = refl
 scalar_floatless NoInput = refl
 
 fill_floatless : (kind : Kind) (t : TypeData) → has_float (fill_by kind t) ≡ false
 fill_floatless Enum t = refl
-fill_floatless Scalar t = scalar_floatless (scalar_kind t.name)
-fill_floatless Object t = scalar_floatless (scalar_kind t.name)
-fill_floatless Interface t = scalar_floatless (scalar_kind t.name)
-fill_floatless Union t = scalar_floatless (scalar_kind t.name)
-fill_floatless Input t = scalar_floatless (scalar_kind t.name)
+fill_floatless Scalar t = scalar_floatless (scalar_kind t.lax t.name)
+fill_floatless Object t = scalar_floatless (scalar_kind t.lax t.name)
+fill_floatless Interface t = scalar_floatless (scalar_kind t.lax t.name)
+fill_floatless Union t = scalar_floatless (scalar_kind t.lax t.name)
+fill_floatless Input t = scalar_floatless (scalar_kind t.lax t.name)
 
 abbrev BelowFloatless : Below → Type 0
 BelowFloatless (leaf_below type weight fill) = has_float fill ≡ false

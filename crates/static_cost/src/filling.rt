@@ -8,7 +8,7 @@ ghost use Rattle.response_model.specs.Filled.{repeated};
 ghost use Rattle.plan_table.specs.Tables.{setting_in};
 ghost use Rattle.schema_model.specs.SchemaData.{type_at};
 ghost use Rattle.plan_model.specs.SelectedFields.{fill_of};
-ghost use Rattle.plan_table.specs.Texts.{IsFloatless};
+ghost use Rattle.response_model.specs.WrittenJson.{IsFloatless};
 ghost use Rattle.plan_table.specs.Trees.{tree_of, keyed_tree, elements_from, entries_from};
 ghost use Rattle.plan_table.specs.TableBounds.{IsWithinCap};
 ghost use Rattle.static_cost.specs.Worst.{values, values_of_elements, values_of_entries, IsWorst, IsTooLarge};

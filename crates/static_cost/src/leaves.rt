@@ -46,6 +46,9 @@ pub(crate) fn fill_leaf(alloc: Global, schema: &Schema, leaf: TypeId) -> Result<
 {
     match schema.kind(leaf) {
         Kind::Enum => text_value(alloc, first_name(schema.enum_values(leaf))),
-        _ => fill_scalar(alloc, scalar_kind(schema.type_name(leaf).as_str())),
+        _ => fill_scalar(
+            alloc,
+            scalar_kind(schema.is_lax(leaf), schema.type_name(leaf).as_str()),
+        ),
     }
 }

@@ -130,7 +130,7 @@ const TOKENS: &[Advice] = &[
         fault: "5 FloatValue",
         inner: "",
         wrong: "The number that begins at the mark has a fraction or an exponent.",
-        helps: "Write a whole number, or a string.",
+        helps: "Write a whole number, or a string; a schema with the line `scalar Float @floats` lets such a number in.",
     },
 ];
 
@@ -197,8 +197,8 @@ const SCHEMA: &[Advice] = &[
     Advice {
         fault: "7 FloatScalar",
         inner: "",
-        wrong: "{*} is of the type Float, which isn't supported.",
-        helps: "Let the server send a whole number or a string there, and write Int, String, or a scalar of your own: a reply with a fraction is refused, and charged in full.",
+        wrong: "{*} is of the type Float, which this schema doesn't let in.",
+        helps: "Write the line `scalar Float @floats`; or let the server send a whole number or a string there, and write Int, String, or a scalar of your own.",
     },
     Advice {
         fault: "8 NestedList",
@@ -221,8 +221,8 @@ const SCHEMA: &[Advice] = &[
     Advice {
         fault: "11 BadDirective",
         inner: "",
-        wrong: "The `@cost` or `@listSize` at {*} isn't allowed there, stands twice, or has arguments that it may not have.",
-        helps: "Write `@cost(weight: \"1.5\")` or `@listSize(assumedSize: 10)`, once, with arguments of these types.",
+        wrong: "The `@cost`, `@listSize` or `@floats` at {*} isn't allowed there, stands twice, or has arguments that it may not have.",
+        helps: "Write `@cost(weight: \"1.5\")` or `@listSize(assumedSize: 10)`, once, with arguments of these types, and `@floats` at scalars alone.",
     },
     Advice {
         fault: "12 BadDefault",
@@ -454,7 +454,7 @@ const RULE: &[Advice] = &[
         fault: "16 VariableType",
         inner: "",
         wrong: "{@} is no scalar, enum or input object type that a variable may have.",
-        helps: "Give the variable such a type; Float isn't supported.",
+        helps: "Give the variable such a type; Float is one where the schema has the line `scalar Float @floats`.",
     },
     Advice {
         fault: "17 UndefinedVariable",

@@ -16,7 +16,8 @@ use Rattle.request_bodies.specs.Faults.{HasFault}
 use Rattle.request_bodies.specs.declared.fault.BodyFault.{BodyFault}
 use Rattle.request_bodies.specs.declared.fault.BodyFault.TheVariants as fault
 use Rattle.request_bodies.proofs.Bodies.{json_read}
-use Rattle.trusted_documents.specs.FilledBodies.{with_query, IsCompact, IsRequestFor, IsFaultFor, StandsFor}
+use Rattle.response_model.specs.WrittenJson.{IsCompact}
+use Rattle.trusted_documents.specs.FilledBodies.{with_query, IsRequestFor, IsFaultFor, StandsFor}
 use Rattle.trusted_documents.proofs.FilledObjects.{filled_depth, still_object, kept_under, query_put}
 
 -- ---- the text

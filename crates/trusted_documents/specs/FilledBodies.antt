@@ -1,11 +1,8 @@
 -- The body that stands for a client's where a document is put in for the query.
 use Rattle.std.specs.Prelude.{◌≡◌, ◌↔◌, ℕ, false, List, Some, None, cond, codes, IsUtf8}
 use Rattle.std.specs.Str.{bytes_eq}
-use Rattle.json.specs.Lex.{tokens}
-use Rattle.json.specs.Print.{print}
 use Rattle.serde_json.specs.Data.{Data, string, object, Members, no_members, member, put}
-use Rattle.serde_json.specs.Read.{read}
-use Rattle.serde_json.specs.Written.{has_float, compact_text, IsInOrder}
+use Rattle.response_model.specs.WrittenJson.{IsCompact}
 use Rattle.request_bodies.specs.Bodies.{RequestData, name_in, variables_in, IsRequest}
 use Rattle.request_bodies.specs.Faults.{HasName, HasFault}
 use Rattle.request_bodies.specs.declared.fault.BodyFault.{BodyFault}
@@ -20,15 +17,6 @@ without key (member k value rest) = cond (bytes_eq key k) rest (member k value (
 abbrev pub with_query : List ℕ → Data → Data
 with_query query (object members) = object (without (codes "extensions") (put (codes "query") (string query) members))
 with_query query other = other
-
--- The bytes are the compact text of this JSON: UTF-8, no space between tokens, members and items in their order, and they are
--- read as this JSON. With which digits floats are written isn't said; without floats it is one text.
-pub record IsCompact (json : Data) (bytes : List ℕ) : Type 0 where
-  pub utf8 : IsUtf8 bytes
-  pub no_space : bytes ≡ print (tokens bytes)
-  pub in_order : IsInOrder bytes json
-  pub is_read : read bytes ≡ Some json
-  pub text : has_float json ≡ false → bytes ≡ compact_text json
 
 -- the request for a document, with the name and the variables of the client's object
 pub record IsRequestFor (document : List ℕ) (json : Data) (asked : RequestData) : Type 0 where

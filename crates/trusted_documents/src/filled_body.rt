@@ -5,7 +5,8 @@ ghost use Rattle.serde_json.specs.Data.{depth};
 ghost use Rattle.serde_json.specs.Find.{as_object};
 ghost use Rattle.serde_json.specs.Read.{max_depth};
 ghost use Rattle.serde_json.specs.View.{view};
-ghost use Rattle.trusted_documents.specs.FilledBodies.{with_query, IsCompact, StandsFor};
+ghost use Rattle.response_model.specs.WrittenJson.{IsCompact};
+ghost use Rattle.trusted_documents.specs.FilledBodies.{with_query, StandsFor};
 
 use serde_json::Value;
 use std::alloc::{AllocError, Global};

@@ -1,12 +1,12 @@
 -- Printing selections with what is added.
-use Rattle.std.proofs.Common.{ℕ, ◌≡◌, ◌==◌, Bool, true, false, List, [], ◌∷◌, ◌++◌, length, map, Option, None, Some, refl, sym, ap, ◌∙◌, append_assoc, append-nil}
+use Rattle.std.proofs.Common.{ℕ, ◌≡◌, ◌==◌, Bool, true, false, List, [], ◌∷◌, ◌++◌, length, map, Option, refl, sym, ap, ◌∙◌, append_assoc, append-nil}
 use Rattle.std.specs.List.{flat_map}
 use Rattle.gql_base.specs.declared.lexical.token.TokenKind.TheVariants.{Spread, Colon, OpenBrace, CloseBrace}
 use Rattle.gql_base.specs.ways.Symbols.{punctuator, Symbols}
 use Rattle.gql_base.specs.ways.Reading.{Identifier}
 use Rattle.gql_base.specs.parts.Values.{NamedValue}
 use Rattle.gql_base.specs.parts.Arguments.{DirectiveTree}
-use Rattle.gql_base.specs.parts.Trees.{identifier_of, named_value, directive_tree}
+use Rattle.gql_base.specs.parts.Trees.{named_value, directive_tree}
 use Rattle.std.specs.Borrow.{Bor}
 use Rattle.gql_base.specs.printing.Printing.{Printed, put, put_all}
 use Rattle.gql_base.specs.printing.PrintedTrees.{printed_name}
@@ -15,8 +15,7 @@ use Rattle.document_reader.specs.declared.trees.Selection.{Selection}
 use Rattle.document_reader.specs.declared.trees.Field.{Field}
 use Rattle.document_reader.specs.declared.trees.Operation.{Operation}
 use Rattle.document_reader.specs.declared.trees.Fragment.{Fragment}
-use Rattle.document_reader.specs.Documents.{FieldNames, SelectionTree, field_selection, fragment_spread, inline_fragment, SelectionTrees, no_selection, selection_then}
-use Rattle.document_reader.specs.DocumentReading.{selections_from}
+use Rattle.document_reader.specs.Documents.{FieldNames, SelectionTree, fragment_spread, inline_fragment, SelectionTrees, no_selection, selection_then}
 use Rattle.document_reader.specs.Trees.{names_of, selection_tree, field_tree, set_tree}
 use Rattle.document_reader.specs.PrintedDocuments.{arguments_symbols, directives_symbols, names_symbols, condition_symbols, selection_symbols, set_symbols, selections_symbols, definition_symbols, document_symbols}
 use Rattle.document_reader.proofs.PrintingSteps.{nothing_more, one_more, tree_of_spread, open_field}
@@ -24,7 +23,7 @@ use Rattle.document_reader.proofs.ReadingSteps.{tree_of_field, tree_of_inline}
 use Rattle.schema_model.specs.SchemaData.{SchemaData}
 use Rattle.document_rules.specs.Parts.{fragment_data}
 use Rattle.document_rules.proofs.Lists.{map_twice}
-use Rattle.document_rules.specs.Sites.{typename, meaning_on, below_field, below_inline, name_of_field}
+use Rattle.document_rules.specs.Sites.{typename, meaning_on, below_field, below_inline}
 use Rattle.document_rules.proofs.SiteSteps.{name_of_names}
 use Rattle.plan_model.specs.SelectedFields.{is_abstract, written_below, is_asked}
 use Rattle.typename_rewrite.specs.Rewriting.{typename_under, and_then, ended, call_of, rewritten_selection, rewritten_selections, rewritten_operation, rewritten_definition, rewritten_document}

@@ -1,5 +1,5 @@
 -- The pieces of the body, one after another.
-use Rattle.std.proofs.Common.{ℕ, ◌≡◌, Bool, true, false, List, [], ◌∷◌, ◌++◌, Option, None, Some, refl, sym, ap, ◌∙◌, subst, append_assoc}
+use Rattle.std.proofs.Common.{ℕ, ◌≡◌, Bool, true, false, List, [], ◌∷◌, ◌++◌, Option, None, Some, refl, ap, ◌∙◌, subst, append_assoc}
 use Rattle.std.specs.Prelude.{codes, if◌then◌else◌}
 use Rattle.std.proofs.lemmas.Bool.{or_parts}
 use Rattle.serde_json.specs.Data.{Data, string, object, Members, no_members, member}
@@ -49,10 +49,10 @@ ended_text : (document variables : List ℕ) → key_text (codes "query") ++ (do
 ended_text document variables = append_assoc (key (codes "query")) (codes ":") (document ++ (codes "," ++ (key_text (codes "variables") ++ (variables ++ codes "}"))))
     ∙ ap (λ l. key (codes "query") ++ (58 ∷ (document ++ (44 ∷ l)))) (append_assoc (key (codes "variables")) (codes ":") (variables ++ codes "}"))
 
-abbrev all_pieces : Option Identifier → List ℕ → Members → List ℕ
-all_pieces name document variables = codes "{" ++ (name_text name ++ (key_text (codes "query") ++ (compact_text (string document) ++ (codes "," ++ (key_text (codes "variables") ++ (compact_text (object variables) ++ codes "}"))))))
+abbrev pub pieces_with : Option Identifier → List ℕ → List ℕ → List ℕ
+pieces_with name document variables = codes "{" ++ (name_text name ++ (key_text (codes "query") ++ (compact_text (string document) ++ (codes "," ++ (key_text (codes "variables") ++ (variables ++ codes "}"))))))
 
-body_text : (name : Option Identifier) (document : List ℕ) (variables : Members) → all_pieces name document variables ≡ compact_text (body_with name document variables)
+body_text : (name : Option Identifier) (document : List ℕ) (variables : Members) → pieces_with name document (compact_text (object variables)) ≡ compact_text (body_with name document variables)
 body_text None document variables = ap (λ l. codes "{" ++ l) (ended_text (compact_text (string document)) (compact_text (object variables)))
 body_text (Some name) document variables =
     let operation = key (codes "operationName") in
@@ -65,11 +65,16 @@ eight_pieces : (a b c d e f g h : List ℕ) → ((((((a ++ b) ++ c) ++ d) ++ e) 
 eight_pieces a b c d e f g h = append_assoc (((((a ++ b) ++ c) ++ d) ++ e) ++ f) g h ∙ (append_assoc ((((a ++ b) ++ c) ++ d) ++ e) f (g ++ h) ∙ (append_assoc (((a ++ b) ++ c) ++ d) e (f ++ (g ++ h))
     ∙ (append_assoc ((a ++ b) ++ c) d (e ++ (f ++ (g ++ h))) ∙ (append_assoc (a ++ b) c (d ++ (e ++ (f ++ (g ++ h)))) ∙ append_assoc a b (c ++ (d ++ (e ++ (f ++ (g ++ h)))))))))
 
+pub body_pieces : (name : Option Identifier) (document variables : List ℕ) (a b c d e f g h : List ℕ) → a ≡ codes "{" → b ≡ a ++ name_text name → c ≡ b ++ key_text (codes "query") → d ≡ c ++ compact_text (string document) → e ≡ d ++ codes ","
+    → f ≡ e ++ key_text (codes "variables") → g ≡ f ++ variables → h ≡ g ++ codes "}" → h ≡ pieces_with name document variables
+body_pieces name document variables a b c d e f g h one two three four five six seven eight =
+    eight ∙ (ap (λ l. l ++ codes "}") (seven ∙ ap (λ l. l ++ variables) (six ∙ ap (λ l. l ++ key_text (codes "variables")) (five ∙ ap (λ l. l ++ codes ",") (four ∙ ap (λ l. l ++ compact_text (string document)) (three ∙ ap (λ l. l ++ key_text (codes "query")) (two ∙ ap (λ l. l ++ name_text name) one))))))
+    ∙ eight_pieces (codes "{") (name_text name) (key_text (codes "query")) (compact_text (string document)) (codes ",") (key_text (codes "variables")) variables (codes "}"))
+
 pub body_put : (name : Option Identifier) (document : List ℕ) (variables : Members) (a b c d e f g h : List ℕ) → a ≡ codes "{" → b ≡ a ++ name_text name → c ≡ b ++ key_text (codes "query") → d ≡ c ++ compact_text (string document) → e ≡ d ++ codes ","
     → f ≡ e ++ key_text (codes "variables") → g ≡ f ++ compact_text (object variables) → h ≡ g ++ codes "}" → h ≡ compact_text (body_with name document variables)
 body_put name document variables a b c d e f g h one two three four five six seven eight =
-    eight ∙ (ap (λ l. l ++ codes "}") (seven ∙ ap (λ l. l ++ compact_text (object variables)) (six ∙ ap (λ l. l ++ key_text (codes "variables")) (five ∙ ap (λ l. l ++ codes ",") (four ∙ ap (λ l. l ++ compact_text (string document)) (three ∙ ap (λ l. l ++ key_text (codes "query")) (two ∙ ap (λ l. l ++ name_text name) one))))))
-    ∙ (eight_pieces (codes "{") (name_text name) (key_text (codes "query")) (compact_text (string document)) (codes ",") (key_text (codes "variables")) (compact_text (object variables)) (codes "}") ∙ body_text name document variables))
+    body_pieces name document (compact_text (object variables)) a b c d e f g h one two three four five six seven eight ∙ body_text name document variables
 
 -- ---- the names of variables
 

@@ -1,19 +1,15 @@
 -- The names of selections and definitions.
 use Rattle.std.proofs.Common.{ℕ, ◌≡◌, List, [], ◌∷◌, ◌++◌, map, Option, None, Some, refl, sym, ap, ◌∙◌, append_assoc, append-nil}
-use Rattle.std.specs.Prelude.{codes}
 use Rattle.std.specs.List.{flat_map}
 use Rattle.gql_base.specs.declared.lexical.token.TokenKind.TheVariants.{CloseBrace}
-use Rattle.gql_base.specs.declared.parts.trees.OperationKind.{OperationKind}
 use Rattle.gql_base.specs.ways.Symbols.{punctuator}
 use Rattle.gql_base.specs.ways.Reading.{Identifier}
-use Rattle.gql_base.specs.parts.Values.{ValueTree, NamedValue}
+use Rattle.gql_base.specs.parts.Values.{NamedValue}
 use Rattle.gql_base.specs.parts.Arguments.{DirectiveTree}
-use Rattle.gql_base.specs.printing.PrintedTrees.{value_symbols, type_symbols}
 use Rattle.document_reader.specs.declared.trees.Selection.{Selection}
-use Rattle.document_reader.specs.Documents.{FieldNames, SelectionTree, field_selection, fragment_spread, inline_fragment, SelectionTrees, no_selection, selection_then, VariableTree, operation_tree, fragment_tree}
-use Rattle.document_reader.specs.DocumentReading.{selections_from}
+use Rattle.document_reader.specs.Documents.{FieldNames, field_selection, fragment_spread, inline_fragment, SelectionTrees, no_selection, selection_then}
 use Rattle.document_reader.specs.Trees.{selection_tree, set_tree}
-use Rattle.document_reader.specs.PrintedDocuments.{arguments_symbols, directives_symbols, names_symbols, condition_symbols, selection_symbols, set_symbols, selections_symbols, default_symbols, variable_symbols, variables_symbols, kind_name, maybe_name_symbols, definition_symbols}
+use Rattle.document_reader.specs.PrintedDocuments.{arguments_symbols, directives_symbols, names_symbols, condition_symbols, selection_symbols, set_symbols, selections_symbols}
 use Rattle.document_reader.proofs.PrintingSteps.{tree_of_spread, open_field}
 use Rattle.document_reader.proofs.ReadingSteps.{tree_of_field, tree_of_inline}
 use Rattle.typename_rewrite.specs.AddedNames.{names_in}

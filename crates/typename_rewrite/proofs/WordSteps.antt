@@ -10,15 +10,14 @@ use Rattle.gql_base.specs.declared.lexical.token.TokenKind.TheVariants.{CloseBra
 use Rattle.gql_base.specs.declared.parts.trees.Value.{Value}
 use Rattle.gql_base.specs.declared.parts.trees.Argument.{Argument}
 use Rattle.gql_base.specs.declared.parts.trees.Directive.{Directive}
-use Rattle.gql_base.specs.ways.Symbols.{Symbol, punctuator, Symbols}
-use Rattle.gql_base.specs.parts.Values.{ValueTree, variable_value, integer_value, string_value, boolean_value, null_value, enum_value, list_value, object_value, ValueTrees, FieldTrees, values_from, fields_from, NamedValue}
+use Rattle.gql_base.specs.ways.Symbols.{punctuator, Symbols}
+use Rattle.gql_base.specs.parts.Values.{variable_value, integer_value, float_value, string_value, boolean_value, null_value, enum_value, list_value, object_value, ValueTrees, FieldTrees, values_from, fields_from, NamedValue}
 use Rattle.gql_base.specs.parts.TypeReferences.{TypeTree, named_type, list_type, non_null_type}
-use Rattle.gql_base.specs.parts.Arguments.{DirectiveTree}
 use Rattle.gql_base.specs.parts.Trees.{value_tree, named_value, directive_tree}
 use Rattle.gql_base.specs.printing.PrintedTrees.{printed_name, boolean_name, value_symbols, values_symbols, fields_symbols, type_symbols, in_parentheses}
 use Rattle.gql_base.proofs.PrintingLaws.PrintSteps.{open_argument}
-use Rattle.gql_base.proofs.PartLaws.ValueSteps.{variable_tree, integer_tree, string_tree, boolean_tree, null_tree, enum_tree, list_tree, object_tree, named_type_tree, list_type_tree, non_null_tree}
-use Rattle.document_reader.specs.PrintedDocuments.{argument_symbols, arguments_symbols, directive_symbols, directives_symbols}
+use Rattle.gql_base.proofs.PartLaws.ValueSteps.{variable_tree, integer_tree, float_tree, string_tree, boolean_tree, null_tree, enum_tree, list_tree, object_tree, named_type_tree, list_type_tree, non_null_tree}
+use Rattle.document_reader.specs.PrintedDocuments.{argument_symbols, arguments_symbols, directive_symbols}
 use Rattle.typename_rewrite.specs.AddedNames.{name_in, names_in}
 
 -- ---- names of symbols
@@ -68,6 +67,10 @@ pub names_of_integer : (v : ℤ) → names_in (value_symbols (integer_value v)) 
 unfolding names_in value_symbols
 names_of_integer v = refl
 
+pub names_of_float : (digits : List ℕ) → names_in (value_symbols (float_value digits)) ≡ []
+unfolding names_in value_symbols
+names_of_float digits = refl
+
 pub names_of_string : (v : List ℕ) → names_in (value_symbols (string_value v)) ≡ []
 unfolding names_in value_symbols
 names_of_string v = refl
@@ -106,7 +109,7 @@ unfolding names_in value_symbols
 names_of_fields [] = refl
 names_of_fields (f ∷ fs) = names_append (argument_symbols (named_value f)) (fields_symbols (fields_from (map named_value fs))) ∙ ap (λ l. names_in (argument_symbols (named_value f)) ++ l) (names_of_fields fs)
 
-pub ruleset value_steps = (variable_tree, integer_tree, string_tree, boolean_tree, null_tree, enum_tree, list_tree, object_tree, names_of_variable, names_of_integer, names_of_string, names_of_boolean, names_of_null, names_of_enum, names_of_list, names_of_object, names_of_argument, open_argument, append_assoc, append-nil)
+pub ruleset value_steps = (variable_tree, integer_tree, float_tree, string_tree, boolean_tree, null_tree, enum_tree, list_tree, object_tree, names_of_variable, names_of_integer, names_of_float, names_of_string, names_of_boolean, names_of_null, names_of_enum, names_of_list, names_of_object, names_of_argument, open_argument, append_assoc, append-nil)
 
 -- ---- types
 

@@ -1,7 +1,7 @@
 -- The alias that no name of a document is equal to.
 use Rattle.std.specs.Prelude.{ℕ, ◌<◌, ◌≡◌, Bool, true, false, List, [], ◌∷◌, ◌++◌, flat_map, replicate, codes}
 use Rattle.gql_base.specs.names.Names.{has_name}
-use Rattle.gql_base.specs.ways.Symbols.{Symbol, punctuator, identifier, integer, string, Symbols}
+use Rattle.gql_base.specs.ways.Symbols.{Symbol, punctuator, identifier, integer, decimal, string, Symbols}
 use Rattle.document_reader.specs.Documents.{DefinitionTree}
 use Rattle.document_reader.specs.PrintedDocuments.{document_symbols}
 
@@ -9,6 +9,7 @@ abbrev pub name_in : Symbol → List (List ℕ)
 name_in (identifier bytes at) = bytes ∷ []
 name_in (punctuator kind) = []
 name_in (integer value) = []
+name_in (decimal bytes) = []
 name_in (string value) = []
 
 unfoldable pub names_in : Symbols → List (List ℕ)

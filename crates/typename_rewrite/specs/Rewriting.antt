@@ -1,9 +1,7 @@
 -- The document that is sent in place of an operation's own: the operation, and behind it the fragments that it reaches. Where a
 -- field's type is an interface or a union, its selections end with the name of the object's type, under an alias.
 use Rattle.std.specs.Prelude.{ℕ, Bool, List, [], ◌∷◌, map, Option, Some, if◌then◌else◌}
-use Rattle.gql_base.specs.ways.Reading.{Identifier}
 use Rattle.gql_base.specs.parts.Values.{NamedValue}
-use Rattle.gql_base.specs.parts.Arguments.{DirectiveTree}
 use Rattle.gql_base.specs.parts.Trees.{directive_tree}
 use Rattle.document_reader.specs.declared.trees.Operation.{Operation}
 use Rattle.document_reader.specs.Documents.{FieldNames, SelectionTree, field_selection, fragment_spread, inline_fragment, SelectionTrees, no_selection, selection_then, DefinitionTree, operation_tree, fragment_tree}

@@ -1,12 +1,15 @@
 //! The body of the request in which an operation is sent.
 
-ghost use Rattle.std.specs.Prelude.{◌≡◌, ◌++◌, false, string_bytes, map, IfOk, OnOk};
+ghost use Rattle.std.specs.Prelude.{◌≡◌, ◌≤◌, ◌++◌, false, string_bytes, map, IfOk, OnOk};
 ghost use Rattle.serde_json.specs.View.{view, members_view};
+ghost use Rattle.serde_json.specs.Data.{depth};
+ghost use Rattle.serde_json.specs.Read.{max_depth};
 ghost use Rattle.serde_json.specs.Written.{has_float, compact_text};
+ghost use Rattle.response_model.specs.WrittenJson.{Appends};
 ghost use Rattle.gql_base.specs.names.Names.{has_name};
 ghost use Rattle.document_reader.specs.Trees.{maybe_identifier, variable_tree};
 ghost use Rattle.typename_rewrite.specs.Views.{word_text};
-ghost use Rattle.typename_rewrite.specs.ForwardedBodies.{AppendsObject, variable_name, members_where, members_of, sent_variables, body_data, name_text, member_text};
+ghost use Rattle.typename_rewrite.specs.ForwardedBodies.{AppendsObject, variable_name, members_where, members_of, sent_variables, body_data, name_text, member_text, IsMemberText, IsWrittenBody};
 
 use crate::rewriting::Rewritten;
 use crate::words::{Word, add_name};
@@ -38,7 +41,8 @@ fn write_member(
     value: &Value,
     into: &mut String,
 ) -> Result<(), AllocError>
-    ensures { OnOk result (has_float (view value.now) ≡ false → string_bytes into.new ≡ string_bytes into.old ++ member_text later key.now (view value.now)) }
+    ensures written { OnOk result (depth (view value.now) ≤ max_depth → Appends (IsMemberText later key.now (view value.now)) (string_bytes into.old) (string_bytes into.new)) }
+    ensures text { OnOk result (has_float (view value.now) ≡ false → string_bytes into.new ≡ string_bytes into.old ++ member_text later key.now (view value.now)) }
 {
     if later {
         into.push_str(",")?;
@@ -97,14 +101,15 @@ fn write_variables(
 
 /// The body of the request in which an operation is sent, as serde_json writes it compactly: `operationName` where the
 /// operation has a name, the rewritten document as `query`, and as `variables` those of the given values whose variables
-/// the operation defines. Nothing is said of the text of a body that holds a float. It fails for want of memory alone.
+/// the operation defines. Of a number that isn't whole its text says only that it reads as it is given. It fails for want of memory alone.
 pub fn forwarded_body(
     alloc: Global,
     operation: &Operation,
     rewritten: &Rewritten,
     given: &Value,
 ) -> Result<String, AllocError>
-    ensures { IfOk result (λ body. has_float (body_data operation.now rewritten.now.text (view given.now)) ≡ false → string_bytes body ≡ compact_text (body_data operation.now rewritten.now.text (view given.now))) }
+    ensures written { IfOk result (λ body. IsWrittenBody (body_data operation.now rewritten.now.text (view given.now)) (string_bytes body)) }
+    ensures text { IfOk result (λ body. has_float (body_data operation.now rewritten.now.text (view given.now)) ≡ false → string_bytes body ≡ compact_text (body_data operation.now rewritten.now.text (view given.now))) }
 {
     let mut body = String::from_str(alloc, "{")?;
     write_name(alloc, &operation.name, &mut body)?;

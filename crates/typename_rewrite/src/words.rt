@@ -55,6 +55,7 @@ pub fn add_value<'a>(words: &mut Vec<Word<'a>>, value: &'a Value) -> Result<(), 
     match value {
         Value::Var(name) => add_name(words, name),
         Value::Int(_) => Ok(()),
+        Value::Float(_) => Ok(()),
         Value::Str(_) => Ok(()),
         Value::Bool(value) => add_word(words, boolean_name(*value)),
         Value::Null => add_word(words, "null"),

@@ -7,7 +7,8 @@ use Rattle.std.proofs.lemmas.Option.{none-some}
 use Rattle.std.proofs.lemmas.Cmp.{nat_list_eq_equiv}
 use Rattle.std.proofs.lemmas.Map.Text.{is_eq-slice_cmp}
 use Rattle.serde_json.specs.Data.{Data, unsigned, negative, float, null, boolean, number, string, array, object, Members, no_members, member}
-use Rattle.serde_json.specs.Find.{get_member}
+use Rattle.serde_json.specs.Find.{get_member, to_float}
+use Rattle.input_values.specs.values.Floats.{finite_bits}
 use Rattle.serde_json.specs.View.{view, items_view}
 use Rattle.serde_json.specs.declared.value.Value.{Value}
 use Rattle.input_values.specs.values.Coerced.{CoercedTree, CoercedTrees, no_coerced}
@@ -16,8 +17,8 @@ use Rattle.input_values.specs.declared.values.coerced.Coerced.{Coerced}
 use Rattle.input_values.specs.declared.coercion.faults.CoercionFault.{CoercionFault}
 use Rattle.input_values.specs.declared.coercion.faults.CoercionFault.TheVariants.{BadValue, Memory}
 use Rattle.input_values.specs.coercion.Answers.{Answer, item_step, at_step, mapped}
-use Rattle.input_values.specs.coercion.Given.{given_then, given_object, given_names, present}
-use Rattle.input_values.specs.coercion.Forms.{InputForm, custom_form, object_form, FieldForm, is_field, fields_of}
+use Rattle.input_values.specs.coercion.Given.{bits_given, given_then, given_object, given_names, present}
+use Rattle.input_values.specs.coercion.Forms.{InputForm, custom_form, lax_form, object_form, FieldForm, is_field, fields_of}
 use Rattle.input_values.specs.coercion.Customs.{any_value}
 use Rattle.input_values.specs.coercion.Objects.{Finder, wrong_name, field_answer, fields_at, object_of, object_by, object_at}
 use Rattle.input_values.specs.coercion.Coercion.{coerced, items_coerced, find_coerced}
@@ -62,12 +63,16 @@ known_here fields name names whole known same =
 
 -- ## The member of a name
 
+present_bits : {A : Type 0} (bits : Option ℕ) (x : A) → present (bits_given bits) x ≡ Some x
+present_bits None x = refl
+present_bits (Some bits) x = refl
+
 present_json : {A : Type 0} (d : Data) (x : A) → present (json_given d) x ≡ Some x
 present_json null x = refl
 present_json (boolean b) x = refl
 present_json (number (unsigned n)) x = refl
 present_json (number (negative n)) x = refl
-present_json (number (float n)) x = refl
+present_json (number (float n)) x = present_bits (finite_bits (to_float (float n))) x
 present_json (string s) x = refl
 present_json (array ds) x = refl
 present_json (object ms) x = refl
@@ -106,10 +111,13 @@ field_absent limit form i ms before after r is c = subst (λ x. CoercesField lim
 -- ## Objects at types
 
 pub json_object : (form : InputForm) (find : Finder) (ms : Members) → form ≡ object_form (fields_of form) → object_of (wrong_name true (fields_of form) [] (given_names (json_members ms))) (fields_at (fields_of form) find) ≡ object_at form true (json_members ms) find
-json_object form find ms is = ap (λ f. object_by f (λ inputs. object_of (wrong_name true inputs [] (given_names (json_members ms))) (fields_at inputs find)) (any_value (given_object true (json_members ms)))) (sym is)
+json_object form find ms is = ap (λ f. object_by f (λ inputs. object_of (wrong_name true inputs [] (given_names (json_members ms))) (fields_at inputs find)) (λ lax. any_value lax (given_object true (json_members ms)))) (sym is)
 
-pub json_custom : (form : InputForm) (find : Finder) (ms : Members) → form ≡ custom_form → any_value (given_object true (json_members ms)) ≡ object_at form true (json_members ms) find
-json_custom form find ms is = ap (λ f. object_by f (λ inputs. object_of (wrong_name true inputs [] (given_names (json_members ms))) (fields_at inputs find)) (any_value (given_object true (json_members ms)))) (sym is)
+pub json_custom : (form : InputForm) (find : Finder) (ms : Members) → form ≡ custom_form → any_value false (given_object true (json_members ms)) ≡ object_at form true (json_members ms) find
+json_custom form find ms is = ap (λ f. object_by f (λ inputs. object_of (wrong_name true inputs [] (given_names (json_members ms))) (fields_at inputs find)) (λ lax. any_value lax (given_object true (json_members ms)))) (sym is)
+
+pub json_lax : (form : InputForm) (find : Finder) (ms : Members) → form ≡ lax_form → any_value true (given_object true (json_members ms)) ≡ object_at form true (json_members ms) find
+json_lax form find ms is = ap (λ f. object_by f (λ inputs. object_of (wrong_name true inputs [] (given_names (json_members ms))) (fields_at inputs find)) (λ lax. any_value lax (given_object true (json_members ms)))) (sym is)
 
 -- ## What is inside is smaller
 

@@ -38,6 +38,7 @@ fn undefined_in_value(
         Value::List(items) => undefined_in_items(work, variables, items.as_slice()),
         Value::Object(fields) => undefined_in(work, variables, fields.as_slice()),
         Value::Int(_number) => None,
+        Value::Float(_text) => None,
         Value::Str(_text) => None,
         Value::Bool(_truth) => None,
         Value::Null => None,

@@ -152,6 +152,7 @@ fn in_value(
             in_fields(fields.as_slice(), rule, inputs)
         }
         Value::Int(_number) => None,
+        Value::Float(_text) => None,
         Value::Str(_text) => None,
         Value::Bool(_truth) => None,
         Value::Null => None,

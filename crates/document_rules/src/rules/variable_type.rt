@@ -1,4 +1,4 @@
-//! A variable has an input type (GraphQL October 2021, 5.8.2). Float is none here.
+//! A variable has an input type (GraphQL October 2021, 5.8.2). Float is one where the schema lets it in.
 
 ghost use Rattle.std.specs.Prelude.{◌≡◌, option_map};
 ghost use Rattle.gql_base.specs.parts.Trees.{type_tree, identifier_of};
@@ -39,11 +39,11 @@ fn no_input(schema: &Schema, name: &Name) -> Option<usize>
     ensures { result ≡ no_input (schema_data schema.now) (identifier_of name.now) }
 {
     let text = name.text.as_str();
-    let wrong = text == "Float" || !is_input(schema, schema.find(text));
+    let wrong = (text == "Float" && !schema.takes_float()) || !is_input(schema, schema.find(text));
     fault_where(wrong, name.at)
 }
 
-/// Refuses a variable whose type names no scalar, enum or input object type, or names Float.
+/// Refuses a variable whose type names no scalar, enum or input object type, or names Float where the schema does not let it in.
 #[derive(Clone, Copy)]
 pub struct VariableType<'c> {
     pub schema: &'c Schema,

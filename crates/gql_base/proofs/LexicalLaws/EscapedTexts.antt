@@ -1,7 +1,8 @@
 -- An escaped string is what may stand between the marks of a string, and it stands for what was escaped.
-use Rattle.std.proofs.Common.{◌≡◌, ◌⊎◌, inl, inr, ℕ, suc, ◌+◌, ◌<◌, ◌≤◌, Bool, true, false, not, ◌==◌, ◌&&◌, List, [], ◌∷◌, ◌++◌, length, get_or, IsUtf8, refl, sym, ap, ◌∙◌, arith, Some, None, subst, nat_le, append_assoc, append-nil}
+use Rattle.std.proofs.Common.{◌≡◌, ◌⊎◌, inl, inr, ℕ, zero, suc, ◌+◌, ◌*◌, ◌<◌, ◌≤◌, Bool, true, false, not, ◌==◌, ◌&&◌, List, [], ◌∷◌, ◌++◌, length, get_or, IsUtf8, refl, sym, ap, ◌∙◌, arith, Option, Some, None, subst, nat_le, append_assoc, append-nil}
+use Rattle.std.specs.Prelude.{◌/◌, ◌%◌}
 use Rattle.std.specs.List.{AllPass, flat_map}
-use Rattle.std.specs.Char.{encode_utf8}
+use Rattle.std.specs.Char.{encode_utf8, is_ascii_control}
 use Rattle.std.specs.Str.{chars}
 use Rattle.std.proofs.Math.Utf8.{encode, encodes, scalar, scalars}
 use Rattle.std.proofs.lemmas.Bool.{cases_Bool, cases_lt, eqb-true, and_parts}
@@ -9,13 +10,13 @@ use Rattle.std.proofs.lemmas.Bool.Decides.{nat_tests}
 use Rattle.std.proofs.lemmas.List.{length-append}
 use Rattle.std.proofs.lemmas.List.Elements.{All-nil, All-cons, All-head, All-tail}
 use Rattle.std.proofs.lemmas.Str.{IsUtf8-nil, IsUtf8-append, IsUtf8-encode, encode_ascii, inside_one, encodes-chars, scalars-chars}
-use Rattle.gql_base.specs.lexical.Characters.{is_line_end, is_comment_byte}
-use Rattle.gql_base.specs.lexical.Strings.{begins_with_marks, letter_escape}
-use Rattle.gql_base.specs.lexical.Scans.{closed_at, escape_with, escape_at, text_step, text_fault, text_value}
-use Rattle.gql_base.specs.printing.Printing.{escaped, all_escaped}
-use Rattle.gql_base.specs.printing.PrintableSymbols.{is_printable_byte}
+use Rattle.gql_base.specs.lexical.Characters.{is_line_end, is_comment_byte, is_hex, hex_value}
+use Rattle.gql_base.specs.lexical.Strings.{begins_with_marks, letter_escape, is_leading, is_trailing}
+use Rattle.gql_base.specs.lexical.Scans.{closed_at, code_unit, escape_with, code_escape, escape_at, text_step, text_fault, text_value}
+use Rattle.gql_base.specs.printing.Printing.{upper_digit, escape_number, numbered, escaped, all_escaped}
 use Rattle.gql_base.proofs.LexicalLaws.Escapes.{no_escape}
 use Rattle.gql_base.proofs.LexicalLaws.StringValues.{value_alone, value_escape}
+use Rattle.gql_base.proofs.PrintingLaws.OneLine.{control_small, numbered_control, numbered_plain}
 
 -- ---- bytes between marks
 
@@ -103,9 +104,82 @@ stands_letter letter c is same_line = record {
   first = refl;
 }
 
+-- ---- a control character by its number
+
+-- the last two digits of the number of a control character are its own
+abbrev is_own : ℕ → Bool
+is_own c = is_hex (upper_digit (c / 16)) && (is_hex (upper_digit (c % 16)) && ((hex_value (upper_digit (c / 16)) * 16 + hex_value (upper_digit (c % 16))) == c))
+
+abbrev own_below : ℕ → Bool
+own_below zero = true
+own_below (suc n) = is_own n && own_below n
+
+own_at : (n : ℕ) → own_below n ≡ true → (c : ℕ) → c < n → is_own c ≡ true
+own_at zero all c below = absurd (omega (arith, below))
+own_at (suc n) all c below =
+    let parts = and_parts (is_own n) (own_below n) all in
+    elim (cases_lt c n) [
+      | inl less ↦ own_at n parts.1 c less
+      | inr here ↦ let same : n ≡ c = omega (arith, below, here) in subst (λ k. is_own k ≡ true) same parts.0
+    ]
+
+-- `\u00` and two digits
+record HasDigits (c : ℕ) : Type 0 where
+  first : is_hex (upper_digit (c / 16)) ≡ true
+  second : is_hex (upper_digit (c % 16)) ≡ true
+  meant : hex_value (upper_digit (c / 16)) * 16 + hex_value (upper_digit (c % 16)) ≡ c
+
+digits_of : (c : ℕ) → c < 128 → HasDigits c
+digits_of c small =
+    let all = and_parts (is_hex (upper_digit (c / 16))) _ (own_at 128 refl c small) in
+    let rest = and_parts (is_hex (upper_digit (c % 16))) _ all.1 in
+    record { first = all.0; second = rest.0; meant = eqb-true _ c rest.1 }
+
+no_leading : (c : ℕ) → c < 128 → is_leading c ≡ false
+no_leading c small = grind (arith, nat_tests)
+
+no_trailing : (c : ℕ) → c < 128 → is_trailing c ≡ false
+no_trailing c small = grind (arith, nat_tests)
+
+unit_alone : (c : ℕ) (next : Option ℕ) → c < 128 → code_escape (Some c) next ≡ Some (escape_with 6 c)
+unit_alone c next small = rw (no_leading c small) (rw (no_trailing c small) refl)
+
+unit_found : (a b c : ℕ) (rest : List ℕ) → is_hex a ≡ true → is_hex b ≡ true → hex_value a * 16 + hex_value b ≡ c → c < 128 → escape_at (92 ∷ 117 ∷ 48 ∷ 48 ∷ a ∷ b ∷ rest) ≡ Some (escape_with 6 c)
+unfolding escape_at
+unit_found a b c rest first second meant small =
+    let value : (0 * 4096 + 0 * 256) + hex_value a * 16 + hex_value b ≡ c = omega (arith, meant) in
+    rw first (rw second (ap (λ n. code_escape (Some n) (code_unit rest)) value ∙ unit_alone c (code_unit rest) small))
+
+hex_alone : (c : ℕ) → is_hex c ≡ true → ((c == 34) ≡ false) × ((c == 92) ≡ false) × (is_line_end c ≡ false) × (c < 128)
+hex_alone c is = (grind (arith, nat_tests), grind (arith, nat_tests), grind (arith, nat_tests), grind (arith, nat_tests))
+
+unit_sound : (a b c at : ℕ) (rest : List ℕ) → escape_at (92 ∷ 117 ∷ 48 ∷ 48 ∷ a ∷ b ∷ rest) ≡ Some (escape_with 6 c) → text_fault 0 at (92 ∷ 117 ∷ 48 ∷ 48 ∷ a ∷ b ∷ rest) ≡ text_fault 0 (at + 6) rest
+unfolding text_fault text_step
+unit_sound a b c at rest found = rw found (ap (λ n. text_fault 0 n rest) (let e : at + 1 + 1 + 1 + 1 + 1 + 1 ≡ at + 6 = omega arith in e))
+
+unit_open : (a b at : ℕ) (rest : List ℕ) → is_hex a ≡ true → is_hex b ≡ true → closed_at false at (92 ∷ 117 ∷ 48 ∷ 48 ∷ a ∷ b ∷ rest) ≡ closed_at false (at + 6) rest
+unfolding closed_at
+unit_open a b at rest first second =
+    let h = hex_alone a first in
+    let k = hex_alone b second in
+    alone_open a (at + 1 + 1 + 1 + 1) (b ∷ rest) h.0 h.1 h.2 ∙ alone_open b (at + 1 + 1 + 1 + 1 + 1) rest k.0 k.1 k.2
+    ∙ ap (λ n. closed_at false n rest) (let e : at + 1 + 1 + 1 + 1 + 1 + 1 ≡ at + 6 = omega arith in e)
+
+stands_number : (c : ℕ) → c < 128 → StandsFor (escape_number c) (encode_utf8 c)
+stands_number c small =
+    let d : HasDigits c = digits_of c small in
+    let found : (rest : List ℕ) → escape_at (92 ∷ 117 ∷ 48 ∷ 48 ∷ upper_digit (c / 16) ∷ upper_digit (c % 16) ∷ rest) ≡ Some (escape_with 6 c) =
+    λ rest. unit_found (upper_digit (c / 16)) (upper_digit (c % 16)) c rest d.first d.second d.meant small in
+    record {
+      sound = λ at rest. unit_sound (upper_digit (c / 16)) (upper_digit (c % 16)) c at rest (found rest);
+      unclosed = λ at rest. unit_open (upper_digit (c / 16)) (upper_digit (c % 16)) at rest d.first d.second;
+      value = λ rest. value_escape 92 (117 ∷ 48 ∷ 48 ∷ upper_digit (c / 16) ∷ upper_digit (c % 16) ∷ rest) (escape_with 6 c) (found rest);
+      first = refl;
+    }
+
 -- ---- escaped characters
 
--- an escape by a letter, or the character's own bytes
+-- an escape by a letter, one by a number, or the character's own bytes
 record HasLetter (c : ℕ) : Type 0 where
   letter : ℕ
   is : escaped c ≡ 92 ∷ letter ∷ []
@@ -113,13 +187,28 @@ record HasLetter (c : ℕ) : Type 0 where
   same_line : is_line_end letter ≡ false
   small : letter < 128
 
+record HasNumber (c : ℕ) : Type 0 where
+  is : escaped c ≡ escape_number c
+  small : c < 128
+
 record HasNone (c : ℕ) : Type 0 where
   is : escaped c ≡ encode_utf8 c
   no_mark : (c == 34) ≡ false
   no_escape_mark : (c == 92) ≡ false
-  high : is_printable_byte c ≡ true → 32 ≤ c
+  high : 32 ≤ c
 
-letter_or_none : (c : ℕ) → HasLetter c ⊎ HasNone c
+-- a character without an escape by a letter
+numbered_or_none : (c : ℕ) → escaped c ≡ numbered c → (c == 34) ≡ false → (c == 92) ≡ false → HasNumber c ⊎ HasNone c
+numbered_or_none c is no_mark no_escape_mark =
+    elim (cases_Bool (is_ascii_control c)) [
+      | inl control ↦ inl (record { is = is ∙ numbered_control c control; small = control_small c control })
+      | inr plain ↦ inr (record { is = is ∙ numbered_plain c plain; no_mark = no_mark; no_escape_mark = no_escape_mark; high = not_below plain })
+    ]
+  where
+    not_below : is_ascii_control c ≡ false → 32 ≤ c
+    not_below plain = grind (arith, nat_tests)
+
+letter_or_none : (c : ℕ) → HasLetter c ⊎ (HasNumber c ⊎ HasNone c)
 letter_or_none c =
     elim (cases_Bool (c == 34)) [
       | inl t ↦ inl (at 34 (eqb-true c 34 t) (record { letter = 34; is = refl; meant = refl; same_line = refl; small = omega arith }))
@@ -135,7 +224,7 @@ letter_or_none c =
                 | inl t ↦ inl (at 8 (eqb-true c 8 t) (record { letter = 98; is = refl; meant = refl; same_line = refl; small = omega arith }))
                 | inr f8 ↦ elim (cases_Bool (c == 12)) [
                   | inl t ↦ inl (at 12 (eqb-true c 12 t) (record { letter = 102; is = refl; meant = refl; same_line = refl; small = omega arith }))
-                  | inr f12 ↦ inr (record { is = rw (f34, f92, f10, f13, f9, f8, f12) refl; no_mark = f34; no_escape_mark = f92; high = λ good. from_space f10 f13 f9 f8 f12 good })
+                  | inr f12 ↦ inr (numbered_or_none c (rw (f34, f92, f10, f13, f9, f8, f12) refl) f34 f92)
                 ]
               ]
             ]
@@ -146,9 +235,6 @@ letter_or_none c =
   where
     at : (n : ℕ) → c ≡ n → HasLetter n → HasLetter c
     at n e h = subst HasLetter (sym e) h
-
-    from_space : (c == 10) ≡ false → (c == 13) ≡ false → (c == 9) ≡ false → (c == 8) ≡ false → (c == 12) ≡ false → is_printable_byte c ≡ true → 32 ≤ c
-    from_space f10 f13 f9 f8 f12 good = grind (arith, nat_tests)
 
 pub all_from : (f : ℕ → Bool) (xs : List ℕ) → ((k : ℕ) → k < length xs → f (get_or xs k 0) ≡ true) → AllPass f xs
 all_from f [] each = All-nil (λ c. f c ≡ true)
@@ -176,60 +262,35 @@ bytes_alone c high mark escape =
       | inr big ↦ high_alone (get_or (encode c) k 0) big
     ])
 
-stands_character : (c : ℕ) → is_printable_byte c ≡ true → StandsFor (escaped c) (encode c)
-stands_character c good =
+stands_character : (c : ℕ) → StandsFor (escaped c) (encode c)
+stands_character c =
     elim (letter_or_none c) [
       | inl h ↦ subst (λ xs. StandsFor xs (encode c)) (sym h.is) (stands_letter h.letter c h.meant h.same_line)
-      | inr h ↦ subst (λ xs. StandsFor xs (encode c)) (sym h.is) (stands_bytes (encode c) (bytes_alone c (h.high good) h.no_mark h.no_escape_mark))
+      | inr (inl h) ↦ subst (λ xs. StandsFor xs (encode c)) (sym h.is) (stands_number c h.small)
+      | inr (inr h) ↦ subst (λ xs. StandsFor xs (encode c)) (sym h.is) (stands_bytes (encode c) (bytes_alone c h.high h.no_mark h.no_escape_mark))
     ]
 
 -- ---- escaped strings
 
-stands_characters : (cs : List ℕ) → AllPass is_printable_byte cs → StandsFor (flat_map escaped cs) (encodes cs)
-stands_characters [] all = stands_nil
-stands_characters (c ∷ cs) all =
-    stands_append (escaped c) (encode c) (flat_map escaped cs) (encodes cs) (stands_character c (All-head (λ b. is_printable_byte b ≡ true) c cs all)) (stands_characters cs (All-tail (λ b. is_printable_byte b ≡ true) c cs all))
+stands_characters : (cs : List ℕ) → StandsFor (flat_map escaped cs) (encodes cs)
+stands_characters [] = stands_nil
+stands_characters (c ∷ cs) = stands_append (escaped c) (encode c) (flat_map escaped cs) (encodes cs) (stands_character c) (stands_characters cs)
 
--- the characters pass the test where the bytes do
-high_printable : (c : ℕ) → 128 ≤ c → is_printable_byte c ≡ true
-high_printable c high = grind (arith, nat_tests)
-
-parts_pass : (f : ℕ → Bool) (xs ys : List ℕ) → AllPass f (xs ++ ys) → AllPass f xs × AllPass f ys
-parts_pass f [] ys all = (All-nil (λ c. f c ≡ true), all)
-parts_pass f (x ∷ xs) ys all =
-    let r = parts_pass f xs ys (All-tail (λ c. f c ≡ true) x (xs ++ ys) all) in
-    (All-cons (λ c. f c ≡ true) x xs (All-head (λ c. f c ≡ true) x (xs ++ ys) all) r.0, r.1)
-
-printable_character : (c : ℕ) → AllPass is_printable_byte (encode c) → is_printable_byte c ≡ true
-printable_character c all =
-    elim (cases_lt c 128) [
-      | inl low ↦ All-head (λ b. is_printable_byte b ≡ true) c [] (subst (AllPass is_printable_byte) (encode_ascii c low) all)
-      | inr high ↦ high_printable c high
-    ]
-
-printable_characters : (cs : List ℕ) → AllPass is_printable_byte (encodes cs) → AllPass is_printable_byte cs
-printable_characters [] all = All-nil (λ c. is_printable_byte c ≡ true)
-printable_characters (c ∷ cs) all =
-    let r = parts_pass is_printable_byte (encode c) (encodes cs) all in
-    All-cons (λ b. is_printable_byte b ≡ true) c cs (printable_character c r.0) (printable_characters cs r.1)
-
-pub escaped_stands : (v : List ℕ) → IsUtf8 v → AllPass is_printable_byte v → StandsFor (all_escaped v) v
-escaped_stands v utf8 good =
-    let same : encodes (chars v) ≡ v = encodes-chars v utf8 in
-    subst (StandsFor (all_escaped v)) same (stands_characters (chars v) (printable_characters (chars v) (subst (AllPass is_printable_byte) (sym same) good)))
+pub escaped_stands : (v : List ℕ) → IsUtf8 v → StandsFor (all_escaped v) v
+escaped_stands v utf8 = subst (StandsFor (all_escaped v)) (encodes-chars v utf8) (stands_characters (chars v))
 
 -- between marks
-pub escaped_sound : (v : List ℕ) → IsUtf8 v → AllPass is_printable_byte v → text_fault 0 1 (all_escaped v) ≡ None
+pub escaped_sound : (v : List ℕ) → IsUtf8 v → text_fault 0 1 (all_escaped v) ≡ None
 unfolding text_fault
-escaped_sound v utf8 good = ap (text_fault 0 1) (sym (append-nil (all_escaped v))) ∙ (escaped_stands v utf8 good).sound 1 []
+escaped_sound v utf8 = ap (text_fault 0 1) (sym (append-nil (all_escaped v))) ∙ (escaped_stands v utf8).sound 1 []
 
-pub escaped_value : (v : List ℕ) → IsUtf8 v → AllPass is_printable_byte v → text_value 0 (all_escaped v) ≡ v
+pub escaped_value : (v : List ℕ) → IsUtf8 v → text_value 0 (all_escaped v) ≡ v
 unfolding text_value
-escaped_value v utf8 good = ap (text_value 0) (sym (append-nil (all_escaped v))) ∙ (escaped_stands v utf8 good).value [] ∙ append-nil v
+escaped_value v utf8 = ap (text_value 0) (sym (append-nil (all_escaped v))) ∙ (escaped_stands v utf8).value [] ∙ append-nil v
 
-pub escaped_closed : (v after : List ℕ) → IsUtf8 v → AllPass is_printable_byte v → closed_at false 1 (all_escaped v ++ 34 ∷ after) ≡ Some (1 + length (all_escaped v))
+pub escaped_closed : (v after : List ℕ) → IsUtf8 v → closed_at false 1 (all_escaped v ++ 34 ∷ after) ≡ Some (1 + length (all_escaped v))
 unfolding closed_at
-escaped_closed v after utf8 good = (escaped_stands v utf8 good).unclosed 1 (34 ∷ after)
+escaped_closed v after utf8 = (escaped_stands v utf8).unclosed 1 (34 ∷ after)
 
 no_marks : (xs after : List ℕ) → (get_or xs 0 0 == 34) ≡ false → (get_or after 0 0 == 34) ≡ false → begins_with_marks (34 ∷ (xs ++ 34 ∷ after)) ≡ false
 no_marks [] [] first next = refl
@@ -237,8 +298,8 @@ no_marks [] (a ∷ after) first next = rw next refl
 no_marks (x ∷ []) after first next = rw first refl
 no_marks (x ∷ y ∷ xs) after first next = rw first refl
 
-pub escaped_single : (v after : List ℕ) → IsUtf8 v → AllPass is_printable_byte v → (get_or after 0 0 == 34) ≡ false → begins_with_marks (34 ∷ (all_escaped v ++ 34 ∷ after)) ≡ false
-escaped_single v after utf8 good next = no_marks (all_escaped v) after (escaped_stands v utf8 good).first next
+pub escaped_single : (v after : List ℕ) → IsUtf8 v → (get_or after 0 0 == 34) ≡ false → begins_with_marks (34 ∷ (all_escaped v ++ 34 ∷ after)) ≡ false
+escaped_single v after utf8 next = no_marks (all_escaped v) after (escaped_stands v utf8).first next
 
 -- ---- in UTF-8
 
@@ -248,11 +309,17 @@ utf8_ascii c rest low utf8 = IsUtf8-append (c ∷ []) rest (subst IsUtf8 (encode
     ascii_scalar : (n : ℕ) → n < 128 → scalar n ≡ true
     ascii_scalar n small = grind (arith, nat_tests)
 
+number_utf8 : (c : ℕ) → HasDigits c → IsUtf8 (escape_number c)
+number_utf8 c d =
+    utf8_ascii 92 _ (omega arith) (utf8_ascii 117 _ (omega arith) (utf8_ascii 48 _ (omega arith) (utf8_ascii 48 _ (omega arith)
+    (utf8_ascii (upper_digit (c / 16)) _ (hex_alone (upper_digit (c / 16)) d.first).3 (utf8_ascii (upper_digit (c % 16)) [] (hex_alone (upper_digit (c % 16)) d.second).3 IsUtf8-nil)))))
+
 utf8_character : (c : ℕ) → scalar c ≡ true → IsUtf8 (escaped c)
 utf8_character c is =
     elim (letter_or_none c) [
       | inl h ↦ subst IsUtf8 (sym h.is) (utf8_ascii 92 (h.letter ∷ []) (omega arith) (utf8_ascii h.letter [] h.small IsUtf8-nil))
-      | inr h ↦ subst IsUtf8 (sym h.is) (IsUtf8-encode c is)
+      | inr (inl h) ↦ subst IsUtf8 (sym h.is) (number_utf8 c (digits_of c h.small))
+      | inr (inr h) ↦ subst IsUtf8 (sym h.is) (IsUtf8-encode c is)
     ]
 
 utf8_characters : (cs : List ℕ) → scalars cs ≡ true → IsUtf8 (flat_map escaped cs)

@@ -12,16 +12,16 @@ use Rattle.gql_base.specs.declared.lexical.lexing.LexFault.{LexFault}
 use Rattle.gql_base.specs.declared.lexical.lexing.LexFault.TheVariants.{BadChar, BadNumber, FloatValue}
 use Rattle.gql_base.specs.declared.lexical.numbers.Found.{Found}
 use Rattle.gql_base.specs.declared.lexical.token.TokenKind.{TokenKind}
-use Rattle.gql_base.specs.declared.lexical.token.TokenKind.TheVariants.{Name, Int, Str, BlockStr, Bang, Dollar, Amp, OpenParen, CloseParen, Spread, Colon, Equals, At, OpenBracket, CloseBracket, OpenBrace, Pipe, CloseBrace}
+use Rattle.gql_base.specs.declared.lexical.token.TokenKind.TheVariants.{Name, Int, Float, Str, BlockStr, Bang, Dollar, Amp, OpenParen, CloseParen, Spread, Colon, Equals, At, OpenBracket, CloseBracket, OpenBrace, Pipe, CloseBrace}
 use Rattle.gql_base.specs.lexical.Characters.{is_name_start, is_name_continue, is_blank, is_comment_byte, is_number_start, follows_no_number}
-use Rattle.gql_base.specs.lexical.Numbers.{IsWhole, Numeral, minus_bytes, numeral_bytes}
+use Rattle.gql_base.specs.lexical.Numbers.{IsWhole, Numeral, minus_bytes, fraction_bytes, exponent_bytes, numeral_bytes, IsFloat}
 use Rattle.gql_base.specs.lexical.Strings.{begins_with_marks}
-use Rattle.gql_base.specs.lexical.Pieces.{word, number, string, block, mark, Piece, token, byte_order_mark, blank, comment, mark_bytes, kind_of, lexeme_bytes, piece_bytes, IsInRange, IsInteger, IsPiece, EndsBefore, BeginsWithout, BeginsNothing}
+use Rattle.gql_base.specs.lexical.Pieces.{word, number, float, string, block, mark, Piece, token, byte_order_mark, blank, comment, mark_bytes, kind_of, lexeme_bytes, piece_bytes, IsInRange, IsInteger, IsPiece, EndsBefore, BeginsWithout, BeginsNothing}
 use Rattle.gql_base.specs.lexical.Faults.{begins_as_number}
-use Rattle.gql_base.specs.lexical.Fronts.{mark_of, is_byte_order_mark, is_spread, piece_from, front_with, mark_front, found_front, number_found, integer_fits, text_front, front_of}
+use Rattle.gql_base.specs.lexical.Fronts.{mark_of, is_byte_order_mark, is_spread, piece_from, front_with, mark_front, float_front, found_front, number_found, integer_fits, text_front, front_of}
 use Rattle.gql_base.proofs.LexicalLaws.Runs.{run_is_whole, run_passes, run_stops}
 use Rattle.gql_base.proofs.LexicalLaws.Integers.{fits_plain}
-use Rattle.gql_base.proofs.LexicalLaws.Numerals.{number_there, number_is, IntegerThere, integer_is, found_at}
+use Rattle.gql_base.proofs.LexicalLaws.Numerals.{number_there, NumberThere, number_is, IntegerThere, integer_is, found_at}
 use Rattle.gql_base.proofs.LexicalLaws.ScannedStrings.{body_faultless, body_closed, body_scanned, single, ends_apart}
 use Rattle.gql_base.proofs.LexicalLaws.ScannedBlocks.{block_body_faultless, block_body_closed, block_body_scanned}
 use Rattle.gql_base.proofs.LexicalLaws.Texts.{string_there, block_there, StringThere, BlockThere, text_found_single, text_found_block}
@@ -68,10 +68,10 @@ integer_begins true ws after is = refl
 integer_begins false [] after is = absurd is
 integer_begins false (c ∷ cs) after is = digit_begins c is.0
 
-pub front_of_number : (text : List ℕ) → begins_as_number text ≡ true → front_of text ≡ found_front text (number_found text)
+pub front_of_number : (floats : Bool) (text : List ℕ) → begins_as_number text ≡ true → front_of floats text ≡ found_front floats text (number_found text)
 unfolding front_of
-front_of_number [] is = absurd (cc)
-front_of_number (c ∷ cs) is = rw is refl
+front_of_number floats [] is = absurd (cc)
+front_of_number floats (c ∷ cs) is = rw is refl
 
 numeral_of : Bool → List ℕ → Numeral
 numeral_of minus ws = record { minus = minus; whole = ws; fraction = None; exponent = None }
@@ -80,20 +80,35 @@ numeral_is : (minus : Bool) (ws : List ℕ) → minus_bytes minus ++ ws ≡ nume
 unfolding numeral_of
 numeral_is minus ws = ap (λ xs. minus_bytes minus ++ xs) (sym (append-nil ws))
 
-integer_fronts : (bytes after : List ℕ) → IsInteger bytes → BeginsWithout follows_no_number after → front_of (bytes ++ after) ≡ Ok (front_with (Some Int) (length bytes))
+integer_fronts : (floats : Bool) (bytes after : List ℕ) → IsInteger bytes → BeginsWithout follows_no_number after → front_of floats (bytes ++ after) ≡ Ok (front_with (Some Int) (length bytes))
 unfolding numeral_of
-integer_fronts bytes after is ends =
+integer_fronts floats bytes after is ends =
     let same : bytes ≡ numeral_bytes (numeral_of is.minus is.whole) = is.cut ∙ numeral_is is.minus is.whole in
     let found : number_found (bytes ++ after) ≡ found_at (length (numeral_bytes (numeral_of is.minus is.whole))) false =
     number_there (bytes ++ after) after (numeral_of is.minus is.whole) (ap (λ xs. xs ++ after) same) (is.is, tt, tt) ends in
     let here : number_found (bytes ++ after) ≡ found_at (length bytes) false = found ∙ ap (λ xs. found_at (length xs) false) (sym same) in
     let fits : integer_fits (take (length bytes) (bytes ++ after)) ≡ true = ap integer_fits (take_at bytes after (length bytes) refl ∙ is.cut) ∙ integer_small is.minus is.whole is.is is.small in
-    front_of_number (bytes ++ after) (ap (λ xs. begins_as_number (xs ++ after)) is.cut ∙ integer_begins is.minus is.whole after is.is)
+    front_of_number floats (bytes ++ after) (ap (λ xs. begins_as_number (xs ++ after)) is.cut ∙ integer_begins is.minus is.whole after is.is)
     ∙ rw here (rw fits refl)
 
-front_of_mark : (cs : List ℕ) → front_of (34 ∷ cs) ≡ text_front (34 ∷ cs)
+-- the bytes of a float begin as a number
+float_begins : (w : List ℕ) (m : Bool) (rest : List ℕ) → IsWhole w → begins_as_number (minus_bytes m ++ (w ++ rest)) ≡ true
+float_begins w true rest is = refl
+float_begins [] false rest is = absurd is
+float_begins (c ∷ cs) false rest is = digit_begins c is.0
+
+float_fronts : (bytes after : List ℕ) → IsFloat bytes → BeginsWithout follows_no_number after → front_of true (bytes ++ after) ≡ Ok (front_with (Some Float) (length bytes))
+float_fronts bytes after is ends =
+    let n = is.numeral in
+    let here : number_found (bytes ++ after) ≡ found_at (length bytes) true =
+    number_there (bytes ++ after) after n (ap (λ xs. xs ++ after) is.cut) is.is ends ∙ ap (found_at (length (numeral_bytes n))) is.is_real ∙ ap (λ xs. found_at (length xs) true) (sym is.cut) in
+    let cut : bytes ++ after ≡ minus_bytes n.minus ++ (n.whole ++ ((fraction_bytes n.fraction ++ exponent_bytes n.exponent) ++ after)) =
+    ap (λ xs. xs ++ after) is.cut ∙ append_assoc (minus_bytes n.minus) _ after ∙ ap (λ xs. minus_bytes n.minus ++ xs) (append_assoc n.whole _ after) in
+    front_of_number true (bytes ++ after) (ap begins_as_number cut ∙ float_begins n.whole n.minus _ is.is.0) ∙ rw here refl
+
+front_of_mark : (floats : Bool) (cs : List ℕ) → front_of floats (34 ∷ cs) ≡ text_front (34 ∷ cs)
 unfolding front_of
-front_of_mark cs = refl
+front_of_mark floats cs = refl
 
 string_size : (body : List ℕ) → 1 + length body + 1 ≡ length (lexeme_bytes (string body))
 string_size body = omega (arith, length-append body (34 ∷ []))
@@ -113,58 +128,60 @@ kind_front kind n = Ok (front_with (Some kind) n)
 abbrev plain_front : ℕ → Result Front LexFault
 plain_front n = Ok (front_with None n)
 
-pub front_is : (p : Piece) (after : List ℕ) → IsPiece p → EndsBefore p after → front_of (piece_bytes p ++ after) ≡ Ok (outline p)
+pub front_is : (floats : Bool) (p : Piece) (after : List ℕ) → IsPiece floats p → EndsBefore p after → front_of floats (piece_bytes p ++ after) ≡ Ok (outline p)
 unfolding front_of
-front_is (token (word [])) after is ends = absurd is
-front_is (token (word (c ∷ cs))) after is ends =
+front_is floats (token (word [])) after is ends = absurd is
+front_is floats (token (word (c ∷ cs))) after is ends =
     rw (name_begins c is.0).0 (rw (name_begins c is.0).1 (rw is.0 (size (run_is_whole is_name_continue cs after is.1 ends))))
   where
     size : prefix_len is_name_continue (cs ++ after) ≡ length cs → kind_front Name (1 + prefix_len is_name_continue (cs ++ after)) ≡ kind_front Name (suc (length cs))
     size same = ap (kind_front Name) (omega (arith, same))
-front_is (token (number bytes)) after is ends = integer_fronts bytes after is ends
-front_is (token (string body)) after is ends =
-    ap front_of (string_bytes_before body after) ∙ front_of_mark (body ++ 34 ∷ after) ∙ string_there body after (body_closed is.0 body after is.1) (single is.0 body after is.1 ends) (body_faultless is.0 body is.1) ∙ ap (kind_front Str) (string_size body)
-front_is (token (block body)) after is ends =
-    ap front_of (block_bytes_before body after) ∙ front_of_mark (34 ∷ 34 ∷ (body ++ 34 ∷ 34 ∷ 34 ∷ after)) ∙ block_there body after (block_body_closed is.0 body after is.1) (block_body_faultless is.0 body is.1) ∙ ap (kind_front BlockStr) (block_size body)
-front_is (token (mark Bang)) after is ends = refl
-front_is (token (mark Dollar)) after is ends = refl
-front_is (token (mark Amp)) after is ends = refl
-front_is (token (mark OpenParen)) after is ends = refl
-front_is (token (mark CloseParen)) after is ends = refl
-front_is (token (mark Spread)) after is ends = refl
-front_is (token (mark Colon)) after is ends = refl
-front_is (token (mark Equals)) after is ends = refl
-front_is (token (mark At)) after is ends = refl
-front_is (token (mark OpenBracket)) after is ends = refl
-front_is (token (mark CloseBracket)) after is ends = refl
-front_is (token (mark OpenBrace)) after is ends = refl
-front_is (token (mark Pipe)) after is ends = refl
-front_is (token (mark CloseBrace)) after is ends = refl
-front_is (token (mark Name)) after is ends = absurd (omega (arith, is))
-front_is (token (mark Int)) after is ends = absurd (omega (arith, is))
-front_is (token (mark Str)) after is ends = absurd (omega (arith, is))
-front_is (token (mark BlockStr)) after is ends = absurd (omega (arith, is))
-front_is byte_order_mark after is ends = refl
-front_is (blank byte) after is ends = rw (blank_begins byte is).0 (rw (blank_begins byte is).1 (rw (blank_begins byte is).2 (rw is refl)))
-front_is (comment bytes) after is ends = ap plain_front (omega (arith, run_is_whole is_comment_byte bytes after is ends))
+front_is floats (token (number bytes)) after is ends = integer_fronts floats bytes after is ends
+front_is floats (token (float bytes)) after is ends = ap (λ b. front_of b (bytes ++ after)) is.0 ∙ float_fronts bytes after is.1 ends
+front_is floats (token (string body)) after is ends =
+    ap (front_of floats) (string_bytes_before body after) ∙ front_of_mark floats (body ++ 34 ∷ after) ∙ string_there body after (body_closed is.0 body after is.1) (single is.0 body after is.1 ends) (body_faultless is.0 body is.1) ∙ ap (kind_front Str) (string_size body)
+front_is floats (token (block body)) after is ends =
+    ap (front_of floats) (block_bytes_before body after) ∙ front_of_mark floats (34 ∷ 34 ∷ (body ++ 34 ∷ 34 ∷ 34 ∷ after)) ∙ block_there body after (block_body_closed is.0 body after is.1) (block_body_faultless is.0 body is.1) ∙ ap (kind_front BlockStr) (block_size body)
+front_is floats (token (mark Bang)) after is ends = refl
+front_is floats (token (mark Dollar)) after is ends = refl
+front_is floats (token (mark Amp)) after is ends = refl
+front_is floats (token (mark OpenParen)) after is ends = refl
+front_is floats (token (mark CloseParen)) after is ends = refl
+front_is floats (token (mark Spread)) after is ends = refl
+front_is floats (token (mark Colon)) after is ends = refl
+front_is floats (token (mark Equals)) after is ends = refl
+front_is floats (token (mark At)) after is ends = refl
+front_is floats (token (mark OpenBracket)) after is ends = refl
+front_is floats (token (mark CloseBracket)) after is ends = refl
+front_is floats (token (mark OpenBrace)) after is ends = refl
+front_is floats (token (mark Pipe)) after is ends = refl
+front_is floats (token (mark CloseBrace)) after is ends = refl
+front_is floats (token (mark Name)) after is ends = absurd (omega (arith, is))
+front_is floats (token (mark Int)) after is ends = absurd (omega (arith, is))
+front_is floats (token (mark Float)) after is ends = absurd (omega (arith, is))
+front_is floats (token (mark Str)) after is ends = absurd (omega (arith, is))
+front_is floats (token (mark BlockStr)) after is ends = absurd (omega (arith, is))
+front_is floats byte_order_mark after is ends = refl
+front_is floats (blank byte) after is ends = rw (blank_begins byte is).0 (rw (blank_begins byte is).1 (rw (blank_begins byte is).2 (rw is refl)))
+front_is floats (comment bytes) after is ends = ap plain_front (omega (arith, run_is_whole is_comment_byte bytes after is ends))
 
 -- no piece begins where a fault is found
-pub begins_nothing : (text : List ℕ) (fault : LexFault) → front_of text ≡ Err fault → BeginsNothing text
-begins_nothing text fault is = λ p after cut piece ends. let found = front_is p after piece ends in let same = ap front_of cut in cc
+pub begins_nothing : (floats : Bool) (text : List ℕ) (fault : LexFault) → front_of floats text ≡ Err fault → BeginsNothing floats text
+begins_nothing floats text fault is = λ p after cut piece ends. let found = front_is floats p after piece ends in let same = ap (front_of floats) cut in cc
 
 run_length : (p : ℕ → Bool) (xs : List ℕ) → length (take (prefix_len p xs) xs) ≡ prefix_len p xs
 run_length p xs = omega (arith, length-take (prefix_len p xs) xs, prefix_len-le-length p xs)
 
 -- A piece of this outline is at the front of the text, as long as possible.
-pub record BeginsWith (text : List ℕ) (f : Front) : Type 0 where
+pub record BeginsWith (floats : Bool) (text : List ℕ) (f : Front) : Type 0 where
   pub piece : Piece
   pub cut : text ≡ piece_bytes piece ++ drop f.length text
-  pub is : IsPiece piece
+  pub is : IsPiece floats piece
   pub ends : EndsBefore piece (drop f.length text)
   pub told : outline piece ≡ f
 
-begins_with_name : (c : ℕ) (cs : List ℕ) → is_name_start c ≡ true → BeginsWith (c ∷ cs) (front_with (Some Name) (suc (prefix_len is_name_continue cs)))
-begins_with_name c cs start = record {
+begins_with_name : (floats : Bool) (c : ℕ) (cs : List ℕ) → is_name_start c ≡ true → BeginsWith floats (c ∷ cs) (front_with (Some Name) (suc (prefix_len is_name_continue cs)))
+begins_with_name floats c cs start = record {
   piece = token (word (c ∷ take (prefix_len is_name_continue cs) cs));
   cut = ap (λ xs. c ∷ xs) (sym (take-append-drop (prefix_len is_name_continue cs) cs));
   is = (start, run_passes is_name_continue cs);
@@ -172,8 +189,8 @@ begins_with_name c cs start = record {
   told = ap (λ n. front_with (Some Name) (suc n)) (run_length is_name_continue cs);
 }
 
-begins_with_comment : (c : ℕ) (cs : List ℕ) → (c == 35) ≡ true → BeginsWith (c ∷ cs) (front_with None (suc (prefix_len is_comment_byte cs)))
-begins_with_comment c cs start = record {
+begins_with_comment : (floats : Bool) (c : ℕ) (cs : List ℕ) → (c == 35) ≡ true → BeginsWith floats (c ∷ cs) (front_with None (suc (prefix_len is_comment_byte cs)))
+begins_with_comment floats c cs start = record {
   piece = comment (take (prefix_len is_comment_byte cs) cs);
   cut = rw (eqb-true c 35 start) (ap (λ xs. 35 ∷ xs) (sym (take-append-drop (prefix_len is_comment_byte cs) cs)));
   is = run_passes is_comment_byte cs;
@@ -181,8 +198,8 @@ begins_with_comment c cs start = record {
   told = ap (λ n. front_with None (suc n)) (run_length is_comment_byte cs);
 }
 
-begins_with_blank : (c : ℕ) (cs : List ℕ) → is_blank c ≡ true → BeginsWith (c ∷ cs) (front_with None 1)
-begins_with_blank c cs start = record { piece = blank c; cut = refl; is = start; ends = tt; told = refl }
+begins_with_blank : (floats : Bool) (c : ℕ) (cs : List ℕ) → is_blank c ≡ true → BeginsWith floats (c ∷ cs) (front_with None 1)
+begins_with_blank floats c cs start = record { piece = blank c; cut = refl; is = start; ends = tt; told = refl }
 
 not_all : (b : Bool) → (b && false) ≡ true → ⊥
 not_all true e = cc
@@ -191,17 +208,17 @@ not_all false e = cc
 three_bytes : (c d e x y z : ℕ) → ((c == x) && ((d == y) && (e == z))) ≡ true → (c ≡ x) × (d ≡ y) × (e ≡ z)
 three_bytes c d e x y z all = grind (arith, nat_tests)
 
-begins_with_byte_order_mark : (c : ℕ) (cs : List ℕ) → is_byte_order_mark c cs ≡ true → BeginsWith (c ∷ cs) (front_with None 3)
-begins_with_byte_order_mark c [] start = absurd (not_all (c == 239) start)
-begins_with_byte_order_mark c (d ∷ []) start = absurd (not_all (c == 239) start)
-begins_with_byte_order_mark c (d ∷ e ∷ es) start =
+begins_with_byte_order_mark : (floats : Bool) (c : ℕ) (cs : List ℕ) → is_byte_order_mark c cs ≡ true → BeginsWith floats (c ∷ cs) (front_with None 3)
+begins_with_byte_order_mark floats c [] start = absurd (not_all (c == 239) start)
+begins_with_byte_order_mark floats c (d ∷ []) start = absurd (not_all (c == 239) start)
+begins_with_byte_order_mark floats c (d ∷ e ∷ es) start =
     let told : (c ≡ 239) × (d ≡ 187) × (e ≡ 191) = three_bytes c d e 239 187 191 start in
     record { piece = byte_order_mark; cut = rw (told.0, told.1, told.2) refl; is = tt; ends = tt; told = refl }
 
-begins_with_spread : (c : ℕ) (cs : List ℕ) → is_spread c cs ≡ true → BeginsWith (c ∷ cs) (front_with (Some Spread) 3)
-begins_with_spread c [] start = absurd (not_all (c == 46) start)
-begins_with_spread c (d ∷ []) start = absurd (not_all (c == 46) start)
-begins_with_spread c (d ∷ e ∷ es) start =
+begins_with_spread : (floats : Bool) (c : ℕ) (cs : List ℕ) → is_spread c cs ≡ true → BeginsWith floats (c ∷ cs) (front_with (Some Spread) 3)
+begins_with_spread floats c [] start = absurd (not_all (c == 46) start)
+begins_with_spread floats c (d ∷ []) start = absurd (not_all (c == 46) start)
+begins_with_spread floats c (d ∷ e ∷ es) start =
     let told : (c ≡ 46) × (d ≡ 46) × (e ≡ 46) = three_bytes c d e 46 46 46 start in
     record { piece = token (mark Spread); cut = rw (told.0, told.1, told.2) refl; is = omega arith; ends = tt; told = refl }
 
@@ -251,8 +268,8 @@ mark_of_is c kind start =
     one_of (IsMarkOf c) (c == 125) CloseBrace _ kind (mark_when c 125 CloseBrace refl) (
     λ none. absurd (cc)))))))))))))) start
 
-begins_with_mark_of : (c : ℕ) (cs : List ℕ) (kind : TokenKind) → mark_bytes kind ≡ c ∷ [] → BeginsWith (c ∷ cs) (front_with (Some kind) 1)
-begins_with_mark_of c cs kind bytes = record {
+begins_with_mark_of : (floats : Bool) (c : ℕ) (cs : List ℕ) (kind : TokenKind) → mark_bytes kind ≡ c ∷ [] → BeginsWith floats (c ∷ cs) (front_with (Some kind) 1)
+begins_with_mark_of floats c cs kind bytes = record {
   piece = token (mark kind);
   cut = ap (λ xs. xs ++ cs) (sym bytes);
   is = rw bytes (omega arith);
@@ -260,29 +277,29 @@ begins_with_mark_of c cs kind bytes = record {
   told = ap (λ xs. front_with (Some kind) (length xs)) bytes;
 }
 
-begins_with_some_mark : (c : ℕ) (cs : List ℕ) (m : Option TokenKind) (f : Front) → mark_of c ≡ m → mark_front m ≡ Ok f → BeginsWith (c ∷ cs) f
-begins_with_some_mark c cs None f is found = absurd (cc)
-begins_with_some_mark c cs (Some kind) f is found =
+begins_with_some_mark : (floats : Bool) (c : ℕ) (cs : List ℕ) (m : Option TokenKind) (f : Front) → mark_of c ≡ m → mark_front m ≡ Ok f → BeginsWith floats (c ∷ cs) f
+begins_with_some_mark floats c cs None f is found = absurd (cc)
+begins_with_some_mark floats c cs (Some kind) f is found =
     let same : front_with (Some kind) 1 ≡ f = cc in
-    subst (BeginsWith (c ∷ cs)) same (begins_with_mark_of c cs kind (mark_of_is c kind is))
+    subst (BeginsWith floats (c ∷ cs)) same (begins_with_mark_of floats c cs kind (mark_of_is c kind is))
 
 one_more : (P : ℕ → Type 0) (n : ℕ) → P (suc n) → P (1 + n)
 one_more P n h = let e : suc n ≡ 1 + n = omega arith in subst P e h
 
-piece_begins : (c : ℕ) (cs : List ℕ) (f : Front) → piece_from c cs ≡ Ok f → BeginsWith (c ∷ cs) f
-piece_begins c cs f found =
-    one_found (BeginsWith (c ∷ cs)) (is_name_start c) _ _ f
-    (λ t. one_more (λ n. BeginsWith (c ∷ cs) (front_with (Some Name) n)) (prefix_len is_name_continue cs) (begins_with_name c cs t)) (
-    one_found (BeginsWith (c ∷ cs)) (is_blank c) _ _ f (begins_with_blank c cs) (
-    one_found (BeginsWith (c ∷ cs)) (c == 35) _ _ f
-    (λ t. one_more (λ n. BeginsWith (c ∷ cs) (front_with None n)) (prefix_len is_comment_byte cs) (begins_with_comment c cs t)) (
-    one_found (BeginsWith (c ∷ cs)) (is_byte_order_mark c cs) _ _ f (begins_with_byte_order_mark c cs) (
-    one_found (BeginsWith (c ∷ cs)) (is_spread c cs) _ _ f (begins_with_spread c cs) (
-    begins_with_some_mark c cs (mark_of c) f refl))))) found
+piece_begins : (floats : Bool) (c : ℕ) (cs : List ℕ) (f : Front) → piece_from c cs ≡ Ok f → BeginsWith floats (c ∷ cs) f
+piece_begins floats c cs f found =
+    one_found (BeginsWith floats (c ∷ cs)) (is_name_start c) _ _ f
+    (λ t. one_more (λ n. BeginsWith floats (c ∷ cs) (front_with (Some Name) n)) (prefix_len is_name_continue cs) (begins_with_name floats c cs t)) (
+    one_found (BeginsWith floats (c ∷ cs)) (is_blank c) _ _ f (begins_with_blank floats c cs) (
+    one_found (BeginsWith floats (c ∷ cs)) (c == 35) _ _ f
+    (λ t. one_more (λ n. BeginsWith floats (c ∷ cs) (front_with None n)) (prefix_len is_comment_byte cs) (begins_with_comment floats c cs t)) (
+    one_found (BeginsWith floats (c ∷ cs)) (is_byte_order_mark c cs) _ _ f (begins_with_byte_order_mark floats c cs) (
+    one_found (BeginsWith floats (c ∷ cs)) (is_spread c cs) _ _ f (begins_with_spread floats c cs) (
+    begins_with_some_mark floats c cs (mark_of c) f refl))))) found
 
 -- what is found where a piece of as many bytes stands begins the text
-piece_there : (text after : List ℕ) (p : Piece) (f : Front) → text ≡ piece_bytes p ++ after → IsPiece p → EndsBefore p after → outline p ≡ f → BeginsWith text f
-piece_there text after p f cut is ends told =
+piece_there : (floats : Bool) (text after : List ℕ) (p : Piece) (f : Front) → text ≡ piece_bytes p ++ after → IsPiece floats p → EndsBefore p after → outline p ≡ f → BeginsWith floats text f
+piece_there floats text after p f cut is ends told =
     let rest : drop f.length text ≡ after = ap (drop f.length) cut ∙ drop_at (piece_bytes p) after f.length (ap (λ g. g.length) told) in
     record {
       piece = p;
@@ -297,10 +314,10 @@ fits_small true ws is fits = leb-true (digits_value 10 ws) (2 ^ 127) fits
 fits_small false [] is fits = absurd is
 fits_small false (c ∷ cs) is fits = ltb-true (digits_value 10 (c ∷ cs)) (2 ^ 127) (sym (fits_plain c cs is.0) ∙ fits)
 
-integer_begins_with : (text : List ℕ) (end : ℕ) (f : Front) (there : IntegerThere text end) → integer_fits (take end text) ≡ true → front_with (Some Int) end ≡ f → BeginsWith text f
-integer_begins_with text end f there fits told =
+integer_begins_with : (floats : Bool) (text : List ℕ) (end : ℕ) (f : Front) (there : IntegerThere text end) → integer_fits (take end text) ≡ true → front_with (Some Int) end ≡ f → BeginsWith floats text f
+integer_begins_with floats text end f there fits told =
     let bytes : take end text ≡ minus_bytes there.minus ++ there.whole = ap (take end) there.cut ∙ take_at (minus_bytes there.minus ++ there.whole) (drop end text) end there.size in
-    piece_there text (drop end text) (token (number (minus_bytes there.minus ++ there.whole))) f there.cut
+    piece_there floats text (drop end text) (token (number (minus_bytes there.minus ++ there.whole))) f there.cut
     (record { minus = there.minus; whole = there.whole; cut = refl; is = there.is; small = fits_small there.minus there.whole there.is (sym (ap integer_fits bytes) ∙ fits) })
     there.ends
     (ap (front_with (Some Int)) there.size ∙ told)
@@ -320,73 +337,81 @@ not_found fault f same = cc
 pub not_faulty : (fault : LexFault) (f : Front) → ok f ≡ err fault → ⊥
 not_faulty fault f same = cc
 
-number_begins_with : (text : List ℕ) (f : Front) (o : Option Found) → number_found text ≡ o → found_front text o ≡ Ok f → BeginsWith text f
-number_begins_with text f None is found = absurd (not_found (BadNumber 0) f found)
-number_begins_with text f (Some n) is found =
+float_begins_with : (floats : Bool) (text : List ℕ) (n : Found) (f : Front) (there : NumberThere text n) → n.is_float ≡ true → float_front floats n.end ≡ Ok f → BeginsWith floats text f
+float_begins_with false text n f there real found = absurd (not_found (FloatValue 0) f found)
+float_begins_with true text n f there real found =
+    piece_there true text (drop n.end text) (token (float (numeral_bytes there.numeral))) f there.cut
+    (refl, record { numeral = there.numeral; cut = refl; is = there.is; is_real = there.real ∙ real })
+    there.ends
+    (ap (front_with (Some Float)) there.size ∙ ok_same _ _ found)
+
+number_begins_with : (floats : Bool) (text : List ℕ) (f : Front) (o : Option Found) → number_found text ≡ o → found_front floats text o ≡ Ok f → BeginsWith floats text f
+number_begins_with floats text f None is found = absurd (not_found (BadNumber 0) f found)
+number_begins_with floats text f (Some n) is found =
     elim (cases_Bool n.is_float) [
-      | inl t ↦ absurd (not_found (FloatValue 0) f (rw t at found))
+      | inl t ↦ float_begins_with floats text n f (number_is text n is) t (rw t at found)
       | inr whole ↦
           elim (cases_Bool (integer_fits (take n.end text))) [
-            | inl fits ↦ integer_begins_with text n.end f (integer_is text n whole (number_is text n is)) fits (ok_same _ _ (rw (whole, fits) at found))
+            | inl fits ↦ integer_begins_with floats text n.end f (integer_is text n whole (number_is text n is)) fits (ok_same _ _ (rw (whole, fits) at found))
             | inr no_fit ↦ absurd (not_found (BadNumber 0) f (rw (whole, no_fit) at found))
           ]
     ]
 
-string_begins_with : (text : List ℕ) (f : Front) → StringThere text f → BeginsWith text f
-string_begins_with text f s =
-    piece_there text s.after (token (string s.body)) f (s.cut ∙ sym (string_bytes_before s.body s.after)) (body_scanned s.body s.after s.sound s.closed) (ends_apart s.body s.after s.single)
+string_begins_with : (floats : Bool) (text : List ℕ) (f : Front) → StringThere text f → BeginsWith floats text f
+string_begins_with floats text f s =
+    piece_there floats text s.after (token (string s.body)) f (s.cut ∙ sym (string_bytes_before s.body s.after)) (body_scanned s.body s.after s.sound s.closed) (ends_apart s.body s.after s.single)
     (ap (front_with (Some Str)) (sym (string_size s.body)) ∙ s.told)
 
-block_begins_with : (text : List ℕ) (f : Front) → BlockThere text f → BeginsWith text f
-block_begins_with text f s =
-    piece_there text s.after (token (block s.body)) f (s.cut ∙ sym (block_bytes_before s.body s.after)) (block_body_scanned s.body s.after s.sound s.closed) tt
+block_begins_with : (floats : Bool) (text : List ℕ) (f : Front) → BlockThere text f → BeginsWith floats text f
+block_begins_with floats text f s =
+    piece_there floats text s.after (token (block s.body)) f (s.cut ∙ sym (block_bytes_before s.body s.after)) (block_body_scanned s.body s.after s.sound s.closed) tt
     (ap (front_with (Some BlockStr)) (sym (block_size s.body)) ∙ s.told)
 
-text_begins_with : (cs : List ℕ) (f : Front) → text_front (34 ∷ cs) ≡ Ok f → BeginsWith (34 ∷ cs) f
-text_begins_with cs f found =
+text_begins_with : (floats : Bool) (cs : List ℕ) (f : Front) → text_front (34 ∷ cs) ≡ Ok f → BeginsWith floats (34 ∷ cs) f
+text_begins_with floats cs f found =
     elim (cases_Bool (begins_with_marks (34 ∷ cs))) [
-      | inl t ↦ block_begins_with (34 ∷ cs) f (text_found_block (34 ∷ cs) f t found)
-      | inr single ↦ string_begins_with (34 ∷ cs) f (text_found_single cs f single found)
+      | inl t ↦ block_begins_with floats (34 ∷ cs) f (text_found_block (34 ∷ cs) f t found)
+      | inr single ↦ string_begins_with floats (34 ∷ cs) f (text_found_single cs f single found)
     ]
 
-mark_begins_with : (c : ℕ) (cs : List ℕ) (f : Front) → c ≡ 34 → text_front (c ∷ cs) ≡ Ok f → BeginsWith (c ∷ cs) f
-mark_begins_with c cs f is found = subst (λ x. BeginsWith (x ∷ cs) f) (sym is) (text_begins_with cs f (sym (ap (λ x. text_front (x ∷ cs)) is) ∙ found))
+mark_begins_with : (floats : Bool) (c : ℕ) (cs : List ℕ) (f : Front) → c ≡ 34 → text_front (c ∷ cs) ≡ Ok f → BeginsWith floats (c ∷ cs) f
+mark_begins_with floats c cs f is found = subst (λ x. BeginsWith floats (x ∷ cs) f) (sym is) (text_begins_with floats cs f (sym (ap (λ x. text_front (x ∷ cs)) is) ∙ found))
 
 -- what is found at the front begins the text
-pub begins_with : (text : List ℕ) (f : Front) → front_of text ≡ Ok f → BeginsWith text f
+pub begins_with : (floats : Bool) (text : List ℕ) (f : Front) → front_of floats text ≡ Ok f → BeginsWith floats text f
 unfolding front_of
-begins_with [] f found = absurd (not_found (BadChar 0) f found)
-begins_with (c ∷ cs) f found =
+begins_with floats [] f found = absurd (not_found (BadChar 0) f found)
+begins_with floats (c ∷ cs) f found =
     elim (cases_Bool (is_number_start c)) [
-      | inl t ↦ number_begins_with (c ∷ cs) f (number_found (c ∷ cs)) refl (rw t at found)
+      | inl t ↦ number_begins_with floats (c ∷ cs) f (number_found (c ∷ cs)) refl (rw t at found)
       | inr n ↦
           elim (cases_Bool (c == 34)) [
-            | inl t ↦ mark_begins_with c cs f (eqb-true c 34 t) (rw (n, t) at found)
-            | inr m ↦ piece_begins c cs f (rw (n, m) at found)
+            | inl t ↦ mark_begins_with floats c cs f (eqb-true c 34 t) (rw (n, t) at found)
+            | inr m ↦ piece_begins floats c cs f (rw (n, m) at found)
           ]
     ]
 
 -- ---- the code's own cases
 
-pub front_of_nothing : (text : List ℕ) → length text < 1 → Err (BadChar 0) ≡ front_of text
+pub front_of_nothing : (floats : Bool) (text : List ℕ) → length text < 1 → Err (BadChar 0) ≡ front_of floats text
 unfolding front_of
-front_of_nothing [] short = refl
-front_of_nothing (c ∷ cs) short = absurd (omega (arith, short))
+front_of_nothing floats [] short = refl
+front_of_nothing floats (c ∷ cs) short = absurd (omega (arith, short))
 
-pub front_number : (text : List ℕ) → 0 < length text → is_number_start (get_or text 0 0) ≡ true → front_of text ≡ found_front text (number_found text)
+pub front_number : (floats : Bool) (text : List ℕ) → 0 < length text → is_number_start (get_or text 0 0) ≡ true → front_of floats text ≡ found_front floats text (number_found text)
 unfolding front_of
-front_number [] long is = absurd (omega (arith, long))
-front_number (c ∷ cs) long is = rw is refl
+front_number floats [] long is = absurd (omega (arith, long))
+front_number floats (c ∷ cs) long is = rw is refl
 
-pub front_text : (text : List ℕ) → 0 < length text → is_number_start (get_or text 0 0) ≡ false → (get_or text 0 0 == 34) ≡ true → front_of text ≡ text_front text
+pub front_text : (floats : Bool) (text : List ℕ) → 0 < length text → is_number_start (get_or text 0 0) ≡ false → (get_or text 0 0 == 34) ≡ true → front_of floats text ≡ text_front text
 unfolding front_of
-front_text [] long no_number is = absurd (omega (arith, long))
-front_text (c ∷ cs) long no_number is = rw no_number (rw is refl)
+front_text floats [] long no_number is = absurd (omega (arith, long))
+front_text floats (c ∷ cs) long no_number is = rw no_number (rw is refl)
 
-pub front_other : (text : List ℕ) → 0 < length text → is_number_start (get_or text 0 0) ≡ false → (get_or text 0 0 == 34) ≡ false → front_of text ≡ piece_from (get_or text 0 0) (take (length text - 1) (drop 1 text))
+pub front_other : (floats : Bool) (text : List ℕ) → 0 < length text → is_number_start (get_or text 0 0) ≡ false → (get_or text 0 0 == 34) ≡ false → front_of floats text ≡ piece_from (get_or text 0 0) (take (length text - 1) (drop 1 text))
 unfolding front_of
-front_other [] long no_number is = absurd (omega (arith, long))
-front_other (c ∷ cs) long no_number is = rw no_number (rw is (ap (piece_from c) (sym (take_rest (c ∷ cs) 1))))
+front_other floats [] long no_number is = absurd (omega (arith, long))
+front_other floats (c ∷ cs) long no_number is = rw no_number (rw is (ap (piece_from c) (sym (take_rest (c ∷ cs) 1))))
 
 pub one_test : (c : ℕ) → c ≡ 34 → (c == 34) ≡ true
 one_test c is = rw is refl

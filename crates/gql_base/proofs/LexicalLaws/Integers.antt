@@ -1,5 +1,5 @@
 -- Whether an integer is in range is what parsing tells.
-use Rattle.std.proofs.Common.{◌≡◌, ◌≢◌, ℕ, zero, suc, ◌<◌, ◌≤◌, ◌^◌, Bool, true, false, ◌==◌, List, [], ◌∷◌, ◌++◌, length, get_or, refl, sym, ap, ◌∙◌, arith, Result, Ok, Err, ℤ, subst}
+use Rattle.std.proofs.Common.{◌≡◌, ◌≢◌, ℕ, zero, suc, ◌<◌, ◌≤◌, ◌^◌, Bool, true, false, ◌==◌, List, [], ◌∷◌, ◌++◌, length, get_or, Option, Some, None, refl, sym, ap, ◌∙◌, arith, Result, Ok, Err, ℤ, subst}
 use mir.Syntax.{w128}
 use Rattle.std.specs.Result.{is_ok}
 use Rattle.std.specs.Prelude.{nat_lt, nat_le, IsUtf8}
@@ -12,7 +12,8 @@ use Rattle.std.proofs.lemmas.List.Elements.{All-head, All-tail}
 use Rattle.std.proofs.lemmas.Str.{IsUtf8-from_ascii}
 use Rattle.std.proofs.lemmas.Str.Parse.{IsNumeralModel, numerals_by_value, tells_all_ascii_digits, parse_signed_minus, parse_signed_plain}
 use Rattle.std.proofs.lemmas.Bool.{le-leb, lt-ltb}
-use Rattle.gql_base.specs.lexical.Numbers.{IsWhole, minus_bytes}
+use Rattle.gql_base.specs.lexical.Characters.{is_exponent_mark, is_sign}
+use Rattle.gql_base.specs.lexical.Numbers.{IsDigits, IsWhole, Exponent, Numeral, minus_bytes, fraction_bytes, sign_bytes, exponent_bytes, numeral_bytes, IsFraction, IsSign, IsExponent, IsNumeral}
 use Rattle.gql_base.specs.lexical.Fronts.{integer_fits}
 
 own : IsNumeralModel (λ ds. all_ascii_digits ds ≡ true) (digits_value 10)
@@ -46,6 +47,54 @@ pub integer_ascii : (minus : Bool) (ws : List ℕ) (i : ℕ) → IsWhole ws → 
 integer_ascii true ws zero is = omega arith
 integer_ascii true ws (suc i) is = whole_ascii ws i is
 integer_ascii false ws i is = whole_ascii ws i is
+
+-- ---- the bytes of a numeral are ASCII
+
+abbrev AreAscii : List ℕ → Type 0
+AreAscii xs = (i : ℕ) → get_or xs i 0 < 128
+
+none_ascii : AreAscii []
+none_ascii = λ i. omega arith
+
+more_ascii : (c : ℕ) (cs : List ℕ) → c < 128 → AreAscii cs → AreAscii (c ∷ cs)
+more_ascii c cs here others zero = here
+more_ascii c cs here others (suc i) = others i
+
+both_ascii : (xs ys : List ℕ) → AreAscii xs → AreAscii ys → AreAscii (xs ++ ys)
+both_ascii [] ys first second = second
+both_ascii (x ∷ xs) ys first second = more_ascii x (xs ++ ys) (first 0) (both_ascii xs ys (λ i. first (suc i)) second)
+
+minus_ascii : (m : Bool) → AreAscii (minus_bytes m)
+minus_ascii true = more_ascii 45 [] (omega arith) none_ascii
+minus_ascii false = none_ascii
+
+some_digits_ascii : (ds : List ℕ) → IsDigits ds → AreAscii ds
+some_digits_ascii [] is = absurd is
+some_digits_ascii (c ∷ cs) is = more_ascii c cs (digit_small c is.0) (λ i. digits_ascii cs i is.1)
+
+fraction_ascii : (f : Option (List ℕ)) → IsFraction f → AreAscii (fraction_bytes f)
+fraction_ascii None is = none_ascii
+fraction_ascii (Some ds) is = more_ascii 46 ds (omega arith) (some_digits_ascii ds is)
+
+letter_small : (c : ℕ) → is_exponent_mark c ≡ true → c < 128
+letter_small c is = grind (arith, nat_tests)
+
+sign_small : (c : ℕ) → is_sign c ≡ true → c < 128
+sign_small c is = grind (arith, nat_tests)
+
+sign_ascii : (s : Option ℕ) → IsSign s → AreAscii (sign_bytes s)
+sign_ascii None is = none_ascii
+sign_ascii (Some c) is = more_ascii c [] (sign_small c is) none_ascii
+
+exponent_ascii : (e : Option Exponent) → IsExponent e → AreAscii (exponent_bytes e)
+exponent_ascii None is = none_ascii
+exponent_ascii (Some e) is = more_ascii e.letter (sign_bytes e.sign ++ e.digits) (letter_small e.letter is.0) (both_ascii (sign_bytes e.sign) e.digits (sign_ascii e.sign is.1) (some_digits_ascii e.digits is.2))
+
+pub numeral_ascii : (n : Numeral) (i : ℕ) → IsNumeral n → get_or (numeral_bytes n) i 0 < 128
+numeral_ascii n i is =
+    let end : List ℕ = exponent_bytes n.exponent in
+    let back : AreAscii (fraction_bytes n.fraction ++ end) = both_ascii (fraction_bytes n.fraction) end (fraction_ascii n.fraction is.1) (exponent_ascii n.exponent is.2) in
+    both_ascii (minus_bytes n.minus) (n.whole ++ (fraction_bytes n.fraction ++ end)) (minus_ascii n.minus) (both_ascii n.whole (fraction_bytes n.fraction ++ end) (λ k. whole_ascii n.whole k is.0) back) i
 
 pub integer_is_text : (bytes ws : List ℕ) (minus : Bool) → bytes ≡ minus_bytes minus ++ ws → IsWhole ws → IsUtf8 bytes
 integer_is_text bytes ws minus cut is = rw cut (IsUtf8-from_ascii (minus_bytes minus ++ ws) (λ i. integer_ascii minus ws i is))

@@ -397,8 +397,8 @@ integer_taken text end there within =
     ∙ take_at (minus_bytes there.minus ++ there.whole) (drop end text) end
     (omega (arith, ap length there.cut, length-append (minus_bytes there.minus ++ there.whole) (drop end text), length-drop end text, within))
 
-pub front_fits : (text : List ℕ) (found : Found) → number_found text ≡ Some found → found.is_float ≡ false → integer_fits (take found.end text) ≡ true → Ok (front_with (Some Int) found.end) ≡ found_front text (number_found text)
-front_fits text found is whole fits = rw is (rw whole (rw fits refl))
+pub front_fits : (floats : Bool) (text : List ℕ) (found : Found) → number_found text ≡ Some found → found.is_float ≡ false → integer_fits (take found.end text) ≡ true → Ok (front_with (Some Int) found.end) ≡ found_front floats text (number_found text)
+front_fits floats text found is whole fits = rw is (rw whole (rw fits refl))
 
-pub front_too_great : (text : List ℕ) (found : Found) → number_found text ≡ Some found → found.is_float ≡ false → integer_fits (take found.end text) ≡ false → Err (BadNumber 0) ≡ found_front text (number_found text)
-front_too_great text found is whole fits = rw is (rw whole (rw fits refl))
+pub front_too_great : (floats : Bool) (text : List ℕ) (found : Found) → number_found text ≡ Some found → found.is_float ≡ false → integer_fits (take found.end text) ≡ false → Err (BadNumber 0) ≡ found_front floats text (number_found text)
+front_too_great floats text found is whole fits = rw is (rw whole (rw fits refl))

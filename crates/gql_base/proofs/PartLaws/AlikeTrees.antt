@@ -4,9 +4,9 @@ use Rattle.std.specs.Prelude.{codes, if◌then◌else◌}
 use Rattle.std.specs.Str.{bytes_eq}
 use Rattle.std.specs.Option.{option_map}
 use Rattle.gql_base.specs.declared.lexical.token.TokenKind.TheVariants.{Bang, Dollar, Colon, OpenBracket, CloseBracket, OpenBrace, CloseBrace}
-use Rattle.gql_base.specs.ways.Symbols.{Symbol, punctuator, identifier, integer, string}
+use Rattle.gql_base.specs.ways.Symbols.{Symbol, punctuator, identifier, integer, decimal, string}
 use Rattle.gql_base.specs.ways.Grammar.{Nested}
-use Rattle.gql_base.specs.parts.Values.{ValueTree, variable_value, integer_value, string_value, boolean_value, null_value, enum_value, list_value, object_value, ValueTrees, no_value, value_then, FieldTrees, no_field, field_then, literal, IsValue, AreValues, AreFields}
+use Rattle.gql_base.specs.parts.Values.{ValueTree, variable_value, integer_value, float_value, string_value, boolean_value, null_value, enum_value, list_value, object_value, ValueTrees, no_value, value_then, FieldTrees, no_field, field_then, literal, IsValue, AreValues, AreFields}
 use Rattle.gql_base.specs.parts.TypeReferences.{TypeTree, named_type, list_type, non_null_type, IsNullable, IsType}
 use Rattle.gql_base.specs.printing.PrintedTrees.{placeless, all_placeless, fields_placeless, type_placeless}
 use Rattle.gql_base.specs.printing.Alike.{AreAlike}
@@ -32,6 +32,7 @@ literal_moves : (place : ℕ) (w : Symbol) → literal (moved_symbol place w) �
 literal_moves place (punctuator kind) = refl
 literal_moves place (identifier name at) = ap (λ (t : ValueTree). Some t) (name_moves place at name (bytes_eq name (codes "true")) (bytes_eq name (codes "false")) (bytes_eq name (codes "null")))
 literal_moves place (integer value) = refl
+literal_moves place (decimal bytes) = refl
 literal_moves place (string value) = refl
 
 -- the same symbol with another offset is a value of one symbol with some offset
@@ -53,6 +54,7 @@ mutual
       let n = name_alike name at d [] dollar.0 dollar.2 in
       (variable_value name n.0, (is.0, dollar.1 ∙ ap (λ (l : Nested). (punctuator Dollar, d) ∷ l) (n.2 ∙ ap (λ (l : Nested). (identifier name n.0, d) ∷ l) (none_alike n.1 n.3))), refl)
   value_again c d (integer_value v) ws vs is alike = let r = leaf_again d (integer_value v) ws vs is alike in (integer_value v, r.1, refl)
+  value_again c d (float_value bytes) ws vs is alike = let r = leaf_again d (float_value bytes) ws vs is alike in (float_value bytes, r.1, refl)
   value_again c d (string_value v) ws vs is alike = let r = leaf_again d (string_value v) ws vs is alike in (string_value v, r.1, refl)
   value_again c d (boolean_value b) ws vs is alike = let r = leaf_again d (boolean_value b) ws vs is alike in (boolean_value b, r.1, refl)
   value_again c d null_value ws vs is alike = let r = leaf_again d null_value ws vs is alike in (null_value, r.1, refl)

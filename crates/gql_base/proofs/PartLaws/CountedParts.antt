@@ -2,7 +2,7 @@
 use Rattle.std.proofs.Common.{ℕ, Bool, true, List, [], refl}
 use Rattle.gql_base.specs.declared.lexical.token.TokenKind.{TokenKind}
 use Rattle.gql_base.specs.declared.lexical.token.TokenKind.TheVariants.{Colon, Equals, At, OpenParen, CloseParen}
-use Rattle.gql_base.specs.ways.Symbols.{punctuator, identifier, integer, string}
+use Rattle.gql_base.specs.ways.Symbols.{punctuator, identifier, integer, decimal, string}
 use Rattle.gql_base.specs.ways.Reading.{second, inside, some_second, exact, keyword, any_string}
 use Rattle.gql_base.specs.ways.Grammar.{Nested, Single, Pair, Image, Optional, OneOrMore}
 use Rattle.gql_base.specs.parts.Values.{named_value_of}
@@ -20,6 +20,7 @@ word_counted word = single_counted (keyword word) flat
     flat (identifier bytes at) a e = λ d. (refl, refl)
     flat (punctuator kind) a e = cc
     flat (integer value) a e = cc
+    flat (decimal bytes) a e = cc
     flat (string value) a e = cc
 
 pub string_counted : {d : ℕ} → Counted (Single any_string d) d
@@ -30,6 +31,7 @@ string_counted = single_counted any_string flat
     flat (identifier bytes at) a e = cc
     flat (punctuator kind) a e = cc
     flat (integer value) a e = cc
+    flat (decimal bytes) a e = cc
 
 pub kind_counted : {d : ℕ} → Counted (Single kind_word d) d
 kind_counted = single_counted kind_word flat
@@ -38,6 +40,7 @@ kind_counted = single_counted kind_word flat
     flat (identifier bytes at) a e = λ d. (refl, refl)
     flat (punctuator kind) a e = cc
     flat (integer value) a e = cc
+    flat (decimal bytes) a e = cc
     flat (string value) a e = cc
 
 -- one thing or more between two punctuators that open no level

@@ -1,7 +1,7 @@
 -- Reading type references gives what is written as types.
 use Rattle.std.proofs.Common.{ℕ, zero, suc, ◌+◌, ◌≡◌, ◌≤◌, inl, inr, Bool, true, false, List, [], ◌∷◌, ◌++◌, Option, None, Some, Ok, refl, sym, ap, ◌∙◌, subst, arith, append-nil}
 use Rattle.gql_base.specs.declared.lexical.token.TokenKind.TheVariants.{Bang, OpenBracket, CloseBracket}
-use Rattle.gql_base.specs.ways.Symbols.{Symbol, punctuator, identifier, integer, string, Symbols}
+use Rattle.gql_base.specs.ways.Symbols.{Symbol, punctuator, identifier, integer, decimal, string, Symbols}
 use Rattle.gql_base.specs.ways.Reading.{Reader, Test, next, takes, pair, image, then_read, level, exact, never}
 use Rattle.gql_base.specs.ways.Grammar.{Nested, plain, Within, Single, Pair, Image, Choice, Empty, Level}
 use Rattle.gql_base.specs.parts.TypeReferences.{TypeTree, named_type, list_type, non_null_type, IsNullable, IsType, type_name, listed_type, there, with_bang, bang_at, in_list_type, nullable_with, type_with, type_at, nullable_at}
@@ -28,6 +28,7 @@ type_name_is (identifier n at) t e = (n, at, refl, same t e)
     same : (t : TypeTree) → Some (named_type n at) ≡ Some t → t ≡ named_type n at
     same t e = cc
 type_name_is (integer v) t e = cc
+type_name_is (decimal bytes) t e = cc
 type_name_is (string v) t e = cc
 
 nullable_is : (d : ℕ) (t : TypeTree) (f : Nested) → WrittenNullable d t f → IsNullable t × IsType d t f

@@ -3,10 +3,10 @@ use Rattle.std.proofs.Common.{ℕ, ℤ, zero, suc, ◌+◌, ◌≡◌, ◌≤◌
 use Rattle.std.specs.Prelude.{codes, if◌then◌else◌}
 use Rattle.std.specs.Str.{bytes_eq}
 use Rattle.gql_base.specs.declared.lexical.token.TokenKind.TheVariants.{Dollar, Colon, OpenBracket, CloseBracket, OpenBrace, CloseBrace}
-use Rattle.gql_base.specs.ways.Symbols.{Symbol, punctuator, identifier, integer, string}
+use Rattle.gql_base.specs.ways.Symbols.{Symbol, punctuator, identifier, integer, decimal, string}
 use Rattle.gql_base.specs.ways.Reading.{Reader, Test, takes, level, exact, any_name, up_to, never}
 use Rattle.gql_base.specs.ways.Grammar.{Nested, Single, Pair, Image, Choice, Repeated, Level}
-use Rattle.gql_base.specs.parts.Values.{ValueTree, variable_value, integer_value, string_value, boolean_value, null_value, enum_value, list_value, object_value, ValueTrees, no_value, value_then, FieldTrees, no_field, field_then, literal, IsValue, AreValues, AreFields, values_from, NamedValue, fields_from, list_of, object_of, named_value_of, variable_of, named_value_at, in_list, in_object, takes_variable, simple_at, value_with, value_at}
+use Rattle.gql_base.specs.parts.Values.{ValueTree, variable_value, integer_value, float_value, string_value, boolean_value, null_value, enum_value, list_value, object_value, ValueTrees, no_value, value_then, FieldTrees, no_field, field_then, literal, IsValue, AreValues, AreFields, values_from, NamedValue, fields_from, list_of, object_of, named_value_of, variable_of, named_value_at, in_list, in_object, takes_variable, simple_at, value_with, value_at}
 use Rattle.gql_base.proofs.WayLaws.ReadingLaws.{Law, Heads, as_law, image_law, single_law, choice_law, after}
 use Rattle.gql_base.proofs.WayLaws.LevelLaws.{open_law, shut_law, Family}
 use Rattle.gql_base.proofs.WayLaws.SymbolTests.{exact_is, name_is, mark_law, name_law, heads_single, heads_mark, heads_name, SaysOfNames, heads_pair, heads_image, heads_choice, passes_heads, closed_law, from_brackets, to_brackets, heads_level, takes_level}
@@ -52,6 +52,7 @@ literal_leaf : (w : Symbol) (t : ValueTree) → literal w ≡ Some t → IsLeaf 
 literal_leaf (punctuator k) t e = cc
 literal_leaf (identifier n at) t e = subst LeafOf e (if_leaf (bytes_eq n (codes "true")) (boolean_value true) _ tt (if_leaf (bytes_eq n (codes "false")) (boolean_value false) _ tt (if_leaf (bytes_eq n (codes "null")) null_value (enum_value n at) tt tt)))
 literal_leaf (integer v) t e = subst LeafOf e tt
+literal_leaf (decimal bytes) t e = subst LeafOf e tt
 literal_leaf (string v) t e = subst LeafOf e tt
 
 -- what the ways of reading say is what values are
@@ -62,6 +63,7 @@ literal_is c d (variable_value n at) f is = absurd (literal_leaf is.0 _ is.2)
 literal_is c d (list_value vs) f is = absurd (literal_leaf is.0 _ is.2)
 literal_is c d (object_value fs) f is = absurd (literal_leaf is.0 _ is.2)
 literal_is c d (integer_value v) f is = is
+literal_is c d (float_value bytes) f is = is
 literal_is c d (string_value v) f is = is
 literal_is c d (boolean_value b) f is = is
 literal_is c d null_value f is = is
@@ -142,6 +144,7 @@ of_value true d (variable_value n at) f is = absurd (true_not_false is.0)
     true_not_false e = cc
 of_value false d (variable_value n at) f is = inr (inr (inl (of_variable d n at f is.1)))
 of_value c d (integer_value v) f is = inr (inr (of_literal c d _ f is))
+of_value c d (float_value bytes) f is = inr (inr (of_literal c d _ f is))
 of_value c d (string_value v) f is = inr (inr (of_literal c d _ f is))
 of_value c d (boolean_value b) f is = inr (inr (of_literal c d _ f is))
 of_value c d null_value f is = inr (inr (of_literal c d _ f is))
@@ -153,16 +156,18 @@ of_value c d (object_value fs) f is = let r = of_fields c (suc d) fs is.0 is.2 i
 
 -- with what values begin
 
--- what a test says of names, integers and strings
+-- what a test says of names, numbers and strings
 pub record SaysOfLiterals (b : Bool) (test : Test) : Type 0 where
   pub names : SaysOfNames b test
   pub integers : (v : ℤ) → test (Some (integer v)) ≡ b
+  pub floats : (bytes : List ℕ) → test (Some (decimal bytes)) ≡ b
   pub strings : (v : List ℕ) → test (Some (string v)) ≡ b
 
 literal_says : {b : Bool} {test : Test} → SaysOfLiterals b test → (w : Symbol) (t : ValueTree) → literal w ≡ Some t → test (Some w) ≡ b
 literal_says s (punctuator k) t e = cc
 literal_says s (identifier n at) t e = s.names n at
 literal_says s (integer v) t e = s.integers v
+literal_says s (decimal bytes) t e = s.floats bytes
 literal_says s (string v) t e = s.strings v
 
 heads_literal : {b : Bool} {test : Test} {d : ℕ} → SaysOfLiterals b test → Heads b test (Single literal d)
@@ -186,7 +191,7 @@ pub heads_value : {b : Bool} {test : Test} (c : Bool) (d : ℕ) → SaysOfValues
 heads_value c d s = let h = heads_written c d s in record { says = λ a f rest is. h.says a f rest (of_value c d a f is) }
 
 pub value_begins : (c : Bool) (d : ℕ) → Heads true (up_to CloseBracket) (IsValue c d)
-value_begins c d = heads_value c d (record { literals = record { names = λ n at. refl; integers = λ v. refl; strings = λ v. refl }; dollar = refl; list = refl; object = refl })
+value_begins c d = heads_value c d (record { literals = record { names = λ n at. refl; integers = λ v. refl; floats = λ bytes. refl; strings = λ v. refl }; dollar = refl; list = refl; object = refl })
 
 pub field_begins : {b : Bool} {test : Test} (c : Bool) (d : ℕ) → SaysOfNames b test → Heads b test (WrittenField c d)
 field_begins c d says = heads_image (heads_pair _ (heads_name says))
@@ -196,13 +201,13 @@ field_begins c d says = heads_image (heads_pair _ (heads_name says))
 simple_law : {d n : ℕ} (c : Bool) → d ≤ n → Law (WrittenSimple c d) n never (simple_at c) (simple_at c)
 simple_law true le = single_law literal (string_value []) (string []) refl le
 simple_law false le = choice_law (takes_variable false) (image_law variable_of (after (mark_law Dollar le) (name_law le))) (single_law literal (string_value []) (string []) refl le) (λ w e. (refl, refl))
-    (heads_image (heads_pair _ (heads_mark Dollar tt refl))) (passes_heads (heads_literal (record { names = λ n at. refl; integers = λ v. refl; strings = λ v. refl })))
+    (heads_image (heads_pair _ (heads_mark Dollar tt refl))) (passes_heads (heads_literal (record { names = λ n at. refl; integers = λ v. refl; floats = λ bytes. refl; strings = λ v. refl })))
 
 with_law : {d n : ℕ} (c : Bool) (list more object more2 : Option (Reader ValueTree)) → d ≤ n → Law (WrittenList c d) n never (level (exact OpenBracket) list) (level (exact OpenBracket) more)
     → Law (WrittenObject c d) n never (level (exact OpenBrace) object) (level (exact OpenBrace) more2) → Law (IsValue c d) n never (value_with c list object) (value_with c more more2)
 with_law {d = d} c list more object more2 le l o = as_law (value_is c d) (of_value c d)
-    (choice_law (takes (exact OpenBracket)) l (choice_law (takes (exact OpenBrace)) o (simple_law c le) (λ w e. (refl, refl)) (takes_level _ (exact OpenBrace)) (passes_heads (heads_simple c d (record { names = λ n at. refl; integers = λ v. refl; strings = λ v. refl }) refl))) (λ w e. (refl, refl))
-    (takes_level _ (exact OpenBracket)) (passes_heads (heads_choice (heads_level _ (exact OpenBrace) (heads_mark OpenBrace tt refl)) (heads_simple c d (record { names = λ n at. refl; integers = λ v. refl; strings = λ v. refl }) refl))))
+    (choice_law (takes (exact OpenBracket)) l (choice_law (takes (exact OpenBrace)) o (simple_law c le) (λ w e. (refl, refl)) (takes_level _ (exact OpenBrace)) (passes_heads (heads_simple c d (record { names = λ n at. refl; integers = λ v. refl; floats = λ bytes. refl; strings = λ v. refl }) refl))) (λ w e. (refl, refl))
+    (takes_level _ (exact OpenBracket)) (passes_heads (heads_choice (heads_level _ (exact OpenBrace) (heads_mark OpenBrace tt refl)) (heads_simple c d (record { names = λ n at. refl; integers = λ v. refl; floats = λ bytes. refl; strings = λ v. refl }) refl))))
 
 pub field_law : (c : Bool) (d : ℕ) {n : ℕ} {value more : Reader ValueTree} → d ≤ n → Law (IsValue c d) n never value more → Law (WrittenField c d) n never (named_value_at value) (named_value_at more)
 field_law c d le l = image_law named_value_of (after (name_law le) (after (mark_law Colon le) l))

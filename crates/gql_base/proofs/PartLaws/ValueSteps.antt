@@ -4,7 +4,7 @@ use Rattle.gql_base.specs.declared.lexical.token.TokenKind.TheVariants.{OpenBrac
 use Rattle.gql_base.specs.declared.parts.trees.Value.{Value}
 use Rattle.gql_base.specs.declared.parts.trees.Argument.{Argument}
 use Rattle.gql_base.specs.declared.parts.trees.Value.TheViews.{List as ListValue, Object as ObjectValue}
-use Rattle.gql_base.specs.declared.parts.trees.Value.TheBlock.{Var as VarValue, Int as IntValue, Str as StrValue, Bool as BoolValue, Null as NullValue, EnumName as EnumValue}
+use Rattle.gql_base.specs.declared.parts.trees.Value.TheBlock.{Var as VarValue, Int as IntValue, Float as FloatValue, Str as StrValue, Bool as BoolValue, Null as NullValue, EnumName as EnumValue}
 use Rattle.gql_base.specs.declared.parts.trees.TypeRef.TheBlock.{Named as NamedType}
 use Rattle.gql_base.specs.declared.parts.trees.Name.{Name}
 use Rattle.gql_base.specs.declared.parts.trees.Value.TheOpen.{Value-F}
@@ -16,7 +16,7 @@ use Rattle.gql_base.specs.declared.parts.trees.TypeRef.TheFolds.{fold-roll-TypeR
 use Rattle.gql_base.specs.ways.Symbols.{Symbols}
 use Rattle.gql_base.specs.ways.Reading.{Reader, next, single, pair, image, choice, takes, exact, level, second, up_to}
 use Rattle.gql_base.specs.parts.Trees.{value_tree, named_value, value_step, argument_step, type_tree, type_step}
-use Rattle.gql_base.specs.parts.Values.{ValueTree, NamedValue, variable_value, integer_value, string_value, boolean_value, null_value, enum_value, list_value, object_value, values_from, fields_from, value_at, list_at, object_at, in_list, in_object, named_value_at, simple_at}
+use Rattle.gql_base.specs.parts.Values.{ValueTree, NamedValue, variable_value, integer_value, float_value, string_value, boolean_value, null_value, enum_value, list_value, object_value, values_from, fields_from, value_at, list_at, object_at, in_list, in_object, named_value_at, simple_at}
 use Rattle.gql_base.specs.parts.TypeReferences.{named_type, TypeTree, list_type, non_null_type, type_at, nullable_at, list_type_at, in_list_type, type_name}
 use Rattle.gql_base.proofs.WayLaws.ReadingLaws.{chose_first, chose_second}
 use Rattle.gql_base.proofs.WayLaws.RepeatingLaws.{Repeats, repeats}
@@ -98,6 +98,10 @@ variable_tree n = fold-roll-Value ValueTree NamedValue value_step argument_step 
 pub integer_tree : (v : ℤ) → value_tree (IntValue v) ≡ integer_value v
 unfolding value_tree Rattle.gql_base.specs.declared.parts.trees.Value.TheViews.roll-Value denote.Hole.Carrier.roll
 integer_tree v = fold-roll-Value ValueTree NamedValue value_step argument_step (Value-F.Int v)
+
+pub float_tree : (v : List ℕ) → value_tree (FloatValue v) ≡ float_value v
+unfolding value_tree Rattle.gql_base.specs.declared.parts.trees.Value.TheViews.roll-Value denote.Hole.Carrier.roll
+float_tree v = fold-roll-Value ValueTree NamedValue value_step argument_step (Value-F.Float v)
 
 pub string_tree : (v : List ℕ) → value_tree (StrValue v) ≡ string_value v
 unfolding value_tree Rattle.gql_base.specs.declared.parts.trees.Value.TheViews.roll-Value denote.Hole.Carrier.roll

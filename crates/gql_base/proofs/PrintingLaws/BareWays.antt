@@ -6,7 +6,7 @@ use Rattle.std.specs.Str.{bytes_eq}
 use Rattle.std.proofs.lemmas.Slice.Eq.{bytes_eq-Decides}
 use Rattle.gql_base.specs.declared.lexical.token.TokenKind.{TokenKind}
 use Rattle.gql_base.specs.declared.lexical.token.TokenKind.TheVariants.{OpenParen, CloseParen}
-use Rattle.gql_base.specs.ways.Symbols.{Symbol, punctuator, identifier, integer, string, Symbols}
+use Rattle.gql_base.specs.ways.Symbols.{Symbol, punctuator, identifier, integer, decimal, string, Symbols}
 use Rattle.gql_base.specs.ways.Reading.{Taking, inside, exact, any_name, keyword, listed}
 use Rattle.gql_base.specs.ways.Grammar.{Nested, Single, Pair, Image, Optional, Repeated, OneOrMore}
 use Rattle.gql_base.specs.printing.PrintedTrees.{printed_name, in_parentheses}
@@ -36,6 +36,7 @@ bare_word bytes = bare_single (keyword bytes) (λ a. printed_name bytes) same
     same (punctuator kind) a e = cc
     same (identifier name at) a e = sym (ap printed_name ((bytes_eq-Decides name bytes).0 (when_true (bytes_eq name bytes) a e)))
     same (integer value) a e = cc
+    same (decimal bytes) a e = cc
     same (string value) a e = cc
 
 pub bare_pair : {A B : Type 0} {S : A → Nested → Type 0} {T : B → Nested → Type 0} {xs : A → Symbols} {ys : B → Symbols} → Bare S xs → Bare T ys → Bare (Pair S T) (λ p. xs p.0 ++ ys p.1)

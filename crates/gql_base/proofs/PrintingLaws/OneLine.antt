@@ -1,7 +1,7 @@
 -- What is shown within a line.
 use Rattle.std.proofs.Common.{◌≡◌, ◌<◌, ◌≤◌, inl, inr, ℕ, zero, suc, Bool, true, false, not, ◌&&◌, ◌||◌, nat_le, List, [], ◌∷◌, ◌++◌, length, get_or, refl, sym, ap, ap₂, ◌∙◌, subst, arith, append_assoc, append-nil, true≢false}
-use Rattle.std.specs.Prelude.{◌+◌, cond, nat_lt, if◌then◌else◌, Result, Ok, Err, OnOk, is_ok}
-use Rattle.std.specs.Char.{digit_char, encode_utf8, is_ascii_control}
+use Rattle.std.specs.Prelude.{◌+◌, ◌-◌, cond, nat_lt, if◌then◌else◌, Result, Ok, Err, OnOk, is_ok}
+use Rattle.std.specs.Char.{digit_char, encode_utf8, is_ascii_control, to_ascii_uppercase}
 use Rattle.std.specs.Int.{is_in_range}
 use Rattle.std.specs.List.{flat_map, list_all}
 use Rattle.std.proofs.lemmas.Bool.{cases_Bool, cases_lt, and_parts, leb-true}
@@ -9,6 +9,7 @@ use Rattle.std.proofs.lemmas.Grind.{flat_map-append}
 use Rattle.std.proofs.lemmas.List.Folds.{list_all-append}
 use Rattle.std.proofs.lemmas.Str.{encode_ascii, inside_one}
 use Rattle.gql_base.specs.printing.OneLine.{control_number, shown_byte, shown_in_line, is_one_line}
+use Rattle.gql_base.specs.printing.Printing.{upper_digit, escape_number, numbered}
 
 abbrev plain : ℕ → Bool
 plain c = not (is_ascii_control c)
@@ -131,6 +132,31 @@ digit_small d h = elim (cases_Bool (nat_lt d 10)) [
   | inr high ↦ subst (λ b. cond b (48 + d) (87 + d) < 128) (sym high) (omega (arith, h))
 ]
 
+-- a character of ASCII
+pub ascii_pushed : {A E : Type 0} (r : Result A E) (new old : List ℕ) (c d : ℕ) → d < 128 → c ≡ d → new ≡ (if is_ok r then old ++ encode_utf8 c else old) → OnOk r (new ≡ old ++ d ∷ [])
+ascii_pushed r new old c d small is pushed =
+    subst (λ xs. OnOk r (new ≡ old ++ xs)) (ap encode_utf8 is ∙ encode_ascii d small) (pushed_where_ok r new old (encode_utf8 c) pushed)
+
 pub digit_pushed : {A E : Type 0} (r : Result A E) (new old : List ℕ) (c d : ℕ) → d < 16 → c ≡ digit_char d → new ≡ (if is_ok r then old ++ encode_utf8 c else old) → OnOk r (new ≡ old ++ digit_char d ∷ [])
-digit_pushed r new old c d h is pushed =
-    subst (λ xs. OnOk r (new ≡ old ++ xs)) (ap encode_utf8 is ∙ encode_ascii (digit_char d) (digit_small d h)) (pushed_where_ok r new old (encode_utf8 c) pushed)
+digit_pushed r new old c d h is pushed = ascii_pushed r new old c (digit_char d) (digit_small d h) is pushed
+
+-- ---- what is printed of a character in a string
+
+upper_small : (c : ℕ) → c < 128 → to_ascii_uppercase c < 128
+upper_small c h = elim (cases_Bool (nat_lt c 97)) [
+  | inl low ↦ rw low h
+  | inr high ↦ elim (cases_Bool (nat_lt c 123)) [
+    | inl letter ↦ rw (high, letter) (omega (arith, h))
+    | inr other ↦ rw (high, other) h
+  ]
+]
+
+pub upper_pushed : {A E : Type 0} (r : Result A E) (new old : List ℕ) (c u d : ℕ) → d < 16 → c ≡ digit_char d → u ≡ to_ascii_uppercase c → new ≡ (if is_ok r then old ++ encode_utf8 u else old)
+    → OnOk r (new ≡ old ++ upper_digit d ∷ [])
+upper_pushed r new old c u d h is upper pushed = ascii_pushed r new old u (upper_digit d) (upper_small (digit_char d) (digit_small d h)) (upper ∙ ap to_ascii_uppercase is) pushed
+
+pub numbered_control : (c : ℕ) → is_ascii_control c ≡ true → numbered c ≡ escape_number c
+numbered_control c is = rw is refl
+
+pub numbered_plain : (c : ℕ) → is_ascii_control c ≡ false → numbered c ≡ encode_utf8 c
+numbered_plain c is = rw is refl

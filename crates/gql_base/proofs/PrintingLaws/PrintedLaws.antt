@@ -4,9 +4,9 @@ use Rattle.std.specs.Prelude.{codes, if◌then◌else◌}
 use Rattle.std.specs.Str.{bytes_eq}
 use Rattle.gql_base.specs.declared.lexical.token.TokenKind.{TokenKind}
 use Rattle.gql_base.specs.declared.lexical.token.TokenKind.TheVariants.{Bang, Dollar, Colon, OpenBracket, CloseBracket, OpenBrace, CloseBrace}
-use Rattle.gql_base.specs.ways.Symbols.{Symbol, punctuator, identifier, integer, string, Symbols}
+use Rattle.gql_base.specs.ways.Symbols.{Symbol, punctuator, identifier, integer, decimal, string, Symbols}
 use Rattle.gql_base.specs.ways.Grammar.{Nested, plain, Within, Bracketed}
-use Rattle.gql_base.specs.parts.Values.{ValueTree, variable_value, integer_value, string_value, boolean_value, null_value, enum_value, list_value, object_value, ValueTrees, no_value, value_then, FieldTrees, no_field, field_then, literal, IsValue, AreValues, AreFields}
+use Rattle.gql_base.specs.parts.Values.{ValueTree, variable_value, integer_value, float_value, string_value, boolean_value, null_value, enum_value, list_value, object_value, ValueTrees, no_value, value_then, FieldTrees, no_field, field_then, literal, IsValue, AreValues, AreFields}
 use Rattle.gql_base.specs.parts.TypeReferences.{TypeTree, named_type, list_type, non_null_type, IsNullable, IsType}
 use Rattle.gql_base.specs.printing.PrintedTrees.{printed_name, boolean_name, value_symbols, values_symbols, fields_symbols, type_symbols, placeless, all_placeless, fields_placeless, type_placeless}
 use Rattle.gql_base.proofs.WayLaws.ReadingLaws.{plain_append, within_append, within_front, within_back}
@@ -40,6 +40,7 @@ enum_anywhere bytes name at place false false false e = (refl, cc)
 enum_literal : (w : Symbol) (name : List ℕ) (at : ℕ) → literal w ≡ Some (enum_value name at) → literal (identifier name 0) ≡ Some (enum_value name 0)
 enum_literal (punctuator k) name at e = cc
 enum_literal (integer v) name at e = cc
+enum_literal (decimal bytes) name at e = cc
 enum_literal (string v) name at e = cc
 enum_literal (identifier bytes place) name at e =
     let p = enum_anywhere bytes name place at (bytes_eq bytes (codes "true")) (bytes_eq bytes (codes "false")) (bytes_eq bytes (codes "null")) e in
@@ -63,6 +64,7 @@ mutual
   pub value_rewritten : (n : ℕ) (c : Bool) (d : ℕ) (t : ValueTree) (ws : Nested) → IsValue c d t ws → Within n ws → Rewritten n (IsValue c d (placeless t)) (value_symbols t)
   value_rewritten n c d (variable_value name at) ws is b = let h = subst (Within n) is.1 b in record { front = (punctuator Dollar, d) ∷ (identifier name 0, d) ∷ []; same = refl; within = (h.0, (h.1.0, tt)); written = (is.0, refl) }
   value_rewritten n c d (integer_value v) ws is b = record { front = (integer v, d) ∷ []; same = refl; within = one_within n d is.0 (integer v) ws is.1 b; written = (integer v, refl, refl) }
+  value_rewritten n c d (float_value bytes) ws is b = record { front = (decimal bytes, d) ∷ []; same = refl; within = one_within n d is.0 (decimal bytes) ws is.1 b; written = (decimal bytes, refl, refl) }
   value_rewritten n c d (string_value v) ws is b = record { front = (string v, d) ∷ []; same = refl; within = one_within n d is.0 (string v) ws is.1 b; written = (string v, refl, refl) }
   value_rewritten n c d (boolean_value v) ws is b = record { front = (identifier (boolean_name v) 0, d) ∷ []; same = refl; within = one_within n d is.0 (identifier (boolean_name v) 0) ws is.1 b; written = (identifier (boolean_name v) 0, refl, boolean_literal v) }
   value_rewritten n c d null_value ws is b = record { front = (identifier (codes "null") 0, d) ∷ []; same = refl; within = one_within n d is.0 (identifier (codes "null") 0) ws is.1 b; written = (identifier (codes "null") 0, refl, refl) }

@@ -7,9 +7,9 @@ use Rattle.std.proofs.lemmas.Slice.Eq.{bytes_eq-Decides}
 use Rattle.std.proofs.lemmas.Option.{same_Some}
 use Rattle.gql_base.specs.declared.lexical.token.TokenKind.{TokenKind}
 use Rattle.gql_base.specs.declared.lexical.token.TokenKind.TheVariants.{Bang, Colon, OpenBracket, CloseBracket, OpenBrace, CloseBrace}
-use Rattle.gql_base.specs.ways.Symbols.{Symbol, punctuator, identifier, integer, string, Symbols}
+use Rattle.gql_base.specs.ways.Symbols.{Symbol, punctuator, identifier, integer, decimal, string, Symbols}
 use Rattle.gql_base.specs.ways.Grammar.{Nested, plain, Bracketed}
-use Rattle.gql_base.specs.parts.Values.{ValueTree, variable_value, integer_value, string_value, boolean_value, null_value, enum_value, list_value, object_value, ValueTrees, no_value, value_then, FieldTrees, no_field, field_then, value_of_name, literal, IsValue, AreValues, AreFields}
+use Rattle.gql_base.specs.parts.Values.{ValueTree, variable_value, integer_value, float_value, string_value, boolean_value, null_value, enum_value, list_value, object_value, ValueTrees, no_value, value_then, FieldTrees, no_field, field_then, value_of_name, literal, IsValue, AreValues, AreFields}
 use Rattle.gql_base.specs.parts.TypeReferences.{TypeTree, named_type, list_type, non_null_type, IsType}
 use Rattle.gql_base.specs.printing.PrintedTrees.{value_symbols, values_symbols, fields_symbols, type_symbols}
 use Rattle.gql_base.specs.printing.PlacelessSymbols.{placeless_symbol}
@@ -41,6 +41,7 @@ literal_symbol : (w : Symbol) (t : ValueTree) → literal w ≡ Some t → value
 unfolding value_symbols
 literal_symbol (punctuator kind) t e = cc
 literal_symbol (integer value) t e = ap value_symbols (sym (same_Some (integer_value value) t e))
+literal_symbol (decimal bytes) t e = ap value_symbols (sym (same_Some (float_value bytes) t e))
 literal_symbol (string value) t e = ap value_symbols (sym (same_Some (string_value value) t e))
 literal_symbol (identifier name at) t e = ap value_symbols (sym (same_Some (value_of_name name at) t e))
     ∙ named_symbol at name (bytes_eq name (codes "true")) (bytes_eq name (codes "false")) (bytes_eq name (codes "null"))
@@ -55,6 +56,7 @@ mutual
   pub value_is_bare : (c : Bool) (d : ℕ) (t : ValueTree) (ws : Nested) → IsValue c d t ws → value_symbols t ≡ map placeless_symbol (plain ws)
   value_is_bare c d (variable_value name at) ws is = ap bare (sym is.1)
   value_is_bare c d (integer_value v) ws is = leaf_symbols d (integer_value v) ws is
+  value_is_bare c d (float_value bytes) ws is = leaf_symbols d (float_value bytes) ws is
   value_is_bare c d (string_value v) ws is = leaf_symbols d (string_value v) ws is
   value_is_bare c d (boolean_value b) ws is = leaf_symbols d (boolean_value b) ws is
   value_is_bare c d null_value ws is = leaf_symbols d null_value ws is

@@ -2,9 +2,9 @@
 -- the offsets of its names.
 use Rattle.std.proofs.Common.{ℕ, ◌≡◌, [], ◌∷◌, refl, ap}
 use Rattle.std.specs.Prelude.{map}
-use Rattle.gql_base.specs.ways.Symbols.{Symbol, punctuator, identifier, integer, string, Symbols}
+use Rattle.gql_base.specs.ways.Symbols.{Symbol, punctuator, identifier, integer, decimal, string, Symbols}
 use Rattle.gql_base.specs.ways.Grammar.{Nested, plain, Within}
-use Rattle.gql_base.specs.parts.Values.{ValueTree, variable_value, integer_value, string_value, boolean_value, null_value, enum_value, list_value, object_value, ValueTrees, no_value, value_then, FieldTrees, no_field, field_then}
+use Rattle.gql_base.specs.parts.Values.{ValueTree, variable_value, integer_value, float_value, string_value, boolean_value, null_value, enum_value, list_value, object_value, ValueTrees, no_value, value_then, FieldTrees, no_field, field_then}
 use Rattle.gql_base.specs.parts.TypeReferences.{TypeTree, named_type, list_type, non_null_type}
 use Rattle.gql_base.specs.printing.PrintedTrees.{placeless, all_placeless, fields_placeless, type_placeless}
 use Rattle.gql_base.specs.printing.PlacelessSymbols.{placeless_symbol}
@@ -32,6 +32,7 @@ symbol_placeless_twice : (w : Symbol) → placeless_symbol (placeless_symbol w) 
 symbol_placeless_twice (punctuator kind) = refl
 symbol_placeless_twice (identifier bytes at) = refl
 symbol_placeless_twice (integer value) = refl
+symbol_placeless_twice (decimal bytes) = refl
 symbol_placeless_twice (string value) = refl
 
 pub symbols_placeless_twice : (zs : Symbols) → map placeless_symbol (map placeless_symbol zs) ≡ map placeless_symbol zs
@@ -44,6 +45,7 @@ mutual
   pub placeless_twice : (t : ValueTree) → placeless (placeless t) ≡ placeless t
   placeless_twice (variable_value name at) = refl
   placeless_twice (integer_value v) = refl
+  placeless_twice (float_value bytes) = refl
   placeless_twice (string_value v) = refl
   placeless_twice (boolean_value b) = refl
   placeless_twice null_value = refl

@@ -1,5 +1,5 @@
 -- The symbols of a UTF-8 text: its integers have 128 bits, and its strings are in UTF-8.
-use Rattle.std.proofs.Common.{◌≡◌, inl, inr, ℕ, zero, suc, ◌+◌, ◌-◌, ◌<◌, ◌≤◌, true, List, [], ◌∷◌, ◌++◌, length, drop, get_or, All, IsUtf8, IsCharBoundary, refl, sym, ap, ◌∙◌, arith, Option, Some, None, subst, append_assoc}
+use Rattle.std.proofs.Common.{◌≡◌, inl, inr, ℕ, zero, suc, ◌+◌, ◌-◌, ◌<◌, ◌≤◌, true, List, [], ◌∷◌, ◌++◌, length, drop, get_or, All, IsUtf8, IsCharBoundary, refl, sym, ap, ◌∙◌, arith, Option, Some, None, subst, append_assoc, Bool}
 use Rattle.std.specs.List.{AllPass}
 use Rattle.std.specs.Char.{InScalarRange, encode_utf8}
 use Rattle.std.proofs.Math.Utf8.{encode, encodes, scalar, scalars}
@@ -11,7 +11,7 @@ use Rattle.std.proofs.lemmas.Str.{IsUtf8-nil, IsUtf8-append, IsUtf8-encode, IsUt
 use Rattle.gql_base.specs.declared.lexical.strings.Escape.{Escape}
 use Rattle.gql_base.specs.declared.lexical.token.Token.{Token}
 use Rattle.gql_base.specs.lexical.Scans.{escape_at, text_value, is_plain_byte}
-use Rattle.gql_base.specs.lexical.Pieces.{Lexeme, word, number, string as text_lexeme, block, mark, Piece, token, byte_order_mark, blank, comment, lexeme_bytes, IsLexeme, Divides}
+use Rattle.gql_base.specs.lexical.Pieces.{Lexeme, word, number, float, string as text_lexeme, block, mark, Piece, token, byte_order_mark, blank, comment, lexeme_bytes, IsLexeme, Divides}
 use Rattle.gql_base.specs.lexical.Tokens.{Lexes}
 use Rattle.gql_base.specs.ways.Symbols.{symbols_from}
 use Rattle.gql_base.specs.printing.PrintableSymbols.{IsTextual}
@@ -116,26 +116,27 @@ body_utf8 text marks body after cut some ascii utf8 =
 
 -- ---- symbols
 
-lexeme_textual : (l : Lexeme) (text after : List ℕ) (at : ℕ) → IsLexeme l → text ≡ lexeme_bytes l ++ after → IsUtf8 text → IsTextual (symbol_at at l)
+lexeme_textual : (floats : Bool) (l : Lexeme) (text after : List ℕ) (at : ℕ) → IsLexeme floats l → text ≡ lexeme_bytes l ++ after → IsUtf8 text → IsTextual floats (symbol_at at l)
 unfolding symbol_at
-lexeme_textual (word bytes) text after at is cut utf8 = is
-lexeme_textual (number bytes) text after at is cut utf8 = integer_fits_128 bytes is
-lexeme_textual (text_lexeme body) text after at is cut utf8 =
+lexeme_textual floats (word bytes) text after at is cut utf8 = is
+lexeme_textual floats (number bytes) text after at is cut utf8 = integer_fits_128 bytes is
+lexeme_textual floats (float bytes) text after at is cut utf8 = is
+lexeme_textual floats (text_lexeme body) text after at is cut utf8 =
     string_value_utf8 body (body_utf8 text (34 ∷ []) body after (cut ∙ ap (λ xs. 34 ∷ xs) (append_assoc body (34 ∷ []) after)) (omega arith) (omega arith, omega arith) utf8)
-lexeme_textual (block body) text after at is cut utf8 =
+lexeme_textual floats (block body) text after at is cut utf8 =
     block_text_is_utf8 body (body_utf8 text (34 ∷ 34 ∷ 34 ∷ []) body after (cut ∙ ap (λ xs. 34 ∷ 34 ∷ 34 ∷ xs) (append_assoc body (34 ∷ 34 ∷ 34 ∷ []) after)) (omega arith) (omega arith, omega arith) utf8)
-lexeme_textual (mark kind) text after at is cut utf8 = is
+lexeme_textual floats (mark kind) text after at is cut utf8 = is
 
-pieces_textual : (ps : List Piece) (text : List ℕ) (at : ℕ) → IsUtf8 text → Divides ps text [] → All IsTextual (symbols_in at ps)
+pieces_textual : (floats : Bool) (ps : List Piece) (text : List ℕ) (at : ℕ) → IsUtf8 text → Divides floats ps text [] → All (IsTextual floats) (symbols_in at ps)
 unfolding Divides symbols_in symbol_in
-pieces_textual [] text at utf8 d = All-nil IsTextual
-pieces_textual (token l ∷ ps) text at utf8 d =
-    All-cons IsTextual (symbol_at at l) (symbols_in (at + length (lexeme_bytes l)) ps) (lexeme_textual l text d.0 at d.2 d.1 utf8)
-    (pieces_textual ps d.0 (at + length (lexeme_bytes l)) (after_piece (token l) text d.0 d.2 d.3 d.1 utf8) d.4)
-pieces_textual (byte_order_mark ∷ ps) text at utf8 d = pieces_textual ps d.0 (at + 3) (after_piece byte_order_mark text d.0 d.2 d.3 d.1 utf8) d.4
-pieces_textual (blank byte ∷ ps) text at utf8 d = pieces_textual ps d.0 (at + 1) (after_piece (blank byte) text d.0 d.2 d.3 d.1 utf8) d.4
-pieces_textual (comment bytes ∷ ps) text at utf8 d = pieces_textual ps d.0 (at + suc (length bytes)) (after_piece (comment bytes) text d.0 d.2 d.3 d.1 utf8) d.4
+pieces_textual floats [] text at utf8 d = All-nil (IsTextual floats)
+pieces_textual floats (token l ∷ ps) text at utf8 d =
+    All-cons (IsTextual floats) (symbol_at at l) (symbols_in (at + length (lexeme_bytes l)) ps) (lexeme_textual floats l text d.0 at d.2 d.1 utf8)
+    (pieces_textual floats ps d.0 (at + length (lexeme_bytes l)) (after_piece floats (token l) text d.0 d.2 d.3 d.1 utf8) d.4)
+pieces_textual floats (byte_order_mark ∷ ps) text at utf8 d = pieces_textual floats ps d.0 (at + 3) (after_piece floats byte_order_mark text d.0 d.2 d.3 d.1 utf8) d.4
+pieces_textual floats (blank byte ∷ ps) text at utf8 d = pieces_textual floats ps d.0 (at + 1) (after_piece floats (blank byte) text d.0 d.2 d.3 d.1 utf8) d.4
+pieces_textual floats (comment bytes ∷ ps) text at utf8 d = pieces_textual floats ps d.0 (at + suc (length bytes)) (after_piece floats (comment bytes) text d.0 d.2 d.3 d.1 utf8) d.4
 
-pub symbols_textual : (text : List ℕ) (tokens : List Token) → IsUtf8 text → Lexes text tokens → All IsTextual (symbols_from text tokens 0)
-symbols_textual text tokens utf8 l =
-    subst (All IsTextual) (sym (ap (λ ts. symbols_from text ts 0) l.told ∙ symbols_are l.pieces text utf8 l.divided)) (pieces_textual l.pieces text 0 utf8 l.divided)
+pub symbols_textual : (floats : Bool) (text : List ℕ) (tokens : List Token) → IsUtf8 text → Lexes floats text tokens → All (IsTextual floats) (symbols_from text tokens 0)
+symbols_textual floats text tokens utf8 l =
+    subst (All (IsTextual floats)) (sym (ap (λ ts. symbols_from text ts 0) l.told ∙ symbols_are floats l.pieces text utf8 l.divided)) (pieces_textual floats l.pieces text 0 utf8 l.divided)

@@ -5,7 +5,7 @@ use Rattle.std.specs.Prelude.{map}
 use Rattle.std.specs.Option.{option_map}
 use Rattle.std.proofs.lemmas.Option.{same_Some}
 use Rattle.gql_base.specs.declared.lexical.token.TokenKind.{TokenKind}
-use Rattle.gql_base.specs.ways.Symbols.{Symbol, punctuator, identifier, integer, string}
+use Rattle.gql_base.specs.ways.Symbols.{Symbol, punctuator, identifier, integer, decimal, string}
 use Rattle.gql_base.specs.ways.Reading.{Taking, exact, any_name, listed, second}
 use Rattle.gql_base.specs.ways.Grammar.{Nested, Single, Pair, Image, Choice, Empty, Optional, Repeated, OneOrMore, Level, Bracketed}
 use Rattle.gql_base.specs.printing.PlacelessSymbols.{placeless_symbol, name_placeless}
@@ -55,6 +55,7 @@ mark_alike kind = single_alike (exact kind) whole same
     same (punctuator other) = whole_option _
     same (identifier bytes at) = whole_option _
     same (integer value) = whole_option _
+    same (decimal bytes) = whole_option _
     same (string value) = whole_option _
 
 pub name_alike : {d : ℕ} → Alike (Single any_name d) name_placeless
@@ -64,6 +65,7 @@ name_alike = single_alike any_name name_placeless same
     same (punctuator kind) = refl
     same (identifier bytes at) = refl
     same (integer value) = refl
+    same (decimal bytes) = refl
     same (string value) = refl
 
 -- one thing and then another

@@ -2,7 +2,7 @@
 use Rattle.std.proofs.Common.{ℕ, ◌≡◌, ◌≤◌, List, [], ◌∷◌, ◌++◌, refl, sym, ap, ◌∙◌, subst}
 use Rattle.std.specs.Prelude.{map}
 use Rattle.gql_base.specs.declared.lexical.token.TokenKind.{TokenKind}
-use Rattle.gql_base.specs.ways.Symbols.{Symbol, punctuator, identifier, integer, string, Symbols}
+use Rattle.gql_base.specs.ways.Symbols.{Symbol, punctuator, identifier, integer, decimal, string, Symbols}
 use Rattle.gql_base.specs.ways.Grammar.{Nested, plain, Within}
 use Rattle.gql_base.specs.printing.PlacelessSymbols.{placeless_symbol}
 use Rattle.gql_base.specs.printing.Alike.{AreAlike}
@@ -14,12 +14,14 @@ abbrev pub moved_symbol : ℕ → Symbol → Symbol
 moved_symbol place (punctuator kind) = punctuator kind
 moved_symbol place (identifier bytes at) = identifier bytes place
 moved_symbol place (integer value) = integer value
+moved_symbol place (decimal bytes) = decimal bytes
 moved_symbol place (string value) = string value
 
 offset_in : Symbol → ℕ
 offset_in (punctuator kind) = 0
 offset_in (identifier bytes at) = at
 offset_in (integer value) = 0
+offset_in (decimal bytes) = 0
 offset_in (string value) = 0
 
 moved_back : (v : Symbol) → moved_symbol (offset_in v) (placeless_symbol v) ≡ v
@@ -27,12 +29,14 @@ unfolding offset_in
 moved_back (punctuator kind) = refl
 moved_back (identifier bytes at) = refl
 moved_back (integer value) = refl
+moved_back (decimal bytes) = refl
 moved_back (string value) = refl
 
 moved_from_none : (place : ℕ) (w : Symbol) → moved_symbol place (placeless_symbol w) ≡ moved_symbol place w
 moved_from_none place (punctuator kind) = refl
 moved_from_none place (identifier bytes at) = refl
 moved_from_none place (integer value) = refl
+moved_from_none place (decimal bytes) = refl
 moved_from_none place (string value) = refl
 
 -- of two symbols that are alike one is the other with some offset

@@ -3,10 +3,10 @@
 use Rattle.std.proofs.Common.{ℕ, zero, suc, ◌≡◌, inl, inr, Bool, List, [], ◌∷◌, ◌++◌, Some, refl, sym, ap, ◌∙◌, subst, append_assoc}
 use Rattle.gql_base.specs.declared.lexical.token.TokenKind.{TokenKind}
 use Rattle.gql_base.specs.declared.lexical.token.TokenKind.TheVariants.{Bang, Dollar, Colon, OpenBracket, CloseBracket, OpenBrace, CloseBrace}
-use Rattle.gql_base.specs.ways.Symbols.{Symbol, punctuator, identifier, integer, string, Symbols, kind_of}
+use Rattle.gql_base.specs.ways.Symbols.{Symbol, punctuator, identifier, integer, decimal, string, Symbols, kind_of}
 use Rattle.gql_base.specs.ways.Reading.{Taking, exact, any_name, listed}
 use Rattle.gql_base.specs.ways.Grammar.{Nested, plain, Single, Pair, Image, Choice, Empty, Optional, Repeated, OneOrMore, Bracketed}
-use Rattle.gql_base.specs.parts.Values.{ValueTree, variable_value, integer_value, string_value, boolean_value, null_value, enum_value, list_value, object_value, ValueTrees, no_value, value_then, FieldTrees, no_field, field_then, literal, IsValue, AreValues, AreFields}
+use Rattle.gql_base.specs.parts.Values.{ValueTree, variable_value, integer_value, float_value, string_value, boolean_value, null_value, enum_value, list_value, object_value, ValueTrees, no_value, value_then, FieldTrees, no_field, field_then, literal, IsValue, AreValues, AreFields}
 use Rattle.gql_base.specs.parts.TypeReferences.{TypeTree, named_type, list_type, non_null_type, IsType}
 use Rattle.gql_base.proofs.WayLaws.ReadingLaws.{regroup}
 use Rattle.gql_base.proofs.WayLaws.SymbolTests.{IsPunctuator, exact_is}
@@ -74,6 +74,7 @@ name_counted = single_counted any_name flat
     flat (identifier bytes at) a e = λ d. (refl, refl)
     flat (punctuator kind) a e = cc
     flat (integer value) a e = cc
+    flat (decimal bytes) a e = cc
     flat (string value) a e = cc
 
 -- the other ways
@@ -128,6 +129,7 @@ literal_flat : (w : Symbol) (t : ValueTree) → literal w ≡ Some t → IsFlat 
 literal_flat (punctuator kind) t e = cc
 literal_flat (identifier bytes at) t e = λ d. (refl, refl)
 literal_flat (integer value) t e = λ d. (refl, refl)
+literal_flat (decimal bytes) t e = λ d. (refl, refl)
 literal_flat (string value) t e = λ d. (refl, refl)
 
 leaf_counts : (d : ℕ) (t : ValueTree) (ws : Nested) → Single literal d t ws → Counts d ws
@@ -139,6 +141,7 @@ mutual
   value_counts : (c : Bool) (d : ℕ) (t : ValueTree) (ws : Nested) → IsValue c d t ws → Counts d ws
   value_counts c d (variable_value name at) ws is = joined_counts d ((punctuator Dollar, d) ∷ []) ((identifier name at, d) ∷ []) ws (one_counts d (punctuator Dollar) (λ d. (refl, refl))) (one_counts d (identifier name at) (λ d. (refl, refl))) is.1
   value_counts c d (integer_value v) ws is = leaf_counts d (integer_value v) ws is
+  value_counts c d (float_value bytes) ws is = leaf_counts d (float_value bytes) ws is
   value_counts c d (string_value v) ws is = leaf_counts d (string_value v) ws is
   value_counts c d (boolean_value b) ws is = leaf_counts d (boolean_value b) ws is
   value_counts c d null_value ws is = leaf_counts d null_value ws is

@@ -4,7 +4,7 @@ use Rattle.std.specs.Prelude.{◌==◌}
 use Rattle.std.proofs.lemmas.List.{drop_all}
 use Rattle.std.proofs.Math.Seq.{drop-cons}
 use Rattle.gql_base.specs.declared.lexical.token.TokenKind.{TokenKind}
-use Rattle.gql_base.specs.declared.lexical.token.TokenKind.TheVariants.{Name, Int, Str, BlockStr, Bang, Dollar, Amp, OpenParen, CloseParen, Spread, Colon, Equals, At, OpenBracket, CloseBracket, OpenBrace, Pipe, CloseBrace}
+use Rattle.gql_base.specs.declared.lexical.token.TokenKind.TheVariants.{Name, Int, Float, Str, BlockStr, Bang, Dollar, Amp, OpenParen, CloseParen, Spread, Colon, Equals, At, OpenBracket, CloseBracket, OpenBrace, Pipe, CloseBrace}
 use Rattle.gql_base.specs.declared.lexical.token.Token.{Token}
 use Rattle.gql_base.specs.declared.ways.source.Source.{Source}
 use Rattle.gql_base.specs.ways.Symbols.{Symbols, kind_of, kind_number, symbol_with, symbol_of, symbols_from}
@@ -28,6 +28,7 @@ there_is_none s at h = ap (λ (l : Symbols). is_there (next l)) (sym (none_ahead
 number_with : (kind : TokenKind) (text : List ℕ) (token : Token) → kind_number (kind_of (symbol_with kind text token)) ≡ kind_number kind
 number_with Name text token = refl
 number_with Int text token = refl
+number_with Float text token = refl
 number_with Str text token = refl
 number_with BlockStr text token = refl
 number_with Bang text token = refl

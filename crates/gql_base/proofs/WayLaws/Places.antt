@@ -8,29 +8,30 @@ use Rattle.std.proofs.lemmas.List.Elements.{All-cons}
 use Rattle.std.proofs.lemmas.Str.{lead_after_ascii}
 use Rattle.gql_base.specs.declared.lexical.token.Token.{Token}
 use Rattle.gql_base.specs.declared.lexical.token.TokenKind.{TokenKind}
-use Rattle.gql_base.specs.declared.lexical.token.TokenKind.TheVariants.{Name, Int, Str, BlockStr, Bang, Dollar, Amp, OpenParen, CloseParen, Spread, Colon, Equals, At, OpenBracket, CloseBracket, OpenBrace, Pipe, CloseBrace}
+use Rattle.gql_base.specs.declared.lexical.token.TokenKind.TheVariants.{Name, Int, Float, Str, BlockStr, Bang, Dollar, Amp, OpenParen, CloseParen, Spread, Colon, Equals, At, OpenBracket, CloseBracket, OpenBrace, Pipe, CloseBrace}
 use Rattle.gql_base.specs.lexical.Characters.{is_name_start, is_name_continue}
-use Rattle.gql_base.specs.lexical.Pieces.{Lexeme, word, number, string, block, mark, Piece, token, byte_order_mark, blank, comment, mark_bytes, lexeme_bytes, kind_of, IsName, IsInteger, IsLexeme, Divides, token_at, tokens_from, lexemes_of}
+use Rattle.gql_base.specs.lexical.Numbers.{IsFloat}
+use Rattle.gql_base.specs.lexical.Pieces.{Lexeme, word, number, float, string, block, mark, Piece, token, byte_order_mark, blank, comment, mark_bytes, lexeme_bytes, kind_of, IsName, IsInteger, IsLexeme, Divides, token_at, tokens_from, lexemes_of}
 use Rattle.gql_base.specs.lexical.Tokens.{Lexes, HasLexemes, AreInOrder, is_border, bytes_at, lexeme_with, lexeme_of}
-use Rattle.gql_base.proofs.LexicalLaws.Integers.{integer_ascii}
+use Rattle.gql_base.proofs.LexicalLaws.Integers.{integer_ascii, numeral_ascii}
 use Rattle.gql_base.proofs.LexicalLaws.OneDivision.{not_empty, inner_string, inner_block}
 
 -- the tokens of a text from a place on are in order
-in_order_from : (ps : List Piece) (text rest : List ℕ) (from at to : ℕ) → Divides ps text rest → from ≤ at → at + length text ≤ to → AreInOrder from to (tokens_from at ps)
+in_order_from : (floats : Bool) (ps : List Piece) (text rest : List ℕ) (from at to : ℕ) → Divides floats ps text rest → from ≤ at → at + length text ≤ to → AreInOrder from to (tokens_from at ps)
 unfolding Divides tokens_from AreInOrder
-in_order_from [] text rest from at to d start end = omega (arith, start, end)
-in_order_from (token lexeme ∷ ps) text rest from at to d start end =
+in_order_from floats [] text rest from at to d start end = omega (arith, start, end)
+in_order_from floats (token lexeme ∷ ps) text rest from at to d start end =
     let long : length text ≡ length (lexeme_bytes lexeme) + length d.0 = ap length d.1 ∙ length-append (lexeme_bytes lexeme) d.0 in
-    (start, omega (arith, not_empty (token lexeme) d.2), in_order_from ps d.0 rest (at + length (lexeme_bytes lexeme)) (at + length (lexeme_bytes lexeme)) to d.4 (omega arith) (omega (arith, long, end)))
-in_order_from (byte_order_mark ∷ ps) text rest from at to d start end =
-    in_order_from ps d.0 rest from (at + 3) to d.4 (omega (arith, start)) (omega (arith, end, ap length d.1))
-in_order_from (blank byte ∷ ps) text rest from at to d start end =
-    in_order_from ps d.0 rest from (at + 1) to d.4 (omega (arith, start)) (omega (arith, end, ap length d.1))
-in_order_from (comment bytes ∷ ps) text rest from at to d start end =
-    in_order_from ps d.0 rest from (at + suc (length bytes)) to d.4 (omega (arith, start)) (omega (arith, end, ap length d.1, length-append bytes d.0))
+    (start, omega (arith, not_empty floats (token lexeme) d.2), in_order_from floats ps d.0 rest (at + length (lexeme_bytes lexeme)) (at + length (lexeme_bytes lexeme)) to d.4 (omega arith) (omega (arith, long, end)))
+in_order_from floats (byte_order_mark ∷ ps) text rest from at to d start end =
+    in_order_from floats ps d.0 rest from (at + 3) to d.4 (omega (arith, start)) (omega (arith, end, ap length d.1))
+in_order_from floats (blank byte ∷ ps) text rest from at to d start end =
+    in_order_from floats ps d.0 rest from (at + 1) to d.4 (omega (arith, start)) (omega (arith, end, ap length d.1))
+in_order_from floats (comment bytes ∷ ps) text rest from at to d start end =
+    in_order_from floats ps d.0 rest from (at + suc (length bytes)) to d.4 (omega (arith, start)) (omega (arith, end, ap length d.1, length-append bytes d.0))
 
-pub in_order : (text : List ℕ) (ts : List Token) → Lexes text ts → AreInOrder 0 (length text) ts
-in_order text ts l = subst (AreInOrder 0 (length text)) (sym l.told) (in_order_from l.pieces text [] 0 0 (length text) l.divided (omega arith) (omega arith))
+pub in_order : (floats : Bool) (text : List ℕ) (ts : List Token) → Lexes floats text ts → AreInOrder 0 (length text) ts
+in_order floats text ts l = subst (AreInOrder 0 (length text)) (sym l.told) (in_order_from floats l.pieces text [] 0 0 (length text) l.divided (omega arith) (omega arith))
 
 -- the first and the last byte of a token are ASCII
 abbrev pub HasAsciiEnds : List ℕ → Type 0
@@ -80,18 +81,23 @@ mark_ends Pipe = (omega arith, omega arith)
 mark_ends CloseBrace = (omega arith, omega arith)
 mark_ends Name = (omega arith, omega arith)
 mark_ends Int = (omega arith, omega arith)
+mark_ends Float = (omega arith, omega arith)
 mark_ends Str = (omega arith, omega arith)
 mark_ends BlockStr = (omega arith, omega arith)
 
 number_ends : (bytes : List ℕ) (k : ℕ) → IsInteger bytes → get_or bytes k 0 < 128
 number_ends bytes k is = rw is.cut (integer_ascii is.minus is.whole k is.is)
 
-pub lexeme_ends : (l : Lexeme) → IsLexeme l → HasAsciiEnds (lexeme_bytes l)
-lexeme_ends (word bytes) is = (name_is_ascii bytes 0 is, name_is_ascii bytes (length bytes - 1) is)
-lexeme_ends (number bytes) is = (number_ends bytes 0 is, number_ends bytes (length bytes - 1) is)
-lexeme_ends (string body) is = (omega arith, ends_with_mark (34 ∷ body))
-lexeme_ends (block body) is = subst HasAsciiEnds (sym (block_ends body)) (omega arith, ends_with_mark (34 ∷ 34 ∷ 34 ∷ (body ++ 34 ∷ 34 ∷ [])))
-lexeme_ends (mark kind) is = mark_ends kind
+pub float_ends : (bytes : List ℕ) (k : ℕ) → IsFloat bytes → get_or bytes k 0 < 128
+float_ends bytes k is = rw is.cut (numeral_ascii is.numeral k is.is)
+
+pub lexeme_ends : (floats : Bool) (l : Lexeme) → IsLexeme floats l → HasAsciiEnds (lexeme_bytes l)
+lexeme_ends floats (word bytes) is = (name_is_ascii bytes 0 is, name_is_ascii bytes (length bytes - 1) is)
+lexeme_ends floats (number bytes) is = (number_ends bytes 0 is, number_ends bytes (length bytes - 1) is)
+lexeme_ends floats (float bytes) is = (float_ends bytes 0 is.1, float_ends bytes (length bytes - 1) is.1)
+lexeme_ends floats (string body) is = (omega arith, ends_with_mark (34 ∷ body))
+lexeme_ends floats (block body) is = subst HasAsciiEnds (sym (block_ends body)) (omega arith, ends_with_mark (34 ∷ 34 ∷ 34 ∷ (body ++ 34 ∷ 34 ∷ [])))
+lexeme_ends floats (mark kind) is = mark_ends kind
 
 -- a byte of a part of a text is one of the text
 byte_of_part : (text xs after : List ℕ) (at k : ℕ) → drop at text ≡ xs ++ after → k < length xs → get_or text (at + k) 0 ≡ get_or xs k 0
@@ -147,57 +153,59 @@ module _ (text xs after : List ℕ) (at : ℕ) (within : at ≤ length text) (cu
       ∙ ap (take (at + length xs - at)) cut ∙ take_at xs after (at + length xs - at) (omega arith)
 
 -- the bytes of a token's span are the token's
-pub bytes_of_token : (text after : List ℕ) (at : ℕ) (l : Lexeme) → IsUtf8 text → at ≤ length text → drop at text ≡ lexeme_bytes l ++ after → IsLexeme l → bytes_at text (token_at at l).span ≡ lexeme_bytes l
-bytes_of_token text after at l utf8 within cut is = part_bytes text (lexeme_bytes l) after at within cut (not_empty (token l) is) (lexeme_ends l is) utf8
+pub bytes_of_token : (floats : Bool) (text after : List ℕ) (at : ℕ) (l : Lexeme) → IsUtf8 text → at ≤ length text → drop at text ≡ lexeme_bytes l ++ after → IsLexeme floats l → bytes_at text (token_at at l).span ≡ lexeme_bytes l
+bytes_of_token floats text after at l utf8 within cut is = part_bytes text (lexeme_bytes l) after at within cut (not_empty floats (token l) is) (lexeme_ends floats l is) utf8
 
-pub same_lexeme : (l : Lexeme) → IsLexeme l → lexeme_with (kind_of l) (lexeme_bytes l) ≡ l
-same_lexeme (word bytes) is = refl
-same_lexeme (number bytes) is = refl
-same_lexeme (string body) is = ap string (inner_string body)
-same_lexeme (block body) is = ap block (inner_block body)
-same_lexeme (mark Bang) is = refl
-same_lexeme (mark OpenParen) is = refl
-same_lexeme (mark CloseParen) is = refl
-same_lexeme (mark Colon) is = refl
-same_lexeme (mark At) is = refl
-same_lexeme (mark OpenBracket) is = refl
-same_lexeme (mark CloseBracket) is = refl
-same_lexeme (mark OpenBrace) is = refl
-same_lexeme (mark CloseBrace) is = refl
-same_lexeme (mark Name) is = absurd (omega (arith, is))
-same_lexeme (mark Int) is = absurd (omega (arith, is))
-same_lexeme (mark Str) is = absurd (omega (arith, is))
-same_lexeme (mark BlockStr) is = absurd (omega (arith, is))
-same_lexeme (mark Dollar) is = refl
-same_lexeme (mark Amp) is = refl
-same_lexeme (mark Spread) is = refl
-same_lexeme (mark Equals) is = refl
-same_lexeme (mark Pipe) is = refl
+pub same_lexeme : (floats : Bool) (l : Lexeme) → IsLexeme floats l → lexeme_with (kind_of l) (lexeme_bytes l) ≡ l
+same_lexeme floats (word bytes) is = refl
+same_lexeme floats (number bytes) is = refl
+same_lexeme floats (float bytes) is = refl
+same_lexeme floats (string body) is = ap string (inner_string body)
+same_lexeme floats (block body) is = ap block (inner_block body)
+same_lexeme floats (mark Bang) is = refl
+same_lexeme floats (mark OpenParen) is = refl
+same_lexeme floats (mark CloseParen) is = refl
+same_lexeme floats (mark Colon) is = refl
+same_lexeme floats (mark At) is = refl
+same_lexeme floats (mark OpenBracket) is = refl
+same_lexeme floats (mark CloseBracket) is = refl
+same_lexeme floats (mark OpenBrace) is = refl
+same_lexeme floats (mark CloseBrace) is = refl
+same_lexeme floats (mark Name) is = absurd (omega (arith, is))
+same_lexeme floats (mark Int) is = absurd (omega (arith, is))
+same_lexeme floats (mark Float) is = absurd (omega (arith, is))
+same_lexeme floats (mark Str) is = absurd (omega (arith, is))
+same_lexeme floats (mark BlockStr) is = absurd (omega (arith, is))
+same_lexeme floats (mark Dollar) is = refl
+same_lexeme floats (mark Amp) is = refl
+same_lexeme floats (mark Spread) is = refl
+same_lexeme floats (mark Equals) is = refl
+same_lexeme floats (mark Pipe) is = refl
 
 -- what holds from the place after some bytes on
-lexemes_after : (ps : List Piece) (text after xs : List ℕ) (at : ℕ) → (at + length xs ≤ length text → Divides ps (drop (at + length xs) text) [] → map (lexeme_of text) (tokens_from (at + length xs) ps) ≡ lexemes_of ps) → at ≤ length text → drop at text ≡ xs ++ after → Divides ps after [] → map (lexeme_of text) (tokens_from (at + length xs) ps) ≡ lexemes_of ps
-lexemes_after ps text after xs at next within cut d =
+lexemes_after : (floats : Bool) (ps : List Piece) (text after xs : List ℕ) (at : ℕ) → (at + length xs ≤ length text → Divides floats ps (drop (at + length xs) text) [] → map (lexeme_of text) (tokens_from (at + length xs) ps) ≡ lexemes_of ps) → at ≤ length text → drop at text ≡ xs ++ after → Divides floats ps after [] → map (lexeme_of text) (tokens_from (at + length xs) ps) ≡ lexemes_of ps
+lexemes_after floats ps text after xs at next within cut d =
     let rest : drop (at + length xs) text ≡ after = sym (drop-drop (length xs) at text) ∙ ap (drop (length xs)) cut ∙ drop_at xs after (length xs) refl in
-    next (omega (arith, ap length cut, length-append xs after, length-drop at text)) (subst (λ t. Divides ps t []) (sym rest) d)
+    next (omega (arith, ap length cut, length-append xs after, length-drop at text)) (subst (λ t. Divides floats ps t []) (sym rest) d)
 
-lexemes_from : (ps : List Piece) (text : List ℕ) (at : ℕ) → IsUtf8 text → at ≤ length text → Divides ps (drop at text) [] → map (lexeme_of text) (tokens_from at ps) ≡ lexemes_of ps
+lexemes_from : (floats : Bool) (ps : List Piece) (text : List ℕ) (at : ℕ) → IsUtf8 text → at ≤ length text → Divides floats ps (drop at text) [] → map (lexeme_of text) (tokens_from at ps) ≡ lexemes_of ps
 unfolding Divides tokens_from lexemes_of
-lexemes_from [] text at utf8 within d = refl
-lexemes_from (token l ∷ ps) text at utf8 within d =
-    let here : lexeme_of text (token_at at l) ≡ l = ap (lexeme_with (kind_of l)) (bytes_of_token text d.0 at l utf8 within d.1 d.2) ∙ same_lexeme l d.2 in
-    let others : map (lexeme_of text) (tokens_from (at + length (lexeme_bytes l)) ps) ≡ lexemes_of ps = lexemes_after ps text d.0 (lexeme_bytes l) at (lexemes_from ps text (at + length (lexeme_bytes l)) utf8) within d.1 d.4 in
+lexemes_from floats [] text at utf8 within d = refl
+lexemes_from floats (token l ∷ ps) text at utf8 within d =
+    let here : lexeme_of text (token_at at l) ≡ l = ap (lexeme_with (kind_of l)) (bytes_of_token floats text d.0 at l utf8 within d.1 d.2) ∙ same_lexeme floats l d.2 in
+    let others : map (lexeme_of text) (tokens_from (at + length (lexeme_bytes l)) ps) ≡ lexemes_of ps = lexemes_after floats ps text d.0 (lexeme_bytes l) at (lexemes_from floats ps text (at + length (lexeme_bytes l)) utf8) within d.1 d.4 in
     cc (here, others)
-lexemes_from (byte_order_mark ∷ ps) text at utf8 within d = lexemes_after ps text d.0 (239 ∷ 187 ∷ 191 ∷ []) at (lexemes_from ps text (at + 3) utf8) within d.1 d.4
-lexemes_from (blank byte ∷ ps) text at utf8 within d = lexemes_after ps text d.0 (byte ∷ []) at (lexemes_from ps text (at + 1) utf8) within d.1 d.4
-lexemes_from (comment bytes ∷ ps) text at utf8 within d = lexemes_after ps text d.0 (35 ∷ bytes) at (lexemes_from ps text (at + suc (length bytes)) utf8) within d.1 d.4
+lexemes_from floats (byte_order_mark ∷ ps) text at utf8 within d = lexemes_after floats ps text d.0 (239 ∷ 187 ∷ 191 ∷ []) at (lexemes_from floats ps text (at + 3) utf8) within d.1 d.4
+lexemes_from floats (blank byte ∷ ps) text at utf8 within d = lexemes_after floats ps text d.0 (byte ∷ []) at (lexemes_from floats ps text (at + 1) utf8) within d.1 d.4
+lexemes_from floats (comment bytes ∷ ps) text at utf8 within d = lexemes_after floats ps text d.0 (35 ∷ bytes) at (lexemes_from floats ps text (at + suc (length bytes)) utf8) within d.1 d.4
 
-pub has_lexemes : (text : List ℕ) (ts : List Token) → IsUtf8 text → Lexes text ts → HasLexemes text (map (lexeme_of text) ts)
-has_lexemes text ts utf8 l = record { pieces = l.pieces; divided = l.divided; told = ap (map (lexeme_of text)) l.told ∙ lexemes_from l.pieces text 0 utf8 (omega arith) l.divided }
+pub has_lexemes : (floats : Bool) (text : List ℕ) (ts : List Token) → IsUtf8 text → Lexes floats text ts → HasLexemes floats text (map (lexeme_of text) ts)
+has_lexemes floats text ts utf8 l = record { pieces = l.pieces; divided = l.divided; told = ap (map (lexeme_of text)) l.told ∙ lexemes_from floats l.pieces text 0 utf8 (omega arith) l.divided }
 
 -- what has lexemes has tokens that are these lexemes
-pub has_tokens : (text : List ℕ) (lexemes : List Lexeme) → IsUtf8 text → HasLexemes text lexemes → (ts : List Token) × Lexes text ts × (map (lexeme_of text) ts ≡ lexemes)
-has_tokens text lexemes utf8 h =
-    (tokens_from 0 h.pieces, record { pieces = h.pieces; divided = h.divided; told = refl }, lexemes_from h.pieces text 0 utf8 (omega arith) h.divided ∙ sym h.told)
+pub has_tokens : (floats : Bool) (text : List ℕ) (lexemes : List Lexeme) → IsUtf8 text → HasLexemes floats text lexemes → (ts : List Token) × Lexes floats text ts × (map (lexeme_of text) ts ≡ lexemes)
+has_tokens floats text lexemes utf8 h =
+    (tokens_from 0 h.pieces, record { pieces = h.pieces; divided = h.divided; told = refl }, lexemes_from floats h.pieces text 0 utf8 (omega arith) h.divided ∙ sym h.told)
 
 LiesBelow : ℕ → Token → Type 0
 LiesBelow to t = (t.span.start < t.span.end) × (t.span.end ≤ to)
@@ -212,6 +220,6 @@ unfolding AreInOrder LiesBelow
 order_within from to [] order = λ k d below. absurd (omega (arith, below))
 order_within from to (t ∷ ts) order = All-cons (LiesBelow to) t ts (order.1, order_ends t.span.end to ts order.2) (order_within t.span.end to ts order.2)
 
-pub lie_within : (text : List ℕ) (ts : List Token) → Lexes text ts → All (λ t. (t.span.start < t.span.end) × (t.span.end ≤ length text)) ts
+pub lie_within : (floats : Bool) (text : List ℕ) (ts : List Token) → Lexes floats text ts → All (λ t. (t.span.start < t.span.end) × (t.span.end ≤ length text)) ts
 unfolding LiesBelow
-lie_within text ts l = order_within 0 (length text) ts (in_order text ts l)
+lie_within floats text ts l = order_within 0 (length text) ts (in_order floats text ts l)

@@ -3,8 +3,8 @@ use Rattle.std.proofs.Common.{ℕ, suc, ◌≡◌, ◌≤◌, ◌⊎◌, inl, in
 use Rattle.std.specs.Prelude.{◌==◌, not, if◌then◌else◌}
 use Rattle.std.proofs.lemmas.Bool.{eqb-true, eq-eqb}
 use Rattle.gql_base.specs.declared.lexical.token.TokenKind.{TokenKind}
-use Rattle.gql_base.specs.declared.lexical.token.TokenKind.TheVariants.{Name, Int, Str, BlockStr, Bang, Dollar, Amp, OpenParen, CloseParen, Spread, Colon, Equals, At, OpenBracket, CloseBracket, OpenBrace, Pipe, CloseBrace}
-use Rattle.gql_base.specs.ways.Symbols.{Symbol, punctuator, identifier, integer, string, Symbols, kind_of, kind_number}
+use Rattle.gql_base.specs.declared.lexical.token.TokenKind.TheVariants.{Name, Int, Float, Str, BlockStr, Bang, Dollar, Amp, OpenParen, CloseParen, Spread, Colon, Equals, At, OpenBracket, CloseBracket, OpenBrace, Pipe, CloseBrace}
+use Rattle.gql_base.specs.ways.Symbols.{Symbol, punctuator, identifier, integer, decimal, string, Symbols, kind_of, kind_number}
 use Rattle.gql_base.specs.ways.Reading.{Reader, Test, Taking, next, is_some, takes, single, pair, image, repeated, when, exact, Identifier, any_name, up_to, never}
 use Rattle.gql_base.specs.ways.Grammar.{Nested, plain, Single, Pair, Image, Choice, Optional, Repeated, Level, Bracketed}
 use Rattle.gql_base.proofs.WayLaws.ReadingLaws.{Law, regroup, pair_law, image_law, single_law, Heads, Passes}
@@ -15,6 +15,7 @@ use Rattle.gql_base.proofs.WayLaws.RepeatingLaws.{repeated_law}
 abbrev pub IsPunctuator : TokenKind → Type 0
 IsPunctuator Name = ⊥
 IsPunctuator Int = ⊥
+IsPunctuator Float = ⊥
 IsPunctuator Str = ⊥
 IsPunctuator BlockStr = ⊥
 IsPunctuator kind = Unit {0}
@@ -23,26 +24,28 @@ kind_at : ℕ → TokenKind
 kind_at n =
     if n == 0 then Name
     else if n == 1 then Int
-    else if n == 2 then Str
-    else if n == 4 then Bang
-    else if n == 5 then Dollar
-    else if n == 6 then Amp
-    else if n == 7 then OpenParen
-    else if n == 8 then CloseParen
-    else if n == 9 then Spread
-    else if n == 10 then Colon
-    else if n == 11 then Equals
-    else if n == 12 then At
-    else if n == 13 then OpenBracket
-    else if n == 14 then CloseBracket
-    else if n == 15 then OpenBrace
-    else if n == 16 then Pipe
+    else if n == 2 then Float
+    else if n == 3 then Str
+    else if n == 5 then Bang
+    else if n == 6 then Dollar
+    else if n == 7 then Amp
+    else if n == 8 then OpenParen
+    else if n == 9 then CloseParen
+    else if n == 10 then Spread
+    else if n == 11 then Colon
+    else if n == 12 then Equals
+    else if n == 13 then At
+    else if n == 14 then OpenBracket
+    else if n == 15 then CloseBracket
+    else if n == 16 then OpenBrace
+    else if n == 17 then Pipe
     else CloseBrace
 
 back : (kind : TokenKind) → IsPunctuator kind → kind_at (kind_number kind) ≡ kind
 unfolding kind_at
 back Name is = absurd is
 back Int is = absurd is
+back Float is = absurd is
 back Str is = absurd is
 back BlockStr is = absurd is
 back Bang is = refl
@@ -64,6 +67,7 @@ other_back : (kind : TokenKind) → (kind_at (kind_number kind) ≡ kind) ⊎ (k
 unfolding kind_at
 other_back Name = inl refl
 other_back Int = inl refl
+other_back Float = inl refl
 other_back Str = inl refl
 other_back BlockStr = inr refl
 other_back Bang = inl refl
@@ -97,6 +101,7 @@ of_kind : (kind : TokenKind) (w : Symbol) → IsPunctuator kind → kind_of w �
 of_kind kind (punctuator other) is e = ap punctuator e
 of_kind kind (identifier bytes at) is e = absurd (subst IsPunctuator (sym e) is)
 of_kind kind (integer value) is e = absurd (subst IsPunctuator (sym e) is)
+of_kind kind (decimal bytes) is e = absurd (subst IsPunctuator (sym e) is)
 of_kind kind (string value) is e = absurd (subst IsPunctuator (sym e) is)
 
 pub exact_is : (kind : TokenKind) (w : Symbol) (a : Unit {0}) → IsPunctuator kind → exact kind w ≡ Some a → w ≡ punctuator kind
@@ -112,6 +117,7 @@ name_is (identifier bytes at) x e = let f : (bytes, at) ≡ x = same _ x e in ap
     same : (a b : Identifier) → Some a ≡ Some b → a ≡ b
     same a b e = cc
 name_is (integer value) x e = cc
+name_is (decimal bytes) x e = cc
 name_is (string value) x e = cc
 
 -- the laws of one punctuator and of one name

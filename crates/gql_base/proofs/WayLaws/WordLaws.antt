@@ -5,7 +5,7 @@ use Rattle.std.specs.Str.{bytes_eq}
 use Rattle.std.proofs.lemmas.Slice.Eq.{bytes_eq-Decides}
 use Rattle.gql_base.specs.declared.lexical.token.TokenKind.{TokenKind}
 use Rattle.gql_base.specs.declared.lexical.token.TokenKind.TheVariants.{OpenParen, CloseParen}
-use Rattle.gql_base.specs.ways.Symbols.{Symbol, punctuator, identifier, integer, string, Symbols}
+use Rattle.gql_base.specs.ways.Symbols.{Symbol, punctuator, identifier, integer, decimal, string, Symbols}
 use Rattle.gql_base.specs.ways.Reading.{Reader, Test, next, is_some, takes, single, pair, image, one_or_more, inside, when, exact, keyword, any_string, up_to, never}
 use Rattle.gql_base.specs.ways.Grammar.{Nested, plain, Single, Pair, Image, Optional, OneOrMore}
 use Rattle.gql_base.proofs.WayLaws.ReadingLaws.{Law, Heads, image_law, single_law, after, regroup}
@@ -27,6 +27,7 @@ pub word_is : (word : List ℕ) (w : Symbol) (a : Unit {0}) → keyword word w �
 word_is word (identifier bytes at) a e = (at, ap (λ b. identifier b at) ((bytes_eq-Decides bytes word).0 (when_true (bytes_eq bytes word) a e)))
 word_is word (punctuator kind) a e = cc
 word_is word (integer v) a e = cc
+word_is word (decimal bytes) a e = cc
 word_is word (string v) a e = cc
 
 -- what the test says of a word
@@ -49,6 +50,7 @@ string_is (string v) s e = cc
 string_is (punctuator kind) s e = cc
 string_is (identifier bytes at) s e = cc
 string_is (integer v) s e = cc
+string_is (decimal bytes) s e = cc
 
 pub heads_string : {b : Bool} {test : Test} {d : ℕ} → ((v : List ℕ) → test (Some (string v)) ≡ b) → Heads b test (Single any_string d)
 heads_string {b = b} {test = test} {d = d} says = heads_single b test any_string d (λ w s h. ap (λ w. test (Some w)) (string_is w s h) ∙ says s)

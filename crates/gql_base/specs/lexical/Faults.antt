@@ -23,19 +23,19 @@ begins_as_number [] = false
 begins_as_number (c ∷ cs) = is_number_start c
 
 -- A fault at the text's first place: a character that begins nothing, and neither a number nor a string; a number
--- that is neither an integer in range nor a float; a string that isn't closed; a float.
-abbrev pub IsFaultInFront : List ℕ → LexFault → Type 0
-IsFaultInFront text (BadChar at) = (at ≡ 0) × (begins_as_number text ≡ false) × (begins_with_mark text ≡ false) × BeginsNothing text
-IsFaultInFront text (BadNumber at) = (at ≡ 0) × IsTrue (begins_as_number text) × BeginsNothing text × (BeginsWithFloat text → ⊥)
-IsFaultInFront text (OpenText at) = (at ≡ 0) × IsTrue (begins_with_mark text) × (HasClosing text → ⊥)
-IsFaultInFront text (BadEscape at) = ⊥
-IsFaultInFront text (FloatValue at) = (at ≡ 0) × BeginsWithFloat text
-IsFaultInFront text Memory = ⊥
+-- that is neither an integer in range nor a float; a string that isn't closed; a float, where none may stand.
+abbrev pub IsFaultInFront : Bool → List ℕ → LexFault → Type 0
+IsFaultInFront floats text (BadChar at) = (at ≡ 0) × (begins_as_number text ≡ false) × (begins_with_mark text ≡ false) × BeginsNothing floats text
+IsFaultInFront floats text (BadNumber at) = (at ≡ 0) × IsTrue (begins_as_number text) × BeginsNothing floats text × (BeginsWithFloat text → ⊥)
+IsFaultInFront floats text (OpenText at) = (at ≡ 0) × IsTrue (begins_with_mark text) × (HasClosing text → ⊥)
+IsFaultInFront floats text (BadEscape at) = ⊥
+IsFaultInFront floats text (FloatValue at) = (floats ≡ false) × (at ≡ 0) × BeginsWithFloat text
+IsFaultInFront floats text Memory = ⊥
 
 -- The text begins with this fault, its place counted from there: at its first place, or inside a string that is
 -- closed.
-abbrev pub BeginsWithFault : List ℕ → LexFault → Type 0
-BeginsWithFault text fault = IsFaultInFront text fault ⊎ HasFaultInside text fault
+abbrev pub BeginsWithFault : Bool → List ℕ → LexFault → Type 0
+BeginsWithFault floats text fault = IsFaultInFront floats text fault ⊎ HasFaultInside text fault
 
 -- a fault whose places are counted from a place on, counted from the text's start
 abbrev pub moved : ℕ → LexFault → LexFault
@@ -47,11 +47,11 @@ moved by (FloatValue at) = FloatValue (by + at)
 moved by Memory = Memory
 
 -- All before a place is pieces, each as long as possible, and this is the fault with which the rest begins.
-pub record HasFault (text : List ℕ) (fault : LexFault) : Type 0 where
+pub record HasFault (floats : Bool) (text : List ℕ) (fault : LexFault) : Type 0 where
   pub at : ℕ
   pub inside : at < length text
   pub pieces : List Piece
-  pub divided : Divides pieces text (drop at text)
+  pub divided : Divides floats pieces text (drop at text)
   pub first : LexFault
-  pub begins : BeginsWithFault (drop at text) first
+  pub begins : BeginsWithFault floats (drop at text) first
   pub told : fault ≡ moved at first

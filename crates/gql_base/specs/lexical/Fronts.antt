@@ -9,7 +9,7 @@ use Rattle.gql_base.specs.declared.lexical.lexing.LexFault.TheVariants.{BadChar,
 use Rattle.gql_base.specs.declared.lexical.lexing.Front.{Front}
 use Rattle.gql_base.specs.declared.lexical.numbers.Found.{Found}
 use Rattle.gql_base.specs.declared.lexical.token.TokenKind.{TokenKind}
-use Rattle.gql_base.specs.declared.lexical.token.TokenKind.TheVariants.{Name, Int, Str, BlockStr, Bang, Dollar, Amp, OpenParen, CloseParen, Spread, Colon, Equals, At, OpenBracket, CloseBracket, OpenBrace, Pipe, CloseBrace}
+use Rattle.gql_base.specs.declared.lexical.token.TokenKind.TheVariants.{Name, Int, Float, Str, BlockStr, Bang, Dollar, Amp, OpenParen, CloseParen, Spread, Colon, Equals, At, OpenBracket, CloseBracket, OpenBrace, Pipe, CloseBrace}
 use Rattle.gql_base.specs.lexical.Characters.{is_name_start, is_name_continue, is_blank, is_comment_byte, is_number_start, follows_no_number, is_exponent_mark, is_sign}
 use Rattle.gql_base.specs.lexical.Strings.{begins_with_marks}
 use Rattle.gql_base.specs.lexical.Scans.{closing_of, fault_before}
@@ -79,10 +79,14 @@ integer_fits (c ∷ cs) = if c == 45 then nat_le (digits_value 10 cs) (2 ^ 127) 
 abbrev pub front_with : Option TokenKind → ℕ → Front
 front_with kind size = record { kind = kind; length = size }
 
-abbrev pub found_front : List ℕ → Option Found → Result Front LexFault
-found_front text None = Err (BadNumber 0)
-found_front text (Some found) =
-    if found.is_float then Err (FloatValue 0)
+-- a float at the front
+abbrev pub float_front : Bool → ℕ → Result Front LexFault
+float_front floats end = if floats then Ok (front_with (Some Float) end) else Err (FloatValue 0)
+
+abbrev pub found_front : Bool → List ℕ → Option Found → Result Front LexFault
+found_front floats text None = Err (BadNumber 0)
+found_front floats text (Some found) =
+    if found.is_float then float_front floats found.end
     else (if integer_fits (take found.end text) then Ok (front_with (Some Int) found.end)
     else Err (BadNumber 0))
 
@@ -155,9 +159,9 @@ piece_from c cs =
     else mark_front (mark_of c)))))
 
 -- the piece at the front of a text, or the fault there
-unfoldable pub front_of : List ℕ → Result Front LexFault
-front_of [] = Err (BadChar 0)
-front_of (c ∷ cs) =
-    if is_number_start c then found_front (c ∷ cs) (number_found (c ∷ cs))
+unfoldable pub front_of : Bool → List ℕ → Result Front LexFault
+front_of floats [] = Err (BadChar 0)
+front_of floats (c ∷ cs) =
+    if is_number_start c then found_front floats (c ∷ cs) (number_found (c ∷ cs))
     else (if c == 34 then text_front (c ∷ cs)
     else piece_from c cs)

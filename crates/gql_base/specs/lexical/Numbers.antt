@@ -68,3 +68,10 @@ is_there (Some a) = true
 -- a numeral with a fraction, an exponent or both
 abbrev pub is_float : Numeral → Bool
 is_float n = is_there n.fraction || is_there n.exponent
+
+-- The bytes are such a numeral. They are kept as they are written, and no number is made of them here.
+pub record IsFloat (bytes : List ℕ) : Type 0 where
+  pub numeral : Numeral
+  pub cut : bytes ≡ numeral_bytes numeral
+  pub is : IsNumeral numeral
+  pub is_real : IsTrue (is_float numeral)

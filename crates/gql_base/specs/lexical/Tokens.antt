@@ -4,22 +4,23 @@ use Rattle.std.specs.declared.alloc.Global.{Global}
 use Rattle.gql_base.specs.declared.lexical.token.Span.{Span}
 use Rattle.gql_base.specs.declared.lexical.token.Token.{Token}
 use Rattle.gql_base.specs.declared.lexical.token.TokenKind.{TokenKind}
-use Rattle.gql_base.specs.declared.lexical.token.TokenKind.TheVariants.{Name, Int, Str, BlockStr}
+use Rattle.gql_base.specs.declared.lexical.token.TokenKind.TheVariants.{Name, Int, Float, Str, BlockStr}
 use Rattle.gql_base.specs.declared.lexical.lexing.LexFault.{LexFault}
 use Rattle.gql_base.specs.declared.lexical.lexing.LexFault.TheVariants.{Memory}
-use Rattle.gql_base.specs.lexical.Pieces.{Lexeme, word, number, string, block, mark, Piece, Divides, tokens_from, lexemes_of}
+use Rattle.gql_base.specs.lexical.Pieces.{Lexeme, word, number, float, string, block, mark, Piece, Divides, tokens_from, lexemes_of}
 use Rattle.gql_base.specs.lexical.Faults.{HasFault}
 
--- The text lexes as these tokens: it is pieces, each as long as possible, of which these are the tokens.
-pub record Lexes (text : List ℕ) (tokens : List Token) : Type 0 where
+-- The text, in which floats may stand or may not, lexes as these tokens: it is pieces, each as long as possible, of which these
+-- are the tokens.
+pub record Lexes (floats : Bool) (text : List ℕ) (tokens : List Token) : Type 0 where
   pub pieces : List Piece
-  pub divided : Divides pieces text []
+  pub divided : Divides floats pieces text []
   pub told : tokens ≡ tokens_from 0 pieces
 
 -- The same without places: the text is pieces, each as long as possible, of which these are the tokens.
-pub record HasLexemes (text : List ℕ) (lexemes : List Lexeme) : Type 0 where
+pub record HasLexemes (floats : Bool) (text : List ℕ) (lexemes : List Lexeme) : Type 0 where
   pub pieces : List Piece
-  pub divided : Divides pieces text []
+  pub divided : Divides floats pieces text []
   pub told : lexemes ≡ lexemes_of pieces
 
 -- whether a character of a UTF-8 text begins at this place, or the text ends there
@@ -37,6 +38,7 @@ inner n bytes = take (length bytes - (n + n)) (drop n bytes)
 abbrev pub lexeme_with : TokenKind → List ℕ → Lexeme
 lexeme_with Name bytes = word bytes
 lexeme_with Int bytes = number bytes
+lexeme_with Float bytes = float bytes
 lexeme_with Str bytes = string (inner 1 bytes)
 lexeme_with BlockStr bytes = block (inner 3 bytes)
 lexeme_with kind bytes = mark kind
@@ -51,8 +53,8 @@ AreInOrder from to [] = from ≤ to
 AreInOrder from to (t ∷ ts) = (from ≤ t.span.start) × (t.span.start < t.span.end) × AreInOrder t.span.end to ts
 
 -- why a text has no tokens
-abbrev pub IsFaultOf : List ℕ → LexFault → Type 0
-IsFaultOf text fault = HasFault text fault ⊎ (fault ≡ Memory)
+abbrev pub IsFaultOf : Bool → List ℕ → LexFault → Type 0
+IsFaultOf floats text fault = HasFault floats text fault ⊎ (fault ≡ Memory)
 
 -- The answer is these tokens, unless memory ran out.
 abbrev pub Gives : List Token → Result (Vec Token Global) LexFault → Type 0

@@ -3,7 +3,7 @@ use Rattle.std.specs.Prelude.{ℕ, List, Option, None, Some, codes, if◌then◌
 use Rattle.std.specs.Str.{bytes_eq}
 use Rattle.gql_base.specs.declared.parts.trees.OperationKind.{OperationKind}
 use Rattle.gql_base.specs.declared.parts.trees.OperationKind.TheVariants.{Query, Mutation, Subscription}
-use Rattle.gql_base.specs.ways.Symbols.{punctuator, identifier, integer, string}
+use Rattle.gql_base.specs.ways.Symbols.{punctuator, identifier, integer, decimal, string}
 use Rattle.gql_base.specs.ways.Reading.{Taking}
 
 abbrev pub kind_named : List ℕ → Option OperationKind
@@ -18,4 +18,5 @@ abbrev pub kind_word : Taking OperationKind
 kind_word (identifier bytes at) = kind_named bytes
 kind_word (punctuator kind) = None
 kind_word (integer value) = None
+kind_word (decimal bytes) = None
 kind_word (string value) = None

@@ -10,7 +10,7 @@ use Rattle.gql_base.specs.declared.parts.trees.TypeRef.{TypeRef}
 use Rattle.gql_base.specs.declared.parts.trees.TypeRef.TheOpen.{TypeRef-F}
 use Rattle.gql_base.specs.declared.parts.trees.TypeRef.TheFolds.{fold-TypeRef}
 use Rattle.gql_base.specs.ways.Reading.{Identifier}
-use Rattle.gql_base.specs.parts.Values.{ValueTree, variable_value, integer_value, string_value, boolean_value, null_value, enum_value, list_value, object_value, values_from, fields_from, NamedValue}
+use Rattle.gql_base.specs.parts.Values.{ValueTree, variable_value, integer_value, float_value, string_value, boolean_value, null_value, enum_value, list_value, object_value, values_from, fields_from, NamedValue}
 use Rattle.gql_base.specs.parts.Arguments.{DirectiveTree}
 use Rattle.gql_base.specs.parts.TypeReferences.{TypeTree, named_type, list_type, non_null_type}
 
@@ -20,6 +20,7 @@ identifier_of n = (n.text, n.at)
 abbrev pub value_step : Value-F ValueTree NamedValue → ValueTree
 value_step (Value-F.Var n) = variable_value n.text n.at
 value_step (Value-F.Int v) = integer_value v
+value_step (Value-F.Float bytes) = float_value bytes
 value_step (Value-F.Str v) = string_value v
 value_step (Value-F.Bool b) = boolean_value b
 value_step Value-F.Null = null_value

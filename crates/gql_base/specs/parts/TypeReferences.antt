@@ -1,7 +1,7 @@
 -- Type references (GraphQL October 2021, 2.11): their trees, the symbols that they are written with, and how they are read.
 use Rattle.std.specs.Prelude.{ℕ, zero, suc, ◌-◌, ◌≡◌, Bool, true, false, List, [], ◌∷◌, ◌++◌, Option, None, Some}
 use Rattle.gql_base.specs.declared.lexical.token.TokenKind.TheVariants.{Bang, OpenBracket, CloseBracket}
-use Rattle.gql_base.specs.ways.Symbols.{punctuator, identifier, integer, string}
+use Rattle.gql_base.specs.ways.Symbols.{punctuator, identifier, integer, decimal, string}
 use Rattle.gql_base.specs.ways.Reading.{Reader, Taking, takes, single, pair, image, choice, empty, second, opener, level, exact}
 use Rattle.gql_base.specs.ways.Grammar.{Nested, Bracketed}
 
@@ -27,6 +27,7 @@ abbrev pub type_name : Taking TypeTree
 type_name (identifier name at) = Some (named_type name at)
 type_name (punctuator kind) = None
 type_name (integer value) = None
+type_name (decimal bytes) = None
 type_name (string value) = None
 
 abbrev pub listed_type : TypeTree × Unit {0} → TypeTree

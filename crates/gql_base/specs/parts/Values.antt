@@ -2,7 +2,7 @@
 use Rattle.std.specs.Prelude.{ℕ, zero, suc, ◌-◌, ◌≡◌, Bool, true, false, ℤ, List, [], ◌∷◌, ◌++◌, Option, None, Some, codes, if◌then◌else◌}
 use Rattle.std.specs.Str.{bytes_eq}
 use Rattle.gql_base.specs.declared.lexical.token.TokenKind.TheVariants.{Dollar, Colon, OpenBracket, CloseBracket, OpenBrace, CloseBrace}
-use Rattle.gql_base.specs.ways.Symbols.{Symbol, punctuator, identifier, integer, string}
+use Rattle.gql_base.specs.ways.Symbols.{Symbol, punctuator, identifier, integer, decimal, string}
 use Rattle.gql_base.specs.ways.Reading.{Reader, Test, Taking, takes, single, pair, image, choice, repeated, second, opener, level, exact, Identifier, any_name, up_to}
 use Rattle.gql_base.specs.ways.Grammar.{Nested, Bracketed}
 
@@ -10,6 +10,8 @@ mutual
   pub data ValueTree : Type 0 where
     variable_value : (name : List ℕ) (at : ℕ) → ValueTree
     integer_value : ℤ → ValueTree
+    -- a float, as it is written
+    float_value : (bytes : List ℕ) → ValueTree
     string_value : List ℕ → ValueTree
     boolean_value : Bool → ValueTree
     null_value : ValueTree
@@ -38,6 +40,7 @@ value_of_name name at =
 abbrev pub literal : Taking ValueTree
 literal (identifier name at) = Some (value_of_name name at)
 literal (integer value) = Some (integer_value value)
+literal (decimal bytes) = Some (float_value bytes)
 literal (string value) = Some (string_value value)
 literal (punctuator kind) = None
 
@@ -46,6 +49,7 @@ unfoldable mutual
   pub IsValue : Bool → ℕ → ValueTree → Nested → Type 0
   IsValue constant d (variable_value name at) ws = (constant ≡ false) × (ws ≡ (punctuator Dollar, d) ∷ (identifier name at, d) ∷ [])
   IsValue constant d (integer_value n) ws = (w : Symbol) × (ws ≡ (w, d) ∷ []) × (literal w ≡ Some (integer_value n))
+  IsValue constant d (float_value bytes) ws = (w : Symbol) × (ws ≡ (w, d) ∷ []) × (literal w ≡ Some (float_value bytes))
   IsValue constant d (string_value s) ws = (w : Symbol) × (ws ≡ (w, d) ∷ []) × (literal w ≡ Some (string_value s))
   IsValue constant d (boolean_value b) ws = (w : Symbol) × (ws ≡ (w, d) ∷ []) × (literal w ≡ Some (boolean_value b))
   IsValue constant d null_value ws = (w : Symbol) × (ws ≡ (w, d) ∷ []) × (literal w ≡ Some null_value)

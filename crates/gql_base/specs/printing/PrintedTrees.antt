@@ -2,8 +2,8 @@
 use Rattle.std.specs.Prelude.{ℕ, Bool, true, false, List, [], ◌∷◌, ◌++◌, codes}
 use Rattle.std.specs.List.{flat_map}
 use Rattle.gql_base.specs.declared.lexical.token.TokenKind.TheVariants.{Bang, Dollar, Colon, OpenParen, CloseParen, OpenBracket, CloseBracket, OpenBrace, CloseBrace}
-use Rattle.gql_base.specs.ways.Symbols.{Symbol, punctuator, identifier, integer, string, Symbols}
-use Rattle.gql_base.specs.parts.Values.{ValueTree, variable_value, integer_value, string_value, boolean_value, null_value, enum_value, list_value, object_value, ValueTrees, no_value, value_then, FieldTrees, no_field, field_then}
+use Rattle.gql_base.specs.ways.Symbols.{Symbol, punctuator, identifier, integer, decimal, string, Symbols}
+use Rattle.gql_base.specs.parts.Values.{ValueTree, variable_value, integer_value, float_value, string_value, boolean_value, null_value, enum_value, list_value, object_value, ValueTrees, no_value, value_then, FieldTrees, no_field, field_then}
 use Rattle.gql_base.specs.parts.TypeReferences.{TypeTree, named_type, list_type, non_null_type}
 
 -- a name that is printed has no offset
@@ -23,6 +23,7 @@ unfoldable mutual
   pub value_symbols : ValueTree → Symbols
   value_symbols (variable_value name at) = punctuator Dollar ∷ printed_name name ∷ []
   value_symbols (integer_value v) = integer v ∷ []
+  value_symbols (float_value bytes) = decimal bytes ∷ []
   value_symbols (string_value v) = string v ∷ []
   value_symbols (boolean_value b) = printed_name (boolean_name b) ∷ []
   value_symbols null_value = printed_name (codes "null") ∷ []
@@ -48,6 +49,7 @@ unfoldable mutual
   pub placeless : ValueTree → ValueTree
   placeless (variable_value name at) = variable_value name 0
   placeless (integer_value v) = integer_value v
+  placeless (float_value bytes) = float_value bytes
   placeless (string_value v) = string_value v
   placeless (boolean_value b) = boolean_value b
   placeless null_value = null_value

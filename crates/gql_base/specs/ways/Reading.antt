@@ -3,7 +3,7 @@
 use Rattle.std.specs.Prelude.{ℕ, zero, suc, ◌==◌, not, Bool, true, false, List, [], ◌∷◌, length, Option, None, Some, Result, Ok, Err, if◌then◌else◌}
 use Rattle.std.specs.Str.{bytes_eq}
 use Rattle.gql_base.specs.declared.lexical.token.TokenKind.{TokenKind}
-use Rattle.gql_base.specs.ways.Symbols.{Symbol, punctuator, identifier, integer, string, Symbols, kind_of, kind_number}
+use Rattle.gql_base.specs.ways.Symbols.{Symbol, punctuator, identifier, integer, decimal, string, Symbols, kind_of, kind_number}
 
 -- Reading stops at a symbol that can't stand there, or at one that would open a level too many.
 pub data Stop : Type 0 where
@@ -127,6 +127,7 @@ abbrev pub any_name : Taking Identifier
 any_name (identifier bytes at) = Some (bytes, at)
 any_name (punctuator kind) = None
 any_name (integer value) = None
+any_name (decimal bytes) = None
 any_name (string value) = None
 
 -- this name
@@ -134,6 +135,7 @@ abbrev pub keyword : List ℕ → Taking (Unit {0})
 keyword word (identifier bytes at) = when (bytes_eq bytes word)
 keyword word (punctuator kind) = None
 keyword word (integer value) = None
+keyword word (decimal bytes) = None
 keyword word (string value) = None
 
 -- a string or a block string, by what it stands for
@@ -142,6 +144,7 @@ any_string (string value) = Some value
 any_string (identifier bytes at) = None
 any_string (punctuator kind) = None
 any_string (integer value) = None
+any_string (decimal bytes) = None
 
 -- there is a next symbol
 abbrev pub is_there : Test

@@ -8,7 +8,7 @@ ghost use Rattle.gql_base.specs.lexical.Characters.{is_name_continue, is_comment
 ghost use Rattle.gql_base.specs.lexical.Strings.{begins_with_marks};
 ghost use Rattle.gql_base.specs.lexical.Faults.{HasFault, moved};
 ghost use Rattle.gql_base.specs.declared.lexical.lexing.LexFault.TheVariants.{BadChar};
-ghost use Rattle.gql_base.specs.lexical.Fronts.{IsWithin, front_with, front_of, piece_from, mark_of, is_byte_order_mark, is_spread, begins_with_two, number_found, found_front, text_kind, mark_size, sound_text, closed_text, text_front, integer_fits};
+ghost use Rattle.gql_base.specs.lexical.Fronts.{IsWithin, front_with, front_of, piece_from, mark_of, is_byte_order_mark, is_spread, begins_with_two, number_found, float_front, found_front, text_kind, mark_size, sound_text, closed_text, text_front, integer_fits};
 ghost use Rattle.std.specs.Option.{IfSome};
 ghost use Rattle.gql_base.specs.lexical.Pieces.{Lexeme};
 ghost use Rattle.gql_base.specs.lexical.Tokens.{Lexes, HasLexemes, AreInOrder, IsFaultOf, Gives, GivesLexemes, Refuses, lexeme_of};
@@ -74,22 +74,22 @@ fn moved(by: usize, fault: LexFault) -> LexFault
 
 /// The tokens of `text` by the lexical grammar of GraphQL October 2021 (2.1 and 2.9), or its first fault. Each
 /// is as long as possible. Between them stand byte order marks, tabs, spaces, line ends, commas and comments.
-/// Floats are refused, and integers outside the range of 128 bits. Strings may hold any character from U+0020
+/// Unless `floats` says that they may stand there, floats are refused; so are integers outside the range of 128 bits. Strings may hold any character from U+0020
 /// on and tabs, also those above U+FFFF; an escaped surrogate pair is one character.
-pub fn lex(alloc: Global, text: &str) -> Result<Vec<Token>, LexFault>
-    ensures found { IfOk result (λ tokens. Lexes text.now tokens.items) }
-    ensures only { (tokens : List Token) → Lexes text.now tokens → Gives tokens result }
-    ensures fault { IfErr result (λ fault. IsFaultOf text.now fault) }
-    ensures refused { (fault : LexFault) → HasFault text.now fault → Refuses fault result }
-    ensures lexemes { IfOk result (λ tokens. HasLexemes text.now (map (lexeme_of text.now) tokens.items)) }
-    ensures only_lexemes { (lexemes : List Lexeme) → HasLexemes text.now lexemes → GivesLexemes text.now lexemes result }
+pub fn lex(alloc: Global, text: &str, floats: bool) -> Result<Vec<Token>, LexFault>
+    ensures found { IfOk result (λ tokens. Lexes floats text.now tokens.items) }
+    ensures only { (tokens : List Token) → Lexes floats text.now tokens → Gives tokens result }
+    ensures fault { IfErr result (λ fault. IsFaultOf floats text.now fault) }
+    ensures refused { (fault : LexFault) → HasFault floats text.now fault → Refuses fault result }
+    ensures lexemes { IfOk result (λ tokens. HasLexemes floats text.now (map (lexeme_of text.now) tokens.items)) }
+    ensures only_lexemes { (lexemes : List Lexeme) → HasLexemes floats text.now lexemes → GivesLexemes text.now lexemes result }
     ensures in_order { IfOk result (λ tokens. AreInOrder 0 (length text.now) tokens.items) }
 {
     let bytes = text.as_bytes();
     let mut tokens = Vec::new(alloc);
     let mut at = 0;
     while at < bytes.len() {
-        let front = match front_piece(&bytes[at..]) {
+        let front = match front_piece(&bytes[at..], floats) {
             Ok(front) => front,
             Err(fault) => return Err(moved(at, fault)),
         };
@@ -107,9 +107,9 @@ pub fn lex(alloc: Global, text: &str) -> Result<Vec<Token>, LexFault>
 
 /// The piece at the front of a text: the kind of a token, none for what is ignored, and its length.
 #[derive(Clone, Copy)]
-struct Front {
-    kind: Option<TokenKind>,
-    length: usize,
+pub struct Front {
+    pub kind: Option<TokenKind>,
+    pub length: usize,
 }
 
 /// The number of name characters at the front.
@@ -190,9 +190,23 @@ fn one_byte(kind: Option<TokenKind>) -> Front
     Front { kind, length: 1 }
 }
 
-/// The integer at the front of bytes that begin as a number.
-fn number_front(bytes: &[u8]) -> Result<Front, LexFault>
-    ensures front { result ≡ found_front bytes.now (number_found bytes.now) }
+/// A float at the front that ends at a place.
+fn float_front(end: usize, floats: bool) -> Result<Front, LexFault>
+    ensures { result ≡ float_front floats end }
+{
+    if floats {
+        Ok(Front {
+            kind: Some(TokenKind::Float),
+            length: end,
+        })
+    } else {
+        Err(LexFault::FloatValue { at: 0 })
+    }
+}
+
+/// The number at the front of bytes that begin as a number.
+fn number_front(bytes: &[u8], floats: bool) -> Result<Front, LexFault>
+    ensures front { result ≡ found_front floats bytes.now (number_found bytes.now) }
     ensures within { IfOk result (λ front. (0 < front.length) × (front.length ≤ length bytes.now)) }
     ensures place { IfErr result (λ fault. IsWithin (length bytes.now) fault) }
 {
@@ -200,7 +214,7 @@ fn number_front(bytes: &[u8]) -> Result<Front, LexFault>
         return Err(LexFault::BadNumber { at: 0 });
     };
     if found.is_float {
-        return Err(LexFault::FloatValue { at: 0 });
+        return float_front(found.end, floats);
     }
     if integer_fits(&bytes[..found.end]) {
         Ok(Front {
@@ -297,15 +311,15 @@ fn piece_from(first: u8, rest: &[u8]) -> Result<Front, LexFault>
 }
 
 /// The piece at the front of `bytes`, or the fault there.
-fn front_piece(bytes: &[u8]) -> Result<Front, LexFault>
-    ensures piece { result ≡ front_of bytes.now }
+pub fn front_piece(bytes: &[u8], floats: bool) -> Result<Front, LexFault>
+    ensures piece { result ≡ front_of floats bytes.now }
     ensures within { IfOk result (λ front. (0 < front.length) × (front.length ≤ length bytes.now)) }
     ensures place { IfErr result (λ fault. IsWithin (length bytes.now) fault) }
 {
     match bytes {
         [first, rest @ ..] => {
             if is_number_start(*first) {
-                number_front(bytes)
+                number_front(bytes, floats)
             } else if *first == b'"' {
                 text_front(bytes)
             } else {

@@ -9,3 +9,4 @@ mod numbers;
 mod strings;
 pub mod text;
 pub mod token;
+pub mod uses;

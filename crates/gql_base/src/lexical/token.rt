@@ -16,6 +16,8 @@ pub enum TokenKind {
     Name,
     /// An integer.
     Int,
+    /// A float: a number with a fraction, an exponent or both.
+    Float,
     /// A string between quotation marks.
     Str,
     /// A string between three quotation marks on each side.

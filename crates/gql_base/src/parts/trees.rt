@@ -16,6 +16,8 @@ pub enum Value {
     /// A variable, by its name without the `$`.
     Var(Name),
     Int(i128),
+    /// A float, as it is written: no number is made of it.
+    Float(Text),
     Str(Text),
     Bool(bool),
     Null,

@@ -55,6 +55,10 @@ fn literal_at(alloc: Global, source: &Source, at: usize) -> Result<(Value, usize
                 Ok((value_of_name(name), at + 1))
             }
             TokenKind::Int => Ok((Value::Int(integer_at(source.text, token)), at + 1)),
+            TokenKind::Float => {
+                let text = Text::copy_of(alloc, token.text(source.text))?;
+                Ok((Value::Float(text), at + 1))
+            }
             TokenKind::Str => Ok((Value::Str(string_at(alloc, source.text, token)?), at + 1)),
             TokenKind::BlockStr => Ok((Value::Str(string_at(alloc, source.text, token)?), at + 1)),
             _ => Err(Halt::Unexpected(at)),

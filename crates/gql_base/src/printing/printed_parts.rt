@@ -32,6 +32,7 @@ pub fn write_value(printer: &mut Printer, value: &Value) -> Result<(), AllocErro
             printer.word(name.text.as_str())
         }
         Value::Int(value) => printer.integer(value),
+        Value::Float(digits) => printer.decimal(digits.as_str()),
         Value::Str(text) => printer.string(text.as_str()),
         Value::Bool(value) => printer.word(boolean_name(*value)),
         Value::Null => printer.word("null"),

@@ -1,9 +1,9 @@
 //! Printing of symbols in their one form: one space between two of them, but none after `$` and `@`.
 
-ghost use Rattle.std.specs.Prelude.{◌≡◌, ◌++◌, ◌∷◌, [], ℕ, IfOk, OnOk, IsUtf8, string_bytes, false};
+ghost use Rattle.std.specs.Prelude.{◌≡◌, ◌<◌, ◌++◌, ◌∷◌, [], ℕ, IfOk, OnOk, IsUtf8, string_bytes, false};
 ghost use Rattle.gql_base.specs.lexical.Pieces.{mark_bytes};
-ghost use Rattle.gql_base.specs.ways.Symbols.{punctuator, integer, string, identifier};
-ghost use Rattle.gql_base.specs.printing.Printing.{escaped, all_escaped, is_tight, put, put_text, with_space};
+ghost use Rattle.gql_base.specs.ways.Symbols.{punctuator, integer, decimal, string, identifier};
+ghost use Rattle.gql_base.specs.printing.Printing.{upper_digit, escape_number, numbered, escaped, all_escaped, is_tight, put, put_text, with_space};
 ghost use Rattle.gql_base.specs.printing.Printers.{printed_by};
 
 use crate::lexical::text::Text;
@@ -59,7 +59,39 @@ fn push_escaped(into: &mut String, character: char) -> Result<(), AllocError>
         '\t' => into.push_str("\\t"),
         '\u{8}' => into.push_str("\\b"),
         '\u{c}' => into.push_str("\\f"),
-        other => into.push(other),
+        other => push_other(into, other),
+    }
+}
+
+/// Appends a digit of base 16, in upper case.
+fn push_digit(into: &mut String, digit: u32) -> Result<(), AllocError>
+    requires { digit < 16 }
+    ensures { OnOk result (string_bytes into.new ≡ string_bytes into.old ++ upper_digit digit ∷ []) }
+{
+    match char::from_digit(digit, 16) {
+        Some(character) => into.push(character.to_ascii_uppercase()),
+        None => Ok(()),
+    }
+}
+
+/// Appends the escape of a control character by its number.
+fn push_control(into: &mut String, control: u32) -> Result<(), AllocError>
+    requires { control < 128 }
+    ensures { OnOk result (string_bytes into.new ≡ string_bytes into.old ++ escape_number control) }
+{
+    into.push_str("\\u00")?;
+    push_digit(into, control / 16)?;
+    push_digit(into, control % 16)
+}
+
+/// A character that has no escape by a letter: a control character by its number, and any other as it is.
+fn push_other(into: &mut String, character: char) -> Result<(), AllocError>
+    ensures { OnOk result (string_bytes into.new ≡ string_bytes into.old ++ numbered character) }
+{
+    if character.is_ascii_control() {
+        push_control(into, u32::from(character))
+    } else {
+        into.push(character)
     }
 }
 
@@ -133,6 +165,13 @@ impl Printer {
         write!(self.text, "{value}")?;
         self.space = true;
         Ok(())
+    }
+
+    /// One more float, as it is written.
+    pub fn decimal(&mut self, digits: &str) -> Result<(), AllocError>
+        ensures { OnOk result (printed_by self.new ≡ put (printed_by self.old) (decimal digits.now)) }
+    {
+        self.piece(digits, false)
     }
 
     /// One more string.

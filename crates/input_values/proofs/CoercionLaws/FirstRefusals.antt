@@ -4,9 +4,9 @@ use Rattle.std.specs.Option.{option_or}
 use Rattle.input_values.specs.values.Coerced.{CoercedTree, coerced_null, coerced_list, coerced_object, CoercedTrees, coerced_then, CoercedFields}
 use Rattle.input_values.specs.inputs.Shapes.{ShapeTree, named_shape, list_shape, is_nullable}
 use Rattle.input_values.specs.coercion.Answers.{Path, Answer, at_step, mapped, both, key_step, item_step, refusal}
-use Rattle.input_values.specs.coercion.Given.{Given, given_null, given_integer, given_fraction, given_string, given_text, given_name, given_boolean, given_list, given_object, given_variable, given_nothing, GivenItems, no_given, given_then, GivenFields, no_given_field, given_field_then, given_names, is_nothing, present}
-use Rattle.input_values.specs.coercion.Forms.{FieldForm, InputForm, integer_form, string_form, boolean_form, id_form, custom_form, enum_form, object_form, no_form}
-use Rattle.input_values.specs.coercion.Leaves.{integer_at, string_at, text_at, name_at, boolean_at, custom_at}
+use Rattle.input_values.specs.coercion.Given.{Given, given_null, given_integer, given_float, given_huge, given_string, given_text, given_name, given_boolean, given_list, given_object, given_variable, given_nothing, GivenItems, no_given, given_then, GivenFields, no_given_field, given_field_then, given_names, is_nothing, present}
+use Rattle.input_values.specs.coercion.Forms.{FieldForm, InputForm, integer_form, string_form, boolean_form, id_form, float_form, custom_form, lax_form, enum_form, object_form, no_form}
+use Rattle.input_values.specs.coercion.Leaves.{integer_at, float_at, string_at, text_at, name_at, boolean_at, custom_at}
 use Rattle.input_values.specs.coercion.Customs.{any_value}
 use Rattle.input_values.specs.coercion.Places.{null_at, variable_at, list_of_one, single_at, list_at}
 use Rattle.input_values.specs.coercion.Objects.{is_wrong, wrong_name, Finder, absent_at, field_answer, with_field, fields_at, object_of, object_by}
@@ -89,12 +89,14 @@ object_of_first : (wrong : List (List ℕ)) (o : Option (List ℕ)) (paths : Pat
 object_of_first [] o paths a same rest = subst (λ x. first_path paths ≡ refusal (object_of x a)) same (rest ∙ sym (refusal_mapped coerced_object a))
 object_of_first (name ∷ wrong) o paths a same rest = subst (λ x. Some (key_step name) ≡ refusal (object_of x a)) same refl
 
-object_first : (form : InputForm) (fields : List FieldForm → Answer CoercedTree) (inner : List FieldForm → Paths) (any : Answer CoercedTree) → ((fs : List FieldForm) → first_path (inner fs) ≡ refusal (fields fs)) → first_path (object_refusals form inner (refusals any)) ≡ refusal (object_by form fields any)
+object_first : (form : InputForm) (fields : List FieldForm → Answer CoercedTree) (inner : List FieldForm → Paths) (any : Bool → Answer CoercedTree) → ((fs : List FieldForm) → first_path (inner fs) ≡ refusal (fields fs)) → first_path (object_refusals form inner (λ lax. refusals (any lax))) ≡ refusal (object_by form fields any)
 object_first integer_form fields inner any each = refl
 object_first string_form fields inner any each = refl
 object_first boolean_form fields inner any each = refl
 object_first id_form fields inner any each = refl
-object_first custom_form fields inner any each = refusal_first any
+object_first float_form fields inner any each = refl
+object_first custom_form fields inner any each = refusal_first (any false)
+object_first lax_form fields inner any each = refusal_first (any true)
 object_first (enum_form names) fields inner any each = refl
 object_first (object_form fs) fields inner any each = each fs
 object_first no_form fields inner any each = refl
@@ -114,21 +116,22 @@ module _ (form : ℕ → InputForm) where
     pub first_refusal : (g : Given) (s : ShapeTree) → first_path (all_refusals form g s) ≡ refusal (coerced form g s)
     first_refusal given_null s = null_first coerced_null (is_nullable s)
     first_refusal (given_integer z) s = single_first (λ of. integer_at (form of) z) (λ of. refusals (integer_at (form of) z)) (λ of. refusal_first (integer_at (form of) z)) s
-    first_refusal given_fraction s = refl
+    first_refusal (given_float bits) s = single_first (λ of. float_at (form of) bits) (λ of. refusals (float_at (form of) bits)) (λ of. refusal_first (float_at (form of) bits)) s
+    first_refusal given_huge s = refl
     first_refusal (given_string b) s = single_first (λ of. string_at (form of) b) (λ of. refusals (string_at (form of) b)) (λ of. refusal_first (string_at (form of) b)) s
     first_refusal (given_text b) s = single_first (λ of. text_at (form of) b) (λ of. refusals (text_at (form of) b)) (λ of. refusal_first (text_at (form of) b)) s
     first_refusal (given_name b) s = single_first (λ of. name_at (form of) b) (λ of. refusals (name_at (form of) b)) (λ of. refusal_first (name_at (form of) b)) s
     first_refusal (given_boolean b) s = single_first (λ of. boolean_at (form of) b) (λ of. refusals (boolean_at (form of) b)) (λ of. refusal_first (boolean_at (form of) b)) s
     first_refusal (given_list gs) s =
-        list_first (λ item. items_coerced form 0 gs item) (λ item. items_refusals form 0 gs item) (λ of. custom_at (form of) (any_value (given_list gs))) (λ of. refusals (custom_at (form of) (any_value (given_list gs))))
-        (λ item. first_item 0 gs item) (λ of. refusal_first (custom_at (form of) (any_value (given_list gs)))) s
+        list_first (λ item. items_coerced form 0 gs item) (λ item. items_refusals form 0 gs item) (λ of. custom_at (form of) (λ lax. any_value lax (given_list gs))) (λ of. refusals (custom_at (form of) (λ lax. any_value lax (given_list gs))))
+        (λ item. first_item 0 gs item) (λ of. refusal_first (custom_at (form of) (λ lax. any_value lax (given_list gs)))) s
     first_refusal (given_object distinct fs) s =
-        let any = any_value (given_object distinct fs) in
+        let any : Bool → Answer CoercedTree = λ lax. any_value lax (given_object distinct fs) in
         let wrong : List FieldForm → Option (List ℕ) = λ inputs. wrong_name distinct inputs [] (given_names fs) in
         let all_wrong : List FieldForm → List (List ℕ) = λ inputs. wrong_names distinct inputs [] (given_names fs) in
         let fields : List FieldForm → Answer CoercedFields = λ inputs. fields_at inputs (λ name. find_coerced form name fs) in
         let inner : List FieldForm → Paths = λ inputs. fields_refusals inputs (λ name. find_refusals form name fs) in
-        single_first (λ of. object_by (form of) (λ inputs. object_of (wrong inputs) (fields inputs)) any) (λ of. object_refusals (form of) (λ inputs. map key_step (all_wrong inputs) ++ inner inputs) (refusals any))
+        single_first (λ of. object_by (form of) (λ inputs. object_of (wrong inputs) (fields inputs)) any) (λ of. object_refusals (form of) (λ inputs. map key_step (all_wrong inputs) ++ inner inputs) (λ lax. refusals (any lax)))
         (λ of. object_first (form of) (λ inputs. object_of (wrong inputs) (fields inputs)) (λ inputs. map key_step (all_wrong inputs) ++ inner inputs) any
         (λ inputs. object_of_first (all_wrong inputs) (wrong inputs) (inner inputs) (fields inputs) (wrong_first distinct inputs [] (given_names fs)) (fields_first inputs (λ name. find_coerced form name fs) (λ name. find_refusals form name fs) (λ name. first_found name fs)))) s
     first_refusal (given_variable v) s = refusal_first (variable_at v (is_nullable s))

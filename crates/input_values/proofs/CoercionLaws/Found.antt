@@ -7,9 +7,9 @@ use Rattle.gql_base.proofs.NameLaws.RepeatedLaws.{distinct_none, none_distinct}
 use Rattle.input_values.specs.values.Coerced.{CoercedTree, coerced_null, coerced_list, coerced_object, CoercedTrees, no_coerced, coerced_then, CoercedFields, no_coerced_field, is_coerced_null}
 use Rattle.input_values.specs.inputs.Shapes.{ShapeTree, named_shape, list_shape, is_nullable}
 use Rattle.input_values.specs.coercion.Answers.{Path, Answer, refused, at_step, mapped, both, key_step, item_step}
-use Rattle.input_values.specs.coercion.Given.{Given, given_null, given_integer, given_fraction, given_string, given_text, given_name, given_boolean, given_list, given_object, given_variable, given_nothing, GivenItems, no_given, given_then, GivenFields, no_given_field, given_field_then, given_names, is_nothing}
-use Rattle.input_values.specs.coercion.Forms.{Absence, takes_default, stays_absent, is_required, FieldForm, is_field, InputForm, integer_form, string_form, boolean_form, id_form, custom_form, enum_form, object_form, no_form}
-use Rattle.input_values.specs.coercion.Leaves.{integer_at, string_at, text_at, name_at, boolean_at, custom_at}
+use Rattle.input_values.specs.coercion.Given.{Given, given_null, given_integer, given_float, given_huge, given_string, given_text, given_name, given_boolean, given_list, given_object, given_variable, given_nothing, GivenItems, no_given, given_then, GivenFields, no_given_field, given_field_then, given_names, is_nothing}
+use Rattle.input_values.specs.coercion.Forms.{Absence, takes_default, stays_absent, is_required, FieldForm, is_field, InputForm, integer_form, string_form, boolean_form, id_form, float_form, custom_form, lax_form, enum_form, object_form, no_form}
+use Rattle.input_values.specs.coercion.Leaves.{integer_at, float_at, string_at, text_at, name_at, boolean_at, custom_at}
 use Rattle.input_values.specs.coercion.Customs.{any_value}
 use Rattle.input_values.specs.coercion.Places.{null_at, list_of_one, single_at, list_at}
 use Rattle.input_values.specs.coercion.Objects.{wrong_name, Finder, absent_at, field_answer, with_field, fields_at, object_of, object_by, object_at}
@@ -143,12 +143,14 @@ object_of_iff : (wrong : Option (List ℕ)) (Right : Type 0) (a : Answer Coerced
 object_of_iff None Right a Are t right each = (λ e. let m = mapped_ok coerced_object a t e in (right.0 refl, m.0, m.2, (each m.0).0 m.1), λ e. ap (mapped coerced_object) ((each e.1).1 e.3) ∙ ap Ok (sym e.2))
 object_of_iff (Some name) Right a Are t right each = (λ e. no_ok (key_step name) t e, λ e. absurd (none-some name (sym (right.1 e.0))))
 
-object_iff : (form : InputForm) (fields : List FieldForm → Answer CoercedTree) (Is : List FieldForm → CoercedTree → Type 0) (any : Answer CoercedTree) (t : CoercedTree) → ((fs : List FieldForm) → Iff (fields fs ≡ Ok t) (Is fs t)) → Iff (object_by form fields any ≡ Ok t) (IsObject form Is any t)
+object_iff : (form : InputForm) (fields : List FieldForm → Answer CoercedTree) (Is : List FieldForm → CoercedTree → Type 0) (any : Bool → Answer CoercedTree) (t : CoercedTree) → ((fs : List FieldForm) → Iff (fields fs ≡ Ok t) (Is fs t)) → Iff (object_by form fields any ≡ Ok t) (IsObject form Is any t)
 object_iff integer_form fields Is any t each = no_iff [] t
 object_iff string_form fields Is any t each = no_iff [] t
 object_iff boolean_form fields Is any t each = no_iff [] t
 object_iff id_form fields Is any t each = no_iff [] t
+object_iff float_form fields Is any t each = no_iff [] t
 object_iff custom_form fields Is any t each = self_iff
+object_iff lax_form fields Is any t each = self_iff
 object_iff (enum_form names) fields Is any t each = no_iff [] t
 object_iff (object_form fs) fields Is any t each = each fs
 object_iff no_form fields Is any t each = no_iff [] t
@@ -160,19 +162,20 @@ module _ (form : ℕ → InputForm) where
     pub coerced_iff : (g : Given) (s : ShapeTree) (t : CoercedTree) → Iff (coerced form g s ≡ Ok t) (IsCoerced form g s t)
     coerced_iff given_null s t = null_iff coerced_null (is_nullable s) t
     coerced_iff (given_integer z) s t = single_iff (λ of. integer_at (form of) z) (λ of u. integer_at (form of) z ≡ Ok u) (λ of u. self_iff) s t
-    coerced_iff given_fraction s t = no_iff [] t
+    coerced_iff (given_float bits) s t = single_iff (λ of. float_at (form of) bits) (λ of u. float_at (form of) bits ≡ Ok u) (λ of u. self_iff) s t
+    coerced_iff given_huge s t = no_iff [] t
     coerced_iff (given_string b) s t = single_iff (λ of. string_at (form of) b) (λ of u. string_at (form of) b ≡ Ok u) (λ of u. self_iff) s t
     coerced_iff (given_text b) s t = single_iff (λ of. text_at (form of) b) (λ of u. text_at (form of) b ≡ Ok u) (λ of u. self_iff) s t
     coerced_iff (given_name b) s t = single_iff (λ of. name_at (form of) b) (λ of u. name_at (form of) b ≡ Ok u) (λ of u. self_iff) s t
     coerced_iff (given_boolean b) s t = single_iff (λ of. boolean_at (form of) b) (λ of u. boolean_at (form of) b ≡ Ok u) (λ of u. self_iff) s t
     coerced_iff (given_list gs) s t =
-        list_iff (λ item. items_coerced form 0 gs item) (λ item ts. AreCoerced form gs item ts) (λ of. custom_at (form of) (any_value (given_list gs))) (λ of u. custom_at (form of) (any_value (given_list gs)) ≡ Ok u)
+        list_iff (λ item. items_coerced form 0 gs item) (λ item ts. AreCoerced form gs item ts) (λ of. custom_at (form of) (λ lax. any_value lax (given_list gs))) (λ of u. custom_at (form of) (λ lax. any_value lax (given_list gs)) ≡ Ok u)
         (λ item ts. items_iff 0 gs item ts) (λ of u. self_iff) s t
     coerced_iff (given_object distinct fs) s t =
         single_iff (λ of. object_at (form of) distinct fs (λ name. find_coerced form name fs))
-        (λ of u. IsObject (form of) (λ inputs v. NamesAreRight distinct inputs (given_names fs) × (cs : CoercedFields) × (v ≡ coerced_object cs) × AreFields inputs (λ f o. IsField form f.name fs f o) cs) (any_value (given_object distinct fs)) u)
+        (λ of u. IsObject (form of) (λ inputs v. NamesAreRight distinct inputs (given_names fs) × (cs : CoercedFields) × (v ≡ coerced_object cs) × AreFields inputs (λ f o. IsField form f.name fs f o) cs) (λ lax. any_value lax (given_object distinct fs)) u)
         (λ of u. object_iff (form of) (λ inputs. object_of (wrong_name distinct inputs [] (given_names fs)) (fields_at inputs (λ name. find_coerced form name fs)))
-        (λ inputs v. NamesAreRight distinct inputs (given_names fs) × (cs : CoercedFields) × (v ≡ coerced_object cs) × AreFields inputs (λ f o. IsField form f.name fs f o) cs) (any_value (given_object distinct fs)) u
+        (λ inputs v. NamesAreRight distinct inputs (given_names fs) × (cs : CoercedFields) × (v ≡ coerced_object cs) × AreFields inputs (λ f o. IsField form f.name fs f o) cs) (λ lax. any_value lax (given_object distinct fs)) u
         (λ inputs. object_of_iff (wrong_name distinct inputs [] (given_names fs)) (NamesAreRight distinct inputs (given_names fs)) (fields_at inputs (λ name. find_coerced form name fs)) (λ cs. AreFields inputs (λ f o. IsField form f.name fs f o) cs) u (names_iff distinct inputs (given_names fs))
         (λ cs. fields_iff inputs (λ name. find_coerced form name fs) (λ f o. IsField form f.name fs f o) (λ f o. field_iff f.name fs f o) cs))) s t
     coerced_iff (given_variable v) s t = variable_iff v (is_coerced_null v && not (is_nullable s)) t

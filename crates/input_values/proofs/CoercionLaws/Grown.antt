@@ -5,9 +5,9 @@ use Rattle.std.specs.List.{list_all}
 use Rattle.input_values.specs.values.Coerced.{CoercedTree, CoercedTrees, coerced_object, CoercedFields, nodes, item_nodes, field_nodes}
 use Rattle.input_values.specs.inputs.Shapes.{ShapeTree, named_shape, list_shape}
 use Rattle.input_values.specs.coercion.Answers.{Answer}
-use Rattle.input_values.specs.coercion.Given.{Given, given_null, given_integer, given_fraction, given_string, given_text, given_name, given_boolean, given_list, given_object, given_variable, given_nothing, GivenItems, no_given, given_then, GivenFields, no_given_field, given_field_then, given_names, is_nothing}
-use Rattle.input_values.specs.coercion.Forms.{Absence, takes_default, stays_absent, is_required, FieldForm, is_field, InputForm, integer_form, string_form, boolean_form, id_form, custom_form, enum_form, object_form, no_form}
-use Rattle.input_values.specs.coercion.Leaves.{integer_at, string_at, text_at, name_at, boolean_at, custom_at}
+use Rattle.input_values.specs.coercion.Given.{Given, given_null, given_integer, given_float, given_huge, given_string, given_text, given_name, given_boolean, given_list, given_object, given_variable, given_nothing, GivenItems, no_given, given_then, GivenFields, no_given_field, given_field_then, given_names, is_nothing}
+use Rattle.input_values.specs.coercion.Forms.{Absence, takes_default, stays_absent, is_required, FieldForm, is_field, InputForm, integer_form, string_form, boolean_form, id_form, float_form, custom_form, lax_form, enum_form, object_form, no_form}
+use Rattle.input_values.specs.coercion.Leaves.{integer_at, float_at, string_at, text_at, name_at, boolean_at, custom_at}
 use Rattle.input_values.specs.coercion.Customs.{any_value}
 use Rattle.input_values.specs.coercion.Calls.{nodes_in}
 use Rattle.input_values.specs.coercion.Objects.{with_field}
@@ -38,7 +38,9 @@ FormGrows n integer_form form = form ≡ integer_form
 FormGrows n string_form form = form ≡ string_form
 FormGrows n boolean_form form = form ≡ boolean_form
 FormGrows n id_form form = form ≡ id_form
+FormGrows n float_form form = form ≡ float_form
 FormGrows n custom_form form = form ≡ custom_form
+FormGrows n lax_form form = form ≡ lax_form
 FormGrows n (enum_form names) form = form ≡ enum_form names
 FormGrows n no_form form = form ≡ no_form
 
@@ -48,7 +50,9 @@ leaf_grows n leaf integer_form more t never grows is = ap leaf grows ∙ is
 leaf_grows n leaf string_form more t never grows is = ap leaf grows ∙ is
 leaf_grows n leaf boolean_form more t never grows is = ap leaf grows ∙ is
 leaf_grows n leaf id_form more t never grows is = ap leaf grows ∙ is
+leaf_grows n leaf float_form more t never grows is = ap leaf grows ∙ is
 leaf_grows n leaf custom_form more t never grows is = ap leaf grows ∙ is
+leaf_grows n leaf lax_form more t never grows is = ap leaf grows ∙ is
 leaf_grows n leaf (enum_form names) more t never grows is = ap leaf grows ∙ is
 leaf_grows n leaf no_form more t never grows is = ap leaf grows ∙ is
 leaf_grows n leaf (object_form fs) more t never grows is = no_ok [] t (sym (never fs) ∙ is)
@@ -102,14 +106,16 @@ fields_grow n (f ∷ less) (g ∷ more) P Q cs each grow small are =
     let e : field_nodes cs ≡ nodes_in are.0 + field_nodes are.1 = ap field_nodes are.2 ∙ with_nodes f.name are.0 are.1 in
     (are.0, are.1, are.2 ∙ ap (λ m. with_field m are.0 are.1) (sym (grow.0).name), each f g are.0 (omega (arith, e, small)) grow.0 are.3, fields_grow n less more P Q are.1 each grow.1 (omega (arith, e, small)) are.4)
 
-object_grows : (n : ℕ) (less more : InputForm) (P Q : List FieldForm → CoercedTree → Type 0) (any : Answer CoercedTree) (t : CoercedTree) → ((fs gs : List FieldForm) → FieldsGrow n fs gs → P fs t → Q gs t) → FormGrows n less more → IsObject less P any t → IsObject more Q any t
+object_grows : (n : ℕ) (less more : InputForm) (P Q : List FieldForm → CoercedTree → Type 0) (any : Bool → Answer CoercedTree) (t : CoercedTree) → ((fs gs : List FieldForm) → FieldsGrow n fs gs → P fs t → Q gs t) → FormGrows n less more → IsObject less P any t → IsObject more Q any t
 object_grows n integer_form more P Q any t each grows is = absurd is
 object_grows n string_form more P Q any t each grows is = absurd is
 object_grows n boolean_form more P Q any t each grows is = absurd is
 object_grows n id_form more P Q any t each grows is = absurd is
+object_grows n float_form more P Q any t each grows is = absurd is
 object_grows n (enum_form names) more P Q any t each grows is = absurd is
 object_grows n no_form more P Q any t each grows is = absurd is
 object_grows n custom_form more P Q any t each grows is = subst (λ f. IsObject f Q any t) (sym grows) is
+object_grows n lax_form more P Q any t each grows is = subst (λ f. IsObject f Q any t) (sym grows) is
 object_grows n (object_form fs) more P Q any t each grows is = subst (λ f. IsObject f Q any t) (sym grows.1) (each fs grows.0 grows.2 is)
 
 module _ (n : ℕ) (less more : ℕ → InputForm) (grows : (of : ℕ) → FormGrows n (less of) (more of)) where
@@ -122,20 +128,21 @@ module _ (n : ℕ) (less more : ℕ → InputForm) (grows : (of : ℕ) → FormG
     is_grown : (g : Given) (s : ShapeTree) (t : CoercedTree) → nodes t ≤ n → IsCoerced less g s t → IsCoerced more g s t
     is_grown given_null s t small is = is
     is_grown (given_integer z) s t small is = leaf (λ f. integer_at f z) (λ fs. refl) s t small is
-    is_grown given_fraction s t small is = is
+    is_grown (given_float bits) s t small is = leaf (λ f. float_at f bits) (λ fs. refl) s t small is
+    is_grown given_huge s t small is = is
     is_grown (given_string b) s t small is = leaf (λ f. string_at f b) (λ fs. refl) s t small is
     is_grown (given_text b) s t small is = leaf (λ f. text_at f b) (λ fs. refl) s t small is
     is_grown (given_name b) s t small is = leaf (λ f. name_at f b) (λ fs. refl) s t small is
     is_grown (given_boolean b) s t small is = leaf (λ f. boolean_at f b) (λ fs. refl) s t small is
     is_grown (given_list gs) s t small is =
-        list_grows n (λ item ts. AreCoerced less gs item ts) (λ item ts. AreCoerced more gs item ts) (λ of u. custom_at (less of) (any_value (given_list gs)) ≡ Ok u) (λ of u. custom_at (more of) (any_value (given_list gs)) ≡ Ok u)
-        (λ item ts few are. are_grown gs item ts few are) (λ of u e. leaf_grows n (λ f. custom_at f (any_value (given_list gs))) (less of) (more of) u (λ fs. refl) (grows of) e) s t small is
+        list_grows n (λ item ts. AreCoerced less gs item ts) (λ item ts. AreCoerced more gs item ts) (λ of u. custom_at (less of) (λ lax. any_value lax (given_list gs)) ≡ Ok u) (λ of u. custom_at (more of) (λ lax. any_value lax (given_list gs)) ≡ Ok u)
+        (λ item ts few are. are_grown gs item ts few are) (λ of u e. leaf_grows n (λ f. custom_at f (λ lax. any_value lax (given_list gs))) (less of) (more of) u (λ fs. refl) (grows of) e) s t small is
     is_grown (given_object distinct fs) s t small is =
         single_grows n
-        (λ of u. IsObject (less of) (λ inputs v. NamesAreRight distinct inputs (given_names fs) × (cs : CoercedFields) × (v ≡ coerced_object cs) × AreFields inputs (λ f o. IsField less f.name fs f o) cs) (any_value (given_object distinct fs)) u)
-        (λ of u. IsObject (more of) (λ inputs v. NamesAreRight distinct inputs (given_names fs) × (cs : CoercedFields) × (v ≡ coerced_object cs) × AreFields inputs (λ f o. IsField more f.name fs f o) cs) (any_value (given_object distinct fs)) u)
+        (λ of u. IsObject (less of) (λ inputs v. NamesAreRight distinct inputs (given_names fs) × (cs : CoercedFields) × (v ≡ coerced_object cs) × AreFields inputs (λ f o. IsField less f.name fs f o) cs) (λ lax. any_value lax (given_object distinct fs)) u)
+        (λ of u. IsObject (more of) (λ inputs v. NamesAreRight distinct inputs (given_names fs) × (cs : CoercedFields) × (v ≡ coerced_object cs) × AreFields inputs (λ f o. IsField more f.name fs f o) cs) (λ lax. any_value lax (given_object distinct fs)) u)
         (λ of u fits e. object_grows n (less of) (more of) (λ inputs v. NamesAreRight distinct inputs (given_names fs) × (cs : CoercedFields) × (v ≡ coerced_object cs) × AreFields inputs (λ f o. IsField less f.name fs f o) cs)
-        (λ inputs v. NamesAreRight distinct inputs (given_names fs) × (cs : CoercedFields) × (v ≡ coerced_object cs) × AreFields inputs (λ f o. IsField more f.name fs f o) cs) (any_value (given_object distinct fs)) u
+        (λ inputs v. NamesAreRight distinct inputs (given_names fs) × (cs : CoercedFields) × (v ≡ coerced_object cs) × AreFields inputs (λ f o. IsField more f.name fs f o) cs) (λ lax. any_value lax (given_object distinct fs)) u
         (λ inputs wider grow p. let k : nodes u ≡ suc (field_nodes p.1) = ap nodes p.2 in
         ((all_fields n inputs wider (given_names fs) grow ∙ (p.0).0, (p.0).1), p.1, p.2, fields_grow n inputs wider (λ f o. IsField less f.name fs f o) (λ f o. IsField more f.name fs f o) p.1 (λ f g o few fg h. subst (λ m. IsField more m fs g o) (sym fg.name) (field_grown f.name fs f g o few fg h)) grow (omega (arith, k, fits)) p.3)) (grows of) e) s t small is
     is_grown (given_variable v) s t small is = is

@@ -1,5 +1,5 @@
 -- Lists and objects of a literal at their places.
-use Rattle.std.proofs.Common.{◌≡◌, ◌+◌, ◌<◌, ◌≤◌, ℕ, suc, Bool, false, List, [], ◌++◌, length, drop, get_or, Vec, Global, Option, Result, Ok, sym, ap, ◌∙◌, subst, arith}
+use Rattle.std.proofs.Common.{◌≡◌, ◌+◌, ◌<◌, ◌≤◌, ℕ, suc, Bool, true, false, List, [], ◌++◌, length, drop, get_or, Vec, Global, Option, Result, Ok, refl, sym, ap, ◌∙◌, subst, arith}
 use Rattle.std.proofs.lemmas.List.{drop_all}
 use Rattle.gql_base.specs.declared.parts.trees.Value.{Value}
 use Rattle.gql_base.specs.declared.parts.trees.Argument.{Argument}
@@ -13,7 +13,7 @@ use Rattle.input_values.specs.declared.values.coerced.Coerced.{Coerced}
 use Rattle.input_values.specs.declared.coercion.faults.CoercionFault.{CoercionFault}
 use Rattle.input_values.specs.coercion.Answers.{Answer, item_step, at_step, mapped}
 use Rattle.input_values.specs.coercion.Given.{given_list, given_object, given_names}
-use Rattle.input_values.specs.coercion.Forms.{InputForm, custom_form, object_form, FieldForm, fields_of}
+use Rattle.input_values.specs.coercion.Forms.{InputForm, integer_form, string_form, boolean_form, id_form, float_form, custom_form, lax_form, enum_form, object_form, no_form, FieldForm, fields_of}
 use Rattle.input_values.specs.coercion.Leaves.{custom_at}
 use Rattle.input_values.specs.coercion.Customs.{any_value}
 use Rattle.input_values.specs.coercion.Objects.{Finder, wrong_name, fields_at, object_of, object_by, object_at}
@@ -35,9 +35,24 @@ list_literal env v w items is seen = ap (λ l. given_list (literal_items env (it
 pub object_literal : (env : Environment) (v : Value) (w : Vec Argument Global) (fields : List Argument) → v ≡ ObjectValue w → fields ≡ w.items → given_object false (literal_fields env (fields_written fields)) ≡ literal_given env (value_tree v)
 object_literal env v w fields is seen = ap (λ l. given_object false (literal_fields env (fields_written l))) seen ∙ ap (literal_given env) (sym (ap value_tree is ∙ object_tree w))
 
+-- a value of which a custom scalar alone makes something
+same_any : (form : InputForm) (any other : Bool → Answer CoercedTree) → ((lax : Bool) → any lax ≡ other lax) → custom_at form any ≡ custom_at form other
+same_any integer_form any other same = refl
+same_any string_form any other same = refl
+same_any boolean_form any other same = refl
+same_any id_form any other same = refl
+same_any float_form any other same = refl
+same_any custom_form any other same = same false
+same_any lax_form any other same = same true
+same_any (enum_form names) any other same = refl
+same_any (object_form fields) any other same = refl
+same_any no_form any other same = refl
+
 -- a list at a named type, and at a list
-pub list_named : (form : ℕ → InputForm) (env : Environment) (vs : List Value) (s : ShapeTree) (of : ℕ) (n : Bool) → s ≡ named_shape of n → custom_at (form of) (any_value (given_list (literal_items no_variables (items_written vs)))) ≡ coerced form (given_list (literal_items env (items_written vs))) s
-list_named form env vs s of n is = ap (custom_at (form of)) (sym (any_alike env (list_value (items_written vs)))) ∙ ap (coerced form (given_list (literal_items env (items_written vs)))) (sym is)
+pub list_named : (form : ℕ → InputForm) (env : Environment) (vs : List Value) (s : ShapeTree) (of : ℕ) (n : Bool) → s ≡ named_shape of n → custom_at (form of) (λ lax. any_value lax (given_list (literal_items no_variables (items_written vs)))) ≡ coerced form (given_list (literal_items env (items_written vs))) s
+list_named form env vs s of n is =
+    same_any (form of) (λ lax. any_value lax (given_list (literal_items no_variables (items_written vs)))) (λ lax. any_value lax (given_list (literal_items env (items_written vs)))) (λ lax. sym (any_alike lax env (list_value (items_written vs))))
+    ∙ ap (coerced form (given_list (literal_items env (items_written vs)))) (sym is)
 
 pub list_listed : (form : ℕ → InputForm) (env : Environment) (vs : List Value) (s i : ShapeTree) (n : Bool) → s ≡ list_shape i n → mapped coerced_list (items_coerced form 0 (literal_items env (items_written vs)) i) ≡ coerced form (given_list (literal_items env (items_written vs))) s
 list_listed form env vs s i n is = ap (coerced form (given_list (literal_items env (items_written vs)))) (sym is)
@@ -46,12 +61,17 @@ list_listed form env vs s i n is = ap (coerced form (given_list (literal_items e
 pub object_fields : (form : InputForm) (env : Environment) (find : Finder) (fs : List Argument) → form ≡ object_form (fields_of form) → object_of (wrong_name false (fields_of form) [] (names_written fs)) (fields_at (fields_of form) find) ≡ object_at form false (literal_fields env (fields_written fs)) find
 object_fields form env find fs is =
     ap (λ names. object_of (wrong_name false (fields_of form) [] names) (fields_at (fields_of form) find)) (sym (names_given env fs))
-    ∙ ap (λ f. object_by f (λ inputs. object_of (wrong_name false inputs [] (given_names (literal_fields env (fields_written fs)))) (fields_at inputs find)) (any_value (given_object false (literal_fields env (fields_written fs))))) (sym is)
+    ∙ ap (λ f. object_by f (λ inputs. object_of (wrong_name false inputs [] (given_names (literal_fields env (fields_written fs)))) (fields_at inputs find)) (λ lax. any_value lax (given_object false (literal_fields env (fields_written fs))))) (sym is)
 
-pub object_custom : (form : InputForm) (env : Environment) (find : Finder) (fs : List Argument) → form ≡ custom_form → any_value (given_object false (literal_fields no_variables (fields_written fs))) ≡ object_at form false (literal_fields env (fields_written fs)) find
+pub object_custom : (form : InputForm) (env : Environment) (find : Finder) (fs : List Argument) → form ≡ custom_form → any_value false (given_object false (literal_fields no_variables (fields_written fs))) ≡ object_at form false (literal_fields env (fields_written fs)) find
 object_custom form env find fs is =
-    sym (any_alike env (object_value (fields_written fs)))
-    ∙ ap (λ f. object_by f (λ inputs. object_of (wrong_name false inputs [] (given_names (literal_fields env (fields_written fs)))) (fields_at inputs find)) (any_value (given_object false (literal_fields env (fields_written fs))))) (sym is)
+    sym (any_alike false env (object_value (fields_written fs)))
+    ∙ ap (λ f. object_by f (λ inputs. object_of (wrong_name false inputs [] (given_names (literal_fields env (fields_written fs)))) (fields_at inputs find)) (λ lax. any_value lax (given_object false (literal_fields env (fields_written fs))))) (sym is)
+
+pub object_lax : (form : InputForm) (env : Environment) (find : Finder) (fs : List Argument) → form ≡ lax_form → any_value true (given_object false (literal_fields no_variables (fields_written fs))) ≡ object_at form false (literal_fields env (fields_written fs)) find
+object_lax form env find fs is =
+    sym (any_alike true env (object_value (fields_written fs)))
+    ∙ ap (λ f. object_by f (λ inputs. object_of (wrong_name false inputs [] (given_names (literal_fields env (fields_written fs)))) (fields_at inputs find)) (λ lax. any_value lax (given_object false (literal_fields env (fields_written fs))))) (sym is)
 
 -- the next item
 pub literal_item_left : (limit : ℕ) (form : ℕ → InputForm) (env : Environment) (s : ShapeTree) (vs : List Value) (at : ℕ) (v : Value) (built more : List CoercedTree) (before now mid : ℕ) (r : Option Coerced) (whole : Answer CoercedTrees) → at < length vs → v ≡ get_or vs at v

@@ -4,9 +4,9 @@ use Rattle.gql_base.specs.names.Names.{are_distinct}
 use Rattle.gql_base.specs.declared.parts.trees.Value.{Value}
 use Rattle.gql_base.specs.declared.parts.trees.Argument.{Argument}
 use Rattle.gql_base.specs.parts.Trees.{value_tree, named_value}
-use Rattle.gql_base.specs.parts.Values.{ValueTree, variable_value, integer_value, string_value, boolean_value, null_value, enum_value, list_value, object_value, ValueTrees, no_value, value_then, FieldTrees, no_field, field_then}
+use Rattle.gql_base.specs.parts.Values.{ValueTree, variable_value, integer_value, float_value, string_value, boolean_value, null_value, enum_value, list_value, object_value, ValueTrees, no_value, value_then, FieldTrees, no_field, field_then}
 use Rattle.gql_base.proofs.PrintingLaws.PrintSteps.{open_argument}
-use Rattle.gql_base.proofs.PartLaws.ValueSteps.{variable_tree, integer_tree, string_tree, boolean_tree, null_tree, enum_tree, list_tree, object_tree}
+use Rattle.gql_base.proofs.PartLaws.ValueSteps.{variable_tree, integer_tree, float_tree, string_tree, boolean_tree, null_tree, enum_tree, list_tree, object_tree}
 use Rattle.input_values.specs.values.Coerced.{CoercedTree, coerced_list, CoercedTrees, CoercedFields, coerced_field_then, NamedTree}
 use Rattle.input_values.specs.declared.values.coerced.Coerced.{Coerced}
 use Rattle.input_values.specs.declared.coercion.faults.CoercionFault.{CoercionFault}
@@ -20,7 +20,7 @@ use Rattle.input_values.specs.coercion.Sizes.{items_written, fields_written, nam
 use Rattle.gql_base.proofs.Lists.{at_front}
 use Rattle.input_values.proofs.CoercionSteps.Pieces.{item_left, member_left, item_refused, field_refused}
 
-pub ruleset literal_trees = (variable_tree, integer_tree, string_tree, boolean_tree, null_tree, enum_tree, list_tree, object_tree)
+pub ruleset literal_trees = (variable_tree, integer_tree, float_tree, string_tree, boolean_tree, null_tree, enum_tree, list_tree, object_tree)
 
 -- ## What is in front
 
@@ -51,46 +51,47 @@ field_smaller (g ∷ fs) (suc at) f within is = let h = field_smaller fs at f (o
 
 -- ## Custom scalars, one more
 
-pub any_item_left : (limit : ℕ) (vs : List Value) (at : ℕ) (v : Value) (built more : List CoercedTree) (before now mid : ℕ) (r : Option Coerced) (whole : Answer CoercedTrees) → at < length vs → v ≡ get_or vs at v
-    → ItemsLeft limit built before now (any_items (literal_items no_variables (items_written (drop at vs)))) whole → Coerces limit now mid (Ok r) (any_value (literal_given no_variables (value_tree v))) → more ≡ built ++ one_item (tree_in r)
-    → ItemsLeft limit more before mid (any_items (literal_items no_variables (items_written (drop (at + 1) vs)))) whole
-any_item_left limit vs at v built more before now mid r whole within is left c e =
-    item_left limit built more before now mid r (any_value (literal_given no_variables (value_tree v))) (any_items (literal_items no_variables (items_written (drop (at + 1) vs)))) whole
-    (subst (λ gs. ItemsLeft limit built before now (any_items gs) whole) (items_front no_variables vs at v within is) left) c e
+pub any_item_left : (lax : Bool) (limit : ℕ) (vs : List Value) (at : ℕ) (v : Value) (built more : List CoercedTree) (before now mid : ℕ) (r : Option Coerced) (whole : Answer CoercedTrees) → at < length vs → v ≡ get_or vs at v
+    → ItemsLeft limit built before now (any_items lax (literal_items no_variables (items_written (drop at vs)))) whole → Coerces limit now mid (Ok r) (any_value lax (literal_given no_variables (value_tree v))) → more ≡ built ++ one_item (tree_in r)
+    → ItemsLeft limit more before mid (any_items lax (literal_items no_variables (items_written (drop (at + 1) vs)))) whole
+any_item_left lax limit vs at v built more before now mid r whole within is left c e =
+    item_left limit built more before now mid r (any_value lax (literal_given no_variables (value_tree v))) (any_items lax (literal_items no_variables (items_written (drop (at + 1) vs)))) whole
+    (subst (λ gs. ItemsLeft limit built before now (any_items lax gs) whole) (items_front no_variables vs at v within is) left) c e
 
-pub any_field_left : (limit : ℕ) (fs : List Argument) (at : ℕ) (f : Argument) (told : List ℕ) (built more : List NamedTree) (before now mid : ℕ) (r : Option Coerced) (whole : Answer CoercedFields) → at < length fs → f ≡ get_or fs at f → told ≡ f.name.text
-    → FieldsLeft limit built before now (any_fields (literal_fields no_variables (fields_written (drop at fs)))) whole → Coerces limit now mid (Ok r) (any_value (literal_given no_variables (value_tree f.value))) → more ≡ built ++ one_field told (tree_in r)
-    → FieldsLeft limit more before mid (any_fields (literal_fields no_variables (fields_written (drop (at + 1) fs)))) whole
-any_field_left limit fs at f told built more before now mid r whole within is name left c e =
-    member_left limit built more f.name.text told before now mid r (any_value (literal_given no_variables (value_tree f.value))) (any_fields (literal_fields no_variables (fields_written (drop (at + 1) fs)))) whole name
-    (subst (λ gs. FieldsLeft limit built before now (any_fields gs) whole) (fields_front no_variables fs at f within is) left) c e
+pub any_field_left : (lax : Bool) (limit : ℕ) (fs : List Argument) (at : ℕ) (f : Argument) (told : List ℕ) (built more : List NamedTree) (before now mid : ℕ) (r : Option Coerced) (whole : Answer CoercedFields) → at < length fs → f ≡ get_or fs at f → told ≡ f.name.text
+    → FieldsLeft limit built before now (any_fields lax (literal_fields no_variables (fields_written (drop at fs)))) whole → Coerces limit now mid (Ok r) (any_value lax (literal_given no_variables (value_tree f.value))) → more ≡ built ++ one_field told (tree_in r)
+    → FieldsLeft limit more before mid (any_fields lax (literal_fields no_variables (fields_written (drop (at + 1) fs)))) whole
+any_field_left lax limit fs at f told built more before now mid r whole within is name left c e =
+    member_left limit built more f.name.text told before now mid r (any_value lax (literal_given no_variables (value_tree f.value))) (any_fields lax (literal_fields no_variables (fields_written (drop (at + 1) fs)))) whole name
+    (subst (λ gs. FieldsLeft limit built before now (any_fields lax gs) whole) (fields_front no_variables fs at f within is) left) c e
 
-pub any_item_refused : (limit : ℕ) (vs : List Value) (at : ℕ) (v : Value) (built : List CoercedTree) (before now : ℕ) (f : CoercionFault) (whole : Answer CoercedTrees) → at < length vs → v ≡ get_or vs at v
-    → ItemsLeft limit built before now (any_items (literal_items no_variables (items_written (drop at vs)))) whole → Tells f (any_value (literal_given no_variables (value_tree v))) → Tells f whole
-any_item_refused limit vs at v built before now f whole within is left h =
-    item_refused limit built before now f (any_value (literal_given no_variables (value_tree v))) (any_items (literal_items no_variables (items_written (drop (at + 1) vs)))) whole
-    (subst (λ gs. ItemsLeft limit built before now (any_items gs) whole) (items_front no_variables vs at v within is) left) h
+pub any_item_refused : (lax : Bool) (limit : ℕ) (vs : List Value) (at : ℕ) (v : Value) (built : List CoercedTree) (before now : ℕ) (f : CoercionFault) (whole : Answer CoercedTrees) → at < length vs → v ≡ get_or vs at v
+    → ItemsLeft limit built before now (any_items lax (literal_items no_variables (items_written (drop at vs)))) whole → Tells f (any_value lax (literal_given no_variables (value_tree v))) → Tells f whole
+any_item_refused lax limit vs at v built before now f whole within is left h =
+    item_refused limit built before now f (any_value lax (literal_given no_variables (value_tree v))) (any_items lax (literal_items no_variables (items_written (drop (at + 1) vs)))) whole
+    (subst (λ gs. ItemsLeft limit built before now (any_items lax gs) whole) (items_front no_variables vs at v within is) left) h
 
-pub any_field_refused : (limit : ℕ) (fs : List Argument) (at : ℕ) (a : Argument) (built : List NamedTree) (before now : ℕ) (f : CoercionFault) (whole : Answer CoercedFields) → at < length fs → a ≡ get_or fs at a
-    → FieldsLeft limit built before now (any_fields (literal_fields no_variables (fields_written (drop at fs)))) whole → Tells f (any_value (literal_given no_variables (value_tree a.value))) → Tells f whole
-any_field_refused limit fs at a built before now f whole within is left h =
-    field_refused limit built before now f (coerced_field_then a.name.text) (any_value (literal_given no_variables (value_tree a.value))) (any_fields (literal_fields no_variables (fields_written (drop (at + 1) fs)))) whole
-    (subst (λ gs. FieldsLeft limit built before now (any_fields gs) whole) (fields_front no_variables fs at a within is) left) h
+pub any_field_refused : (lax : Bool) (limit : ℕ) (fs : List Argument) (at : ℕ) (a : Argument) (built : List NamedTree) (before now : ℕ) (f : CoercionFault) (whole : Answer CoercedFields) → at < length fs → a ≡ get_or fs at a
+    → FieldsLeft limit built before now (any_fields lax (literal_fields no_variables (fields_written (drop at fs)))) whole → Tells f (any_value lax (literal_given no_variables (value_tree a.value))) → Tells f whole
+any_field_refused lax limit fs at a built before now f whole within is left h =
+    field_refused limit built before now f (coerced_field_then a.name.text) (any_value lax (literal_given no_variables (value_tree a.value))) (any_fields lax (literal_fields no_variables (fields_written (drop (at + 1) fs)))) whole
+    (subst (λ gs. FieldsLeft limit built before now (any_fields lax gs) whole) (fields_front no_variables fs at a within is) left) h
 
-pub object_if_distinct : (env : Environment) (fs : List Argument) (distinct : Bool) → distinct ≡ are_distinct (names_written fs) → any_value (given_object false (literal_fields env (fields_written fs))) ≡ any_object distinct (any_fields (literal_fields env (fields_written fs)))
-object_if_distinct env fs distinct is = ap (λ b. any_object b (any_fields (literal_fields env (fields_written fs)))) (ap are_distinct (names_given env fs) ∙ sym is)
+pub object_if_distinct : (lax : Bool) (env : Environment) (fs : List Argument) (distinct : Bool) → distinct ≡ are_distinct (names_written fs) → any_value lax (given_object false (literal_fields env (fields_written fs))) ≡ any_object distinct (any_fields lax (literal_fields env (fields_written fs)))
+object_if_distinct lax env fs distinct is = ap (λ b. any_object b (any_fields lax (literal_fields env (fields_written fs)))) (ap are_distinct (names_given env fs) ∙ sym is)
 
 -- ## A custom scalar's value doesn't hang on variables
 
-module _ (env : Environment) where
-  variable_refused : (o : Option CoercedTree) → any_value (variable_given o) ≡ any_value (variable_given None)
+module _ (lax : Bool) (env : Environment) where
+  variable_refused : (o : Option CoercedTree) → any_value lax (variable_given o) ≡ any_value lax (variable_given None)
   variable_refused None = refl
   variable_refused (Some t) = refl
 
   mutual
-    pub any_alike : (v : ValueTree) → any_value (literal_given env v) ≡ any_value (literal_given no_variables v)
+    pub any_alike : (v : ValueTree) → any_value lax (literal_given env v) ≡ any_value lax (literal_given no_variables v)
     any_alike (variable_value name at) = variable_refused (env name)
     any_alike (integer_value z) = refl
+    any_alike (float_value digits) = refl
     any_alike (string_value s) = refl
     any_alike (boolean_value b) = refl
     any_alike null_value = refl
@@ -98,11 +99,11 @@ module _ (env : Environment) where
     any_alike (list_value vs) = ap (mapped coerced_list) (items_alike vs)
     any_alike (object_value fs) = ap₂ (λ names fields. any_object (are_distinct names) fields) (names_alike fs) (fields_alike fs)
 
-    items_alike : (vs : ValueTrees) → any_items (literal_items env vs) ≡ any_items (literal_items no_variables vs)
+    items_alike : (vs : ValueTrees) → any_items lax (literal_items env vs) ≡ any_items lax (literal_items no_variables vs)
     items_alike no_value = refl
     items_alike (value_then v vs) = ap₂ (both _) (any_alike v) (items_alike vs)
 
-    fields_alike : (fs : FieldTrees) → any_fields (literal_fields env fs) ≡ any_fields (literal_fields no_variables fs)
+    fields_alike : (fs : FieldTrees) → any_fields lax (literal_fields env fs) ≡ any_fields lax (literal_fields no_variables fs)
     fields_alike no_field = refl
     fields_alike (field_then name at v fs) = ap₂ (both _) (any_alike v) (fields_alike fs)
 

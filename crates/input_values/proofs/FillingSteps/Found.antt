@@ -18,7 +18,7 @@ use Rattle.input_values.specs.values.Coerced.{CoercedTree, coerced_tree, nodes}
 use Rattle.input_values.specs.inputs.Shapes.{ShapeTree}
 use Rattle.input_values.specs.declared.values.coerced.Coerced.{Coerced}
 use Rattle.input_values.specs.coercion.Answers.{Answer, refused}
-use Rattle.input_values.specs.coercion.Forms.{Absence, takes_default, stays_absent, is_required, absence_of, FieldForm, InputForm, integer_form, string_form, boolean_form, id_form, custom_form, enum_form, object_form, no_form}
+use Rattle.input_values.specs.coercion.Forms.{Absence, takes_default, stays_absent, is_required, absence_of, FieldForm, InputForm, integer_form, string_form, boolean_form, id_form, float_form, custom_form, lax_form, enum_form, object_form, no_form}
 use Rattle.input_values.specs.coercion.Coercion.{coerced}
 use Rattle.input_values.specs.coercion.Literals.{no_variables, literal_given}
 use Rattle.input_values.specs.defaults.Drafts.{draft_fields, FieldDraft, Draft, settled, drafted, most_nodes, small_enough, default_value, default_absence, draft_absence, filled_field, filled_form, AreFilled}
@@ -43,7 +43,9 @@ form_self k integer_form = refl
 form_self k string_form = refl
 form_self k boolean_form = refl
 form_self k id_form = refl
+form_self k float_form = refl
 form_self k custom_form = refl
+form_self k lax_form = refl
 form_self k (enum_form names) = refl
 form_self k (object_form fs) = (fs, refl, fields_self k fs)
 form_self k no_form = refl

@@ -7,7 +7,7 @@ use Rattle.input_values.specs.values.Coerced.{CoercedTree}
 use Rattle.input_values.specs.coercion.Forms.{is_value, is_field, names_of, fields_of}
 use Rattle.input_values.specs.coercion.Kinds.{scalar_form_of}
 use Rattle.input_values.specs.declared.inputs.types.InputKind.{InputKind}
-use Rattle.input_values.specs.declared.inputs.types.InputKind.TheVariants.{Int, String, Boolean, Id, Custom, Enum as EnumKind, Object as ObjectKind, None as NoKind}
+use Rattle.input_values.specs.declared.inputs.types.InputKind.TheVariants.{Int, String, Boolean, Id, Float as FloatKind, Custom, Lax, Enum as EnumKind, Object as ObjectKind, None as NoKind}
 use Rattle.input_values.specs.declared.defaults.drafts.DraftField.{DraftField}
 use Rattle.input_values.specs.defaults.Drafts.{FieldDraft}
 use Rattle.input_values.specs.defaults.Filling.{field_draft, table_field, table_fields}
@@ -18,6 +18,8 @@ no_fields String = refl
 no_fields Boolean = refl
 no_fields Id = refl
 no_fields Custom = refl
+no_fields Lax = refl
+no_fields FloatKind = refl
 no_fields EnumKind = refl
 no_fields ObjectKind = refl
 no_fields NoKind = refl
@@ -28,6 +30,8 @@ no_names String = refl
 no_names Boolean = refl
 no_names Id = refl
 no_names Custom = refl
+no_names Lax = refl
+no_names FloatKind = refl
 no_names EnumKind = refl
 no_names ObjectKind = refl
 no_names NoKind = refl

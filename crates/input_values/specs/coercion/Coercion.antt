@@ -5,9 +5,9 @@ use Rattle.std.specs.Str.{bytes_eq}
 use Rattle.input_values.specs.values.Coerced.{CoercedTree, coerced_null, CoercedTrees, no_coerced, coerced_then}
 use Rattle.input_values.specs.inputs.Shapes.{ShapeTree, is_nullable}
 use Rattle.input_values.specs.coercion.Answers.{Answer, refused, both, at_step, item_step}
-use Rattle.input_values.specs.coercion.Given.{Given, given_null, given_integer, given_fraction, given_string, given_text, given_name, given_boolean, given_list, given_object, given_variable, given_nothing, GivenItems, no_given, given_then, GivenFields, no_given_field, given_field_then, present}
+use Rattle.input_values.specs.coercion.Given.{Given, given_null, given_integer, given_float, given_huge, given_string, given_text, given_name, given_boolean, given_list, given_object, given_variable, given_nothing, GivenItems, no_given, given_then, GivenFields, no_given_field, given_field_then, present}
 use Rattle.input_values.specs.coercion.Forms.{InputForm}
-use Rattle.input_values.specs.coercion.Leaves.{integer_at, string_at, text_at, name_at, boolean_at, custom_at}
+use Rattle.input_values.specs.coercion.Leaves.{integer_at, float_at, string_at, text_at, name_at, boolean_at, custom_at}
 use Rattle.input_values.specs.coercion.Customs.{any_value}
 use Rattle.input_values.specs.coercion.Places.{null_at, variable_at, single_at, list_at}
 use Rattle.input_values.specs.coercion.Objects.{object_at}
@@ -18,12 +18,13 @@ module _ (form : ℕ → InputForm) where
     pub coerced : Given → ShapeTree → Answer CoercedTree
     coerced given_null shape = null_at coerced_null (is_nullable shape)
     coerced (given_integer z) shape = single_at (λ of. integer_at (form of) z) shape
-    coerced given_fraction shape = refused
+    coerced (given_float bits) shape = single_at (λ of. float_at (form of) bits) shape
+    coerced given_huge shape = refused
     coerced (given_string s) shape = single_at (λ of. string_at (form of) s) shape
     coerced (given_text s) shape = single_at (λ of. text_at (form of) s) shape
     coerced (given_name name) shape = single_at (λ of. name_at (form of) name) shape
     coerced (given_boolean b) shape = single_at (λ of. boolean_at (form of) b) shape
-    coerced (given_list items) shape = list_at (λ item. items_coerced 0 items item) (λ of. custom_at (form of) (any_value (given_list items))) shape
+    coerced (given_list items) shape = list_at (λ item. items_coerced 0 items item) (λ of. custom_at (form of) (λ lax. any_value lax (given_list items))) shape
     coerced (given_object distinct fields) shape = single_at (λ of. object_at (form of) distinct fields (λ name. find_coerced name fields)) shape
     coerced (given_variable t) shape = variable_at t (is_nullable shape)
     -- as an item, or by itself; as a field it is absent

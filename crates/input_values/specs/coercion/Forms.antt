@@ -23,11 +23,14 @@ pub data InputForm : Type 0 where
   string_form : InputForm
   boolean_form : InputForm
   id_form : InputForm
-  -- a scalar that isn't built in
+  float_form : InputForm
+  -- a scalar that isn't built in, whose numbers are whole
   custom_form : InputForm
+  -- a scalar that isn't built in and may hold numbers that aren't whole
+  lax_form : InputForm
   enum_form : (names : List (List ℕ)) → InputForm
   object_form : (fields : List FieldForm) → InputForm
-  -- a type that has no value as an input: Float, or one that is no input type
+  -- a type that is no input type
   no_form : InputForm
 
 -- whether an enum has a value of this name, and an input object a field

@@ -6,8 +6,10 @@ mutual
   pub data Given : Type 0 where
     given_null : Given
     given_integer : ℤ → Given
-    -- a number of JSON that is no whole number
-    given_fraction : Given
+    -- a number that isn't held as a whole one, by the 64 bits of the nearest double
+    given_float : (bits : ℕ) → Given
+    -- a number that is past the doubles
+    given_huge : Given
     -- a string of a literal
     given_string : List ℕ → Given
     -- a string of JSON, which may also be the name of an enum value
@@ -34,7 +36,8 @@ mutual
 abbrev pub is_nothing : Given → Bool
 is_nothing given_null = false
 is_nothing (given_integer z) = false
-is_nothing given_fraction = false
+is_nothing (given_float bits) = false
+is_nothing given_huge = false
 is_nothing (given_string s) = false
 is_nothing (given_text s) = false
 is_nothing (given_name name) = false
@@ -43,6 +46,11 @@ is_nothing (given_list items) = false
 is_nothing (given_object distinct fields) = false
 is_nothing (given_variable t) = false
 is_nothing given_nothing = true
+
+-- a number by the bits of the nearest double, if there is one
+abbrev pub bits_given : Option ℕ → Given
+bits_given None = given_huge
+bits_given (Some bits) = given_float bits
 
 -- the names of fields, in their order
 abbrev pub given_names : GivenFields → List (List ℕ)

@@ -1,12 +1,12 @@
 -- Input objects (GraphQL October 2021, 3.10).
-use Rattle.std.specs.Prelude.{ℕ, Bool, not, ◌&&◌, ◌||◌, List, [], ◌∷◌, Option, Some, None, Ok, Err, if◌then◌else◌}
+use Rattle.std.specs.Prelude.{ℕ, Bool, true, false, not, ◌&&◌, ◌||◌, List, [], ◌∷◌, Option, Some, None, Ok, Err, if◌then◌else◌}
 use Rattle.std.specs.List.{list_any}
 use Rattle.std.specs.Str.{bytes_eq}
 use Rattle.input_values.specs.values.Coerced.{CoercedTree, coerced_object, CoercedFields, no_coerced_field, coerced_field_then}
 use Rattle.input_values.specs.inputs.Shapes.{ShapeTree}
 use Rattle.input_values.specs.coercion.Answers.{Answer, refused, mapped, both, at_step, key_step}
 use Rattle.input_values.specs.coercion.Given.{given_object, GivenFields, given_names}
-use Rattle.input_values.specs.coercion.Forms.{Absence, takes_default, stays_absent, is_required, FieldForm, is_field, InputForm, custom_form, object_form}
+use Rattle.input_values.specs.coercion.Forms.{Absence, takes_default, stays_absent, is_required, FieldForm, is_field, InputForm, custom_form, lax_form, object_form}
 use Rattle.input_values.specs.coercion.Customs.{any_value}
 
 -- A name is wrong that is no field's, or that stands again where the names aren't known to be distinct; `seen` are those
@@ -46,11 +46,13 @@ abbrev pub object_of : Option (List ℕ) → Answer CoercedFields → Answer Coe
 object_of (Some name) fields = Err (key_step name)
 object_of None fields = mapped coerced_object fields
 
--- what an object comes to at a type: `fields` says it for an input object, `any` for a custom scalar
-abbrev pub object_by : InputForm → (List FieldForm → Answer CoercedTree) → Answer CoercedTree → Answer CoercedTree
+-- What an object comes to at a type: `fields` says it for an input object, `any` for a custom scalar whose numbers may be other than
+-- whole, or mayn't.
+abbrev pub object_by : InputForm → (List FieldForm → Answer CoercedTree) → (Bool → Answer CoercedTree) → Answer CoercedTree
 object_by (object_form inputs) fields any = fields inputs
-object_by custom_form fields any = any
+object_by custom_form fields any = any false
+object_by lax_form fields any = any true
 object_by form fields any = refused
 
 abbrev pub object_at : InputForm → Bool → GivenFields → Finder → Answer CoercedTree
-object_at form distinct given find = object_by form (λ inputs. object_of (wrong_name distinct inputs [] (given_names given)) (fields_at inputs find)) (any_value (given_object distinct given))
+object_at form distinct given find = object_by form (λ inputs. object_of (wrong_name distinct inputs [] (given_names given)) (fields_at inputs find)) (λ lax. any_value lax (given_object distinct given))

@@ -1,12 +1,12 @@
 -- All places that are refused, in the order in which coercion tells them: the names of an object before its fields, and
 -- fields in the order of their definitions.
-use Rattle.std.specs.Prelude.{ℕ, suc, List, [], ◌∷◌, ◌++◌, map, Bool, Option, Some, None, Ok, Err, if◌then◌else◌}
+use Rattle.std.specs.Prelude.{ℕ, suc, List, [], ◌∷◌, ◌++◌, map, Bool, true, false, Option, Some, None, Ok, Err, if◌then◌else◌}
 use Rattle.std.specs.Str.{bytes_eq}
 use Rattle.input_values.specs.inputs.Shapes.{ShapeTree, named_shape, list_shape, is_nullable}
 use Rattle.input_values.specs.coercion.Answers.{Path, Answer, key_step, item_step}
-use Rattle.input_values.specs.coercion.Given.{Given, given_null, given_integer, given_fraction, given_string, given_text, given_name, given_boolean, given_list, given_object, given_variable, given_nothing, GivenItems, no_given, given_then, GivenFields, no_given_field, given_field_then, given_names, present}
-use Rattle.input_values.specs.coercion.Forms.{FieldForm, InputForm, custom_form, object_form}
-use Rattle.input_values.specs.coercion.Leaves.{integer_at, string_at, text_at, name_at, boolean_at, custom_at}
+use Rattle.input_values.specs.coercion.Given.{Given, given_null, given_integer, given_float, given_huge, given_string, given_text, given_name, given_boolean, given_list, given_object, given_variable, given_nothing, GivenItems, no_given, given_then, GivenFields, no_given_field, given_field_then, given_names, present}
+use Rattle.input_values.specs.coercion.Forms.{FieldForm, InputForm, custom_form, lax_form, object_form}
+use Rattle.input_values.specs.coercion.Leaves.{integer_at, float_at, string_at, text_at, name_at, boolean_at, custom_at}
 use Rattle.input_values.specs.coercion.Customs.{any_value}
 use Rattle.input_values.specs.coercion.Places.{variable_at}
 use Rattle.input_values.specs.coercion.Objects.{is_wrong, absent_at}
@@ -49,9 +49,10 @@ abbrev pub wrong_names : Bool → List FieldForm → List (List ℕ) → List (L
 wrong_names distinct fields seen [] = []
 wrong_names distinct fields seen (name ∷ names) = if is_wrong distinct fields seen name then name ∷ wrong_names distinct fields (name ∷ seen) names else wrong_names distinct fields (name ∷ seen) names
 
-abbrev pub object_refusals : InputForm → (List FieldForm → Paths) → Paths → Paths
+abbrev pub object_refusals : InputForm → (List FieldForm → Paths) → (Bool → Paths) → Paths
 object_refusals (object_form inputs) fields any = fields inputs
-object_refusals custom_form fields any = any
+object_refusals custom_form fields any = any false
+object_refusals lax_form fields any = any true
 object_refusals form fields any = here
 
 module _ (form : ℕ → InputForm) where
@@ -59,14 +60,15 @@ module _ (form : ℕ → InputForm) where
     pub all_refusals : Given → ShapeTree → Paths
     all_refusals given_null shape = null_refusals (is_nullable shape)
     all_refusals (given_integer z) shape = single_refusals (λ of. refusals (integer_at (form of) z)) shape
-    all_refusals given_fraction shape = here
+    all_refusals (given_float bits) shape = single_refusals (λ of. refusals (float_at (form of) bits)) shape
+    all_refusals given_huge shape = here
     all_refusals (given_string s) shape = single_refusals (λ of. refusals (string_at (form of) s)) shape
     all_refusals (given_text s) shape = single_refusals (λ of. refusals (text_at (form of) s)) shape
     all_refusals (given_name name) shape = single_refusals (λ of. refusals (name_at (form of) name)) shape
     all_refusals (given_boolean b) shape = single_refusals (λ of. refusals (boolean_at (form of) b)) shape
-    all_refusals (given_list items) shape = list_refusals (λ item. items_refusals 0 items item) (λ of. refusals (custom_at (form of) (any_value (given_list items)))) shape
+    all_refusals (given_list items) shape = list_refusals (λ item. items_refusals 0 items item) (λ of. refusals (custom_at (form of) (λ lax. any_value lax (given_list items)))) shape
     all_refusals (given_object distinct fields) shape =
-        single_refusals (λ of. object_refusals (form of) (λ inputs. map key_step (wrong_names distinct inputs [] (given_names fields)) ++ fields_refusals inputs (λ name. find_refusals name fields)) (refusals (any_value (given_object distinct fields)))) shape
+        single_refusals (λ of. object_refusals (form of) (λ inputs. map key_step (wrong_names distinct inputs [] (given_names fields)) ++ fields_refusals inputs (λ name. find_refusals name fields)) (λ lax. refusals (any_value lax (given_object distinct fields)))) shape
     all_refusals (given_variable t) shape = refusals (variable_at t (is_nullable shape))
     all_refusals given_nothing shape = null_refusals (is_nullable shape)
 

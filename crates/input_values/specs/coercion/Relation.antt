@@ -6,9 +6,9 @@ use Rattle.gql_base.specs.names.Names.{are_distinct}
 use Rattle.input_values.specs.values.Coerced.{CoercedTree, coerced_null, coerced_list, coerced_object, CoercedTrees, no_coerced, coerced_then, CoercedFields, no_coerced_field, is_coerced_null}
 use Rattle.input_values.specs.inputs.Shapes.{ShapeTree, named_shape, list_shape, is_nullable}
 use Rattle.input_values.specs.coercion.Answers.{Answer}
-use Rattle.input_values.specs.coercion.Given.{Given, given_null, given_integer, given_fraction, given_string, given_text, given_name, given_boolean, given_list, given_object, given_variable, given_nothing, GivenItems, no_given, given_then, GivenFields, no_given_field, given_field_then, given_names, is_nothing}
-use Rattle.input_values.specs.coercion.Forms.{Absence, takes_default, stays_absent, is_required, FieldForm, is_field, InputForm, custom_form, object_form}
-use Rattle.input_values.specs.coercion.Leaves.{integer_at, string_at, text_at, name_at, boolean_at, custom_at}
+use Rattle.input_values.specs.coercion.Given.{Given, given_null, given_integer, given_float, given_huge, given_string, given_text, given_name, given_boolean, given_list, given_object, given_variable, given_nothing, GivenItems, no_given, given_then, GivenFields, no_given_field, given_field_then, given_names, is_nothing}
+use Rattle.input_values.specs.coercion.Forms.{Absence, takes_default, stays_absent, is_required, FieldForm, is_field, InputForm, custom_form, lax_form, object_form}
+use Rattle.input_values.specs.coercion.Leaves.{integer_at, float_at, string_at, text_at, name_at, boolean_at, custom_at}
 use Rattle.input_values.specs.coercion.Customs.{any_value}
 use Rattle.input_values.specs.coercion.Places.{list_of_one}
 use Rattle.input_values.specs.coercion.Objects.{with_field}
@@ -45,9 +45,10 @@ AreFields (f ∷ others) Is fields = (t : Option CoercedTree) × (rest : Coerced
 abbrev pub NamesAreRight : Bool → List FieldForm → List (List ℕ) → Type 0
 NamesAreRight distinct inputs names = (list_all (is_field inputs) names ≡ true) × ((distinct || are_distinct names) ≡ true)
 
-abbrev pub IsObject : InputForm → (List FieldForm → CoercedTree → Type 0) → Answer CoercedTree → CoercedTree → Type 0
+abbrev pub IsObject : InputForm → (List FieldForm → CoercedTree → Type 0) → (Bool → Answer CoercedTree) → CoercedTree → Type 0
 IsObject (object_form inputs) Is any t = Is inputs t
-IsObject custom_form Is any t = any ≡ Ok t
+IsObject custom_form Is any t = any false ≡ Ok t
+IsObject lax_form Is any t = any true ≡ Ok t
 IsObject form Is any t = ⊥
 
 module _ (form : ℕ → InputForm) where
@@ -56,14 +57,15 @@ module _ (form : ℕ → InputForm) where
     pub IsCoerced : Given → ShapeTree → CoercedTree → Type 0
     IsCoerced given_null shape t = (is_nullable shape ≡ true) × (t ≡ coerced_null)
     IsCoerced (given_integer z) shape t = IsSingle (λ of u. integer_at (form of) z ≡ Ok u) shape t
-    IsCoerced given_fraction shape t = ⊥
+    IsCoerced (given_float bits) shape t = IsSingle (λ of u. float_at (form of) bits ≡ Ok u) shape t
+    IsCoerced given_huge shape t = ⊥
     IsCoerced (given_string s) shape t = IsSingle (λ of u. string_at (form of) s ≡ Ok u) shape t
     IsCoerced (given_text s) shape t = IsSingle (λ of u. text_at (form of) s ≡ Ok u) shape t
     IsCoerced (given_name name) shape t = IsSingle (λ of u. name_at (form of) name ≡ Ok u) shape t
     IsCoerced (given_boolean b) shape t = IsSingle (λ of u. boolean_at (form of) b ≡ Ok u) shape t
-    IsCoerced (given_list items) shape t = IsList (λ item ts. AreCoerced items item ts) (λ of u. custom_at (form of) (any_value (given_list items)) ≡ Ok u) shape t
+    IsCoerced (given_list items) shape t = IsList (λ item ts. AreCoerced items item ts) (λ of u. custom_at (form of) (λ lax. any_value lax (given_list items)) ≡ Ok u) shape t
     IsCoerced (given_object distinct fields) shape t =
-        IsSingle (λ of u. IsObject (form of) (λ inputs v. NamesAreRight distinct inputs (given_names fields) × (cs : CoercedFields) × (v ≡ coerced_object cs) × AreFields inputs (λ f o. IsField f.name fields f o) cs) (any_value (given_object distinct fields)) u) shape t
+        IsSingle (λ of u. IsObject (form of) (λ inputs v. NamesAreRight distinct inputs (given_names fields) × (cs : CoercedFields) × (v ≡ coerced_object cs) × AreFields inputs (λ f o. IsField f.name fields f o) cs) (λ lax. any_value lax (given_object distinct fields)) u) shape t
     IsCoerced (given_variable v) shape t = (t ≡ v) × ((is_coerced_null v && not (is_nullable shape)) ≡ false)
     IsCoerced given_nothing shape t = (is_nullable shape ≡ true) × (t ≡ coerced_null)
 

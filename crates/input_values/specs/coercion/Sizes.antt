@@ -3,7 +3,7 @@ use Rattle.std.specs.Prelude.{ℕ, suc, ◌+◌, List, map}
 use Rattle.gql_base.specs.declared.parts.trees.Value.{Value}
 use Rattle.gql_base.specs.declared.parts.trees.Argument.{Argument}
 use Rattle.gql_base.specs.parts.Trees.{value_tree, named_value}
-use Rattle.gql_base.specs.parts.Values.{ValueTree, variable_value, integer_value, string_value, boolean_value, null_value, enum_value, list_value, object_value, ValueTrees, no_value, value_then, FieldTrees, no_field, field_then, values_from, fields_from}
+use Rattle.gql_base.specs.parts.Values.{ValueTree, variable_value, integer_value, float_value, string_value, boolean_value, null_value, enum_value, list_value, object_value, ValueTrees, no_value, value_then, FieldTrees, no_field, field_then, values_from, fields_from}
 
 -- the items of a list, and the fields of an object, as trees
 abbrev pub items_written : List Value → ValueTrees
@@ -20,6 +20,7 @@ abbrev mutual
   pub tree_size : ValueTree → ℕ
   tree_size (variable_value name at) = 0
   tree_size (integer_value z) = 0
+  tree_size (float_value digits) = 0
   tree_size (string_value s) = 0
   tree_size (boolean_value b) = 0
   tree_size null_value = 0

@@ -9,6 +9,8 @@ mutual
   pub data CoercedTree : Type 0 where
     coerced_null : CoercedTree
     coerced_integer : ℤ → CoercedTree
+    -- a float, by the 64 bits of its double
+    coerced_float : (bits : ℕ) → CoercedTree
     coerced_string : List ℕ → CoercedTree
     coerced_boolean : Bool → CoercedTree
     -- a value of an enum, by its name
@@ -27,6 +29,7 @@ mutual
 abbrev pub is_coerced_null : CoercedTree → Bool
 is_coerced_null coerced_null = true
 is_coerced_null (coerced_integer z) = false
+is_coerced_null (coerced_float bits) = false
 is_coerced_null (coerced_string s) = false
 is_coerced_null (coerced_boolean b) = false
 is_coerced_null (coerced_enum name) = false
@@ -38,6 +41,7 @@ abbrev mutual
   pub nodes : CoercedTree → ℕ
   nodes coerced_null = 1
   nodes (coerced_integer z) = 1
+  nodes (coerced_float bits) = 1
   nodes (coerced_string s) = 1
   nodes (coerced_boolean b) = 1
   nodes (coerced_enum name) = 1
@@ -68,6 +72,7 @@ named_trees_from (f ∷ fs) = coerced_field_then f.0 f.1 (named_trees_from fs)
 abbrev pub coerced_step : Coerced-F CoercedTree NamedTree → CoercedTree
 coerced_step Coerced-F.Null = coerced_null
 coerced_step (Coerced-F.Int z) = coerced_integer z
+coerced_step (Coerced-F.Float bits) = coerced_float bits
 coerced_step (Coerced-F.Str s) = coerced_string s
 coerced_step (Coerced-F.Bool b) = coerced_boolean b
 coerced_step (Coerced-F.EnumName name) = coerced_enum name

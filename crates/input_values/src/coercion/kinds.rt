@@ -3,10 +3,10 @@
 ghost use Rattle.std.specs.Prelude.{◌≡◌};
 ghost use Rattle.input_values.specs.coercion.Calls.{Coerces};
 ghost use Rattle.input_values.specs.coercion.Forms.{integer_form, names_of};
-ghost use Rattle.input_values.specs.coercion.Leaves.{integer_at, string_at, name_at, text_at, boolean_at, one_of_names};
+ghost use Rattle.input_values.specs.coercion.Leaves.{integer_at, float_at, string_at, name_at, text_at, boolean_at, one_of_names};
 
 use crate::coercion::faults::{CoercionFault, bad_value};
-use crate::coercion::leaves::{boolean, enum_value, integer, string};
+use crate::coercion::leaves::{boolean, enum_value, float, integer, string};
 use crate::inputs::shape::TypeId;
 use crate::inputs::types::{InputKind, InputTypes};
 use crate::values::coerced::Coerced;
@@ -31,10 +31,12 @@ pub fn integer_at<T: InputTypes>(
             Err(_) => Err(CoercionFault::Memory),
         },
         InputKind::Custom => integer(number, limit, count),
+        InputKind::Lax => integer(number, limit, count),
         InputKind::String => Err(bad_value(alloc)),
         InputKind::Boolean => Err(bad_value(alloc)),
         InputKind::Enum => Err(bad_value(alloc)),
         InputKind::Object => Err(bad_value(alloc)),
+        InputKind::Float => integer(number, limit, count),
         InputKind::None => Err(bad_value(alloc)),
     }
 }
@@ -69,11 +71,13 @@ pub fn boolean_at<T: InputTypes>(
     match types.kind(of) {
         InputKind::Boolean => boolean(truth, limit, count),
         InputKind::Custom => boolean(truth, limit, count),
+        InputKind::Lax => boolean(truth, limit, count),
         InputKind::Int => Err(bad_value(alloc)),
         InputKind::String => Err(bad_value(alloc)),
         InputKind::Id => Err(bad_value(alloc)),
         InputKind::Enum => Err(bad_value(alloc)),
         InputKind::Object => Err(bad_value(alloc)),
+        InputKind::Float => Err(bad_value(alloc)),
         InputKind::None => Err(bad_value(alloc)),
     }
 }
@@ -93,10 +97,12 @@ pub fn string_at<T: InputTypes>(
         InputKind::String => string(alloc, text, limit, count),
         InputKind::Id => string(alloc, text, limit, count),
         InputKind::Custom => string(alloc, text, limit, count),
+        InputKind::Lax => string(alloc, text, limit, count),
         InputKind::Int => Err(bad_value(alloc)),
         InputKind::Boolean => Err(bad_value(alloc)),
         InputKind::Enum => Err(bad_value(alloc)),
         InputKind::Object => Err(bad_value(alloc)),
+        InputKind::Float => Err(bad_value(alloc)),
         InputKind::None => Err(bad_value(alloc)),
     }
 }
@@ -116,10 +122,12 @@ pub fn text_at<T: InputTypes>(
         InputKind::String => string(alloc, text, limit, count),
         InputKind::Id => string(alloc, text, limit, count),
         InputKind::Custom => string(alloc, text, limit, count),
+        InputKind::Lax => string(alloc, text, limit, count),
         InputKind::Enum => one_of_values(alloc, types, of, text, limit, count),
         InputKind::Int => Err(bad_value(alloc)),
         InputKind::Boolean => Err(bad_value(alloc)),
         InputKind::Object => Err(bad_value(alloc)),
+        InputKind::Float => Err(bad_value(alloc)),
         InputKind::None => Err(bad_value(alloc)),
     }
 }
@@ -138,10 +146,37 @@ pub fn name_at<T: InputTypes>(
     match types.kind(of) {
         InputKind::Enum => one_of_values(alloc, types, of, name, limit, count),
         InputKind::Custom => enum_value(alloc, name, limit, count),
+        InputKind::Lax => enum_value(alloc, name, limit, count),
         InputKind::Int => Err(bad_value(alloc)),
         InputKind::String => Err(bad_value(alloc)),
         InputKind::Boolean => Err(bad_value(alloc)),
         InputKind::Id => Err(bad_value(alloc)),
+        InputKind::Object => Err(bad_value(alloc)),
+        InputKind::Float => Err(bad_value(alloc)),
+        InputKind::None => Err(bad_value(alloc)),
+    }
+}
+
+/// A number that isn't held as a whole one.
+pub fn float_at<T: InputTypes>(
+    alloc: Global,
+    types: &T,
+    of: TypeId,
+    bits: u64,
+    limit: u32,
+    count: &mut u64,
+) -> Result<Option<Coerced>, CoercionFault>
+    ensures { Coerces limit count.old count.new result (float_at (T.forms types.now of.number) bits) }
+{
+    match types.kind(of) {
+        InputKind::Float => float(bits, limit, count),
+        InputKind::Lax => float(bits, limit, count),
+        InputKind::Int => Err(bad_value(alloc)),
+        InputKind::String => Err(bad_value(alloc)),
+        InputKind::Boolean => Err(bad_value(alloc)),
+        InputKind::Id => Err(bad_value(alloc)),
+        InputKind::Custom => Err(bad_value(alloc)),
+        InputKind::Enum => Err(bad_value(alloc)),
         InputKind::Object => Err(bad_value(alloc)),
         InputKind::None => Err(bad_value(alloc)),
     }

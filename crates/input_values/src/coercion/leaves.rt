@@ -1,7 +1,7 @@
 //! Values that are one node, and copies. Each is counted, and built as long as the count is within the limit.
 
 ghost use Rattle.std.specs.Prelude.{◌≡◌, Ok};
-ghost use Rattle.input_values.specs.values.Coerced.{coerced_tree, coerced_null, coerced_integer, coerced_string, coerced_boolean, coerced_enum};
+ghost use Rattle.input_values.specs.values.Coerced.{coerced_tree, coerced_null, coerced_integer, coerced_float, coerced_string, coerced_boolean, coerced_enum};
 ghost use Rattle.input_values.specs.coercion.Answers.{Answer};
 ghost use Rattle.input_values.specs.coercion.Calls.{Coerces};
 ghost use Rattle.input_values.specs.coercion.Places.{null_at, variable_at};
@@ -35,6 +35,17 @@ pub fn integer(number: i128, limit: u32, count: &mut u64) -> Result<Option<Coerc
         return Ok(None);
     }
     Ok(Some(made::integer(number)))
+}
+
+/// A number that isn't held as a whole one.
+pub fn float(bits: u64, limit: u32, count: &mut u64) -> Result<Option<Coerced>, CoercionFault>
+    ensures { Coerces limit count.old count.new result (Ok (coerced_float bits)) }
+{
+    count_node(limit, count);
+    if *count > u64::from(limit) {
+        return Ok(None);
+    }
+    Ok(Some(made::float(bits)))
 }
 
 /// A truth value.

@@ -2,9 +2,10 @@
 
 ghost use Rattle.std.specs.Prelude.{◌≡◌, [], false, option_map, IfOk};
 ghost use Rattle.input_values.specs.values.Coerced.{coerced_object};
+ghost use Rattle.input_values.specs.values.Floats.{float_bits};
 ghost use Rattle.input_values.specs.inputs.Shapes.{shape_tree};
 ghost use Rattle.input_values.specs.coercion.Answers.{mapped};
-ghost use Rattle.input_values.specs.coercion.Given.{given_integer, given_string, given_name, given_boolean, given_list, is_nothing};
+ghost use Rattle.input_values.specs.coercion.Given.{given_integer, given_float, bits_given, given_string, given_name, given_boolean, given_list, is_nothing};
 ghost use Rattle.input_values.specs.coercion.Forms.{fields_of};
 ghost use Rattle.input_values.specs.coercion.Kinds.{field_seen, absence_seen};
 ghost use Rattle.input_values.specs.coercion.Leaves.{custom_at};
@@ -20,7 +21,7 @@ ghost use Rattle.input_values.specs.coercion.Left.{PushesField};
 use crate::coercion::building::{list_within, object_within, push_field, push_item};
 use crate::coercion::customs::{any_list, any_object};
 use crate::coercion::faults::{CoercionFault, bad_value};
-use crate::coercion::kinds::{boolean_at, integer_at, name_at, string_at};
+use crate::coercion::kinds::{boolean_at, float_at, integer_at, name_at, string_at};
 use crate::coercion::leaves::{copied, held_at, null_at};
 use crate::coercion::places::{innermost, is_nullable, wrapped};
 use crate::coercion::scope::{Scope, value_of};
@@ -28,6 +29,7 @@ use crate::inputs::shape::{Shape, TypeId};
 use crate::inputs::types::{Absence, InputField, InputKind, InputTypes};
 use crate::values::coerced::{Coerced, CoercedField};
 use crate::values::counting::{count_no_node, count_node};
+use crate::values::floats::float_bits;
 use counted_work::{Work, steps_of_text};
 use gql_base::{Argument, NameIndex, Named, Value, index_of};
 use std::alloc::{AllocError, Global};
@@ -50,6 +52,7 @@ pub fn coerce_literal<T: InputTypes>(
     match value {
         Value::Var(name) => coerce_variable(alloc, scope, shape, name.text.as_str(), count),
         Value::Int(number) => coerce_integer(alloc, scope, shape, *number, count),
+        Value::Float(digits) => coerce_float(alloc, scope, shape, digits.as_str(), count),
         Value::Str(text) => coerce_string(alloc, scope, shape, text.as_str(), count),
         Value::Bool(truth) => coerce_boolean(alloc, scope, shape, *truth, count),
         Value::Null => null_at(alloc, is_nullable(shape), scope.limit, count),
@@ -97,6 +100,44 @@ fn coerce_integer<T: InputTypes>(
         scope.types,
         innermost(shape),
         number,
+        scope.limit,
+        count,
+    );
+    wrapped(alloc, scope.work, shape, inner, scope.limit, count)
+}
+
+/// A float, by the double that is nearest to it.
+fn coerce_float<T: InputTypes>(
+    alloc: Global,
+    scope: &Scope<'_, T>,
+    shape: &Shape,
+    digits: &str,
+    count: &mut u64,
+) -> Result<Option<Coerced>, CoercionFault>
+    ensures { Coerces scope.now.limit count.old count.new result (coerced (T.forms scope.now.types.now) (bits_given (float_bits digits.now)) (shape_tree shape.now)) }
+{
+    scope.work.take(steps_of_text(digits.len()))?;
+    match float_bits(digits) {
+        Some(bits) => coerce_bits(alloc, scope, shape, bits, count),
+        None => Err(bad_value(alloc)),
+    }
+}
+
+/// A number that isn't held as a whole one, by the bits of its double.
+fn coerce_bits<T: InputTypes>(
+    alloc: Global,
+    scope: &Scope<'_, T>,
+    shape: &Shape,
+    bits: u64,
+    count: &mut u64,
+) -> Result<Option<Coerced>, CoercionFault>
+    ensures { Coerces scope.now.limit count.old count.new result (coerced (T.forms scope.now.types.now) (given_float bits) (shape_tree shape.now)) }
+{
+    let inner = float_at(
+        alloc,
+        scope.types,
+        innermost(shape),
+        bits,
         scope.limit,
         count,
     );
@@ -193,16 +234,18 @@ fn custom_list<T: InputTypes>(
     items: &[Value],
     count: &mut u64,
 ) -> Result<Option<Coerced>, CoercionFault>
-    ensures { Coerces scope.now.limit count.old count.new result (custom_at (T.forms scope.now.types.now of.number) (any_value (given_list (literal_items no_variables (items_written items.now))))) }
+    ensures { Coerces scope.now.limit count.old count.new result (custom_at (T.forms scope.now.types.now of.number) (λ lax. any_value lax (given_list (literal_items no_variables (items_written items.now))))) }
 {
     match scope.types.kind(of) {
-        InputKind::Custom => any_list(alloc, scope.work, items, scope.limit, count),
+        InputKind::Custom => any_list(alloc, scope.work, false, items, scope.limit, count),
+        InputKind::Lax => any_list(alloc, scope.work, true, items, scope.limit, count),
         InputKind::Int => Err(bad_value(alloc)),
         InputKind::String => Err(bad_value(alloc)),
         InputKind::Boolean => Err(bad_value(alloc)),
         InputKind::Id => Err(bad_value(alloc)),
         InputKind::Enum => Err(bad_value(alloc)),
         InputKind::Object => Err(bad_value(alloc)),
+        InputKind::Float => Err(bad_value(alloc)),
         InputKind::None => Err(bad_value(alloc)),
     }
 }
@@ -259,12 +302,14 @@ fn object_at<T: InputTypes>(
 {
     match scope.types.kind(of) {
         InputKind::Object => input_object(alloc, scope, of, fields, count),
-        InputKind::Custom => any_object(alloc, scope.work, fields, scope.limit, count),
+        InputKind::Custom => any_object(alloc, scope.work, false, fields, scope.limit, count),
+        InputKind::Lax => any_object(alloc, scope.work, true, fields, scope.limit, count),
         InputKind::Int => Err(bad_value(alloc)),
         InputKind::String => Err(bad_value(alloc)),
         InputKind::Boolean => Err(bad_value(alloc)),
         InputKind::Id => Err(bad_value(alloc)),
         InputKind::Enum => Err(bad_value(alloc)),
+        InputKind::Float => Err(bad_value(alloc)),
         InputKind::None => Err(bad_value(alloc)),
     }
 }
@@ -398,6 +443,7 @@ pub fn is_nothing<T: InputTypes>(scope: &Scope<'_, T>, value: &Value) -> bool
     match value {
         Value::Var(name) => value_of(scope.variables, name.text.as_str()).is_none(),
         Value::Int(_) => false,
+        Value::Float(_) => false,
         Value::Str(_) => false,
         Value::Bool(_) => false,
         Value::Null => false,

@@ -14,12 +14,15 @@ pub enum InputKind {
     String,
     Boolean,
     Id,
-    /// A scalar that isn't built in.
+    Float,
+    /// A scalar that isn't built in, whose numbers are whole.
     Custom,
+    /// A scalar that isn't built in and may hold numbers that aren't whole.
+    Lax,
     Enum,
     /// An input object.
     Object,
-    /// A type that has no value as an input: Float, or one that is no input type.
+    /// A type that is no input type.
     None,
 }
 
@@ -69,16 +72,23 @@ pub trait InputTypes {
         ensures { option_map field_seen result ≡ slice_get (fields_of (forms self.now of.number)) at };
 }
 
-/// What the scalar of this name is.
-pub fn scalar_kind(name: &str) -> InputKind
-    ensures { result ≡ scalar_kind name.now }
+/// What the scalar of this name is. One that is lax may hold numbers that aren't whole: Float, or a custom scalar.
+pub fn scalar_kind(lax: bool, name: &str) -> InputKind
+    ensures { result ≡ scalar_kind lax name.now }
 {
     match name {
         "Int" => InputKind::Int,
         "String" => InputKind::String,
         "Boolean" => InputKind::Boolean,
         "ID" => InputKind::Id,
-        "Float" => InputKind::None,
-        _ => InputKind::Custom,
+        _ => {
+            if !lax {
+                InputKind::Custom
+            } else if name == "Float" {
+                InputKind::Float
+            } else {
+                InputKind::Lax
+            }
+        }
     }
 }

@@ -9,6 +9,8 @@ use std::sync::Arc;
 pub enum Coerced {
     Null,
     Int(i128),
+    /// A number that isn't held as a whole one, by the 64 bits of its double.
+    Float(u64),
     Str(Text),
     Bool(bool),
     /// A value of an enum, by its name.

@@ -26,6 +26,7 @@ pub fn copy_value(alloc: Global, work: Work<'_>, value: &Coerced) -> Result<Coer
     match value {
         Coerced::Null => Ok(Coerced::Null),
         Coerced::Int(number) => Ok(Coerced::Int(*number)),
+        Coerced::Float(bits) => Ok(Coerced::Float(*bits)),
         Coerced::Str(text) => Ok(Coerced::Str(copy_text(alloc, work, text)?)),
         Coerced::Bool(truth) => Ok(Coerced::Bool(*truth)),
         Coerced::EnumName(name) => Ok(Coerced::EnumName(copy_text(alloc, work, name)?)),

@@ -14,6 +14,7 @@ pub fn is_null(value: &Coerced) -> bool
     match value {
         Coerced::Null => true,
         Coerced::Int(_) => false,
+        Coerced::Float(_) => false,
         Coerced::Str(_) => false,
         Coerced::Bool(_) => false,
         Coerced::EnumName(_) => false,
@@ -61,6 +62,7 @@ pub fn count_nodes(value: &Coerced, limit: u32, count: &mut u64)
         }
         Coerced::Null => count_node(limit, count),
         Coerced::Int(_) => count_node(limit, count),
+        Coerced::Float(_) => count_node(limit, count),
         Coerced::Str(_) => count_node(limit, count),
         Coerced::Bool(_) => count_node(limit, count),
         Coerced::EnumName(_) => count_node(limit, count),

@@ -1,7 +1,7 @@
 //! Coerced values that are made, and the trees that they stand for.
 
 ghost use Rattle.std.specs.Prelude.{◌≡◌, IfOk, map};
-ghost use Rattle.input_values.specs.values.Coerced.{coerced_tree, named_tree, coerced_null, coerced_integer, coerced_string, coerced_boolean, coerced_enum, coerced_list, coerced_object, trees_from, named_trees_from};
+ghost use Rattle.input_values.specs.values.Coerced.{coerced_tree, named_tree, coerced_null, coerced_integer, coerced_float, coerced_string, coerced_boolean, coerced_enum, coerced_list, coerced_object, trees_from, named_trees_from};
 
 use crate::values::coerced::{Coerced, CoercedField};
 use gql_base::Text;
@@ -22,6 +22,14 @@ pub fn integer(number: i128) -> Coerced
     ensures { coerced_tree result ≡ coerced_integer number }
 {
     Coerced::Int(number)
+}
+
+/// A number that isn't held as a whole one.
+#[tactic(auto, unfolding(crate::specs::values::Coerced::coerced_tree))]
+pub fn float(bits: u64) -> Coerced
+    ensures { coerced_tree result ≡ coerced_float bits }
+{
+    Coerced::Float(bits)
 }
 
 /// A string.
@@ -82,6 +90,7 @@ fn is_large(value: &Coerced) -> bool {
         Coerced::Str(text) => text.as_str().len() >= LONG,
         Coerced::Null
         | Coerced::Int(_)
+        | Coerced::Float(_)
         | Coerced::Bool(_)
         | Coerced::EnumName(_)
         | Coerced::Shared(_) => false,

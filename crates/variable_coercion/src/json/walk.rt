@@ -6,7 +6,7 @@ ghost use Rattle.serde_json.specs.View.{view, number_view, items_view, members_v
 ghost use Rattle.input_values.specs.values.Coerced.{coerced_list, coerced_object};
 ghost use Rattle.input_values.specs.inputs.Shapes.{shape_tree};
 ghost use Rattle.input_values.specs.coercion.Answers.{mapped};
-ghost use Rattle.input_values.specs.coercion.Given.{given_integer, given_text, given_boolean, given_list, given_object};
+ghost use Rattle.input_values.specs.coercion.Given.{given_float, bits_given, given_integer, given_text, given_boolean, given_list, given_object};
 ghost use Rattle.input_values.specs.coercion.Kinds.{field_seen};
 ghost use Rattle.input_values.specs.coercion.Leaves.{custom_at};
 ghost use Rattle.input_values.specs.coercion.Customs.{any_value};
@@ -16,11 +16,11 @@ ghost use Rattle.input_values.specs.coercion.Left.{PushesField};
 ghost use Rattle.variable_coercion.specs.Json.{number_given, json_given, json_items, json_members};
 ghost use Rattle.variable_coercion.specs.Members.{members_at_type, members_from, members_as_input, member_field};
 
-use crate::json::customs::{any_array, any_members};
+use crate::json::customs::{any_array, any_members, bits_of};
 use crate::json::members::{member, unknown_name};
 use counted_work::steps_of_text;
 use input_values::building::{list_within, object_within, push_field, push_item};
-use input_values::kinds::{boolean_at, integer_at, text_at};
+use input_values::kinds::{boolean_at, float_at, integer_at, text_at};
 use input_values::leaves::null_at;
 use input_values::places::{innermost, is_nullable, wrapped};
 use input_values::{
@@ -67,7 +67,7 @@ fn coerce_boolean<T: InputTypes>(
     wrapped(alloc, scope.work, shape, inner, scope.limit, count)
 }
 
-/// A number: one that isn't held as a whole number is refused at each type.
+/// A number.
 fn coerce_number<T: InputTypes>(
     alloc: Global,
     scope: &Scope<'_, T>,
@@ -75,12 +75,42 @@ fn coerce_number<T: InputTypes>(
     number: &Number,
     count: &mut u64,
 ) -> Result<Option<Coerced>, CoercionFault>
-    ensures { Coerces scope.now.limit count.old count.new result (coerced (T.forms scope.now.types.now) (number_given (as_integer (number_view number.now))) (shape_tree shape.now)) }
+    ensures { Coerces scope.now.limit count.old count.new result (coerced (T.forms scope.now.types.now) (number_given (number_view number.now)) (shape_tree shape.now)) }
 {
     match number.as_i128() {
         Some(whole) => coerce_integer(alloc, scope, shape, whole, count),
+        None => coerce_bits(alloc, scope, shape, bits_of(number), count),
+    }
+}
+
+/// A number that isn't held as a whole one, by the bits of its double.
+fn coerce_bits<T: InputTypes>(
+    alloc: Global,
+    scope: &Scope<'_, T>,
+    shape: &Shape,
+    bits: Option<u64>,
+    count: &mut u64,
+) -> Result<Option<Coerced>, CoercionFault>
+    ensures { Coerces scope.now.limit count.old count.new result (coerced (T.forms scope.now.types.now) (bits_given bits) (shape_tree shape.now)) }
+{
+    match bits {
+        Some(bits) => coerce_float(alloc, scope, shape, bits, count),
         None => Err(bad_value(alloc)),
     }
+}
+
+fn coerce_float<T: InputTypes>(
+    alloc: Global,
+    scope: &Scope<'_, T>,
+    shape: &Shape,
+    bits: u64,
+    count: &mut u64,
+) -> Result<Option<Coerced>, CoercionFault>
+    ensures { Coerces scope.now.limit count.old count.new result (coerced (T.forms scope.now.types.now) (given_float bits) (shape_tree shape.now)) }
+{
+    let of = innermost(shape);
+    let inner = float_at(alloc, scope.types, of, bits, scope.limit, count);
+    wrapped(alloc, scope.work, shape, inner, scope.limit, count)
 }
 
 /// A whole number.
@@ -139,16 +169,18 @@ fn custom_array<T: InputTypes>(
     items: &[Value],
     count: &mut u64,
 ) -> Result<Option<Coerced>, CoercionFault>
-    ensures { Coerces scope.now.limit count.old count.new result (custom_at (T.forms scope.now.types.now of.number) (any_value (given_list (json_items (items_view items.now))))) }
+    ensures { Coerces scope.now.limit count.old count.new result (custom_at (T.forms scope.now.types.now of.number) (λ lax. any_value lax (given_list (json_items (items_view items.now))))) }
 {
     match scope.types.kind(of) {
-        InputKind::Custom => any_array(alloc, scope.work, items, scope.limit, count),
+        InputKind::Custom => any_array(alloc, scope.work, false, items, scope.limit, count),
+        InputKind::Lax => any_array(alloc, scope.work, true, items, scope.limit, count),
         InputKind::Int => Err(bad_value(alloc)),
         InputKind::String => Err(bad_value(alloc)),
         InputKind::Boolean => Err(bad_value(alloc)),
         InputKind::Id => Err(bad_value(alloc)),
         InputKind::Enum => Err(bad_value(alloc)),
         InputKind::Object => Err(bad_value(alloc)),
+        InputKind::Float => Err(bad_value(alloc)),
         InputKind::None => Err(bad_value(alloc)),
     }
 }
@@ -205,12 +237,14 @@ fn object_at<T: InputTypes>(
 {
     match scope.types.kind(of) {
         InputKind::Object => input_object(alloc, scope, of, members, count),
-        InputKind::Custom => any_members(alloc, scope.work, members, scope.limit, count),
+        InputKind::Custom => any_members(alloc, scope.work, false, members, scope.limit, count),
+        InputKind::Lax => any_members(alloc, scope.work, true, members, scope.limit, count),
         InputKind::Int => Err(bad_value(alloc)),
         InputKind::String => Err(bad_value(alloc)),
         InputKind::Boolean => Err(bad_value(alloc)),
         InputKind::Id => Err(bad_value(alloc)),
         InputKind::Enum => Err(bad_value(alloc)),
+        InputKind::Float => Err(bad_value(alloc)),
         InputKind::None => Err(bad_value(alloc)),
     }
 }

@@ -1,7 +1,7 @@
 use Rattle.std.proofs.Common.{ap}
 use Rattle.schema_model.specs.SchemaViews.{schema_data}
 use Rattle.acceptance.specs.Requests.{request_data}
-use Rattle.acceptance.proofs.Costs.{PlanLaws, accepted, counted, too_costly}
+use Rattle.acceptance.proofs.Costs.{accepted, counted, too_costly}
 use Rattle.acceptance.proofs.accepting.bounded.Goals as goal
 
 pub returns-in-Ok-clause-bound : goal.returns-in-Ok-clause-bound

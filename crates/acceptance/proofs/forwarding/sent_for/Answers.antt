@@ -1,5 +1,6 @@
 -- What was rewritten is what is prepared of the request.
 use Rattle.std.proofs.Common.{string_bytes, ◌∙◌, ap}
+use Rattle.std.proofs.lemmas.Str.{IsUtf8-string_bytes}
 use Rattle.typename_rewrite.specs.ForwardedBodies.{body_data}
 use Rattle.acceptance.specs.Requests.{request_data}
 use Rattle.acceptance.proofs.SentBodies.{same_body, same_text}
@@ -10,6 +11,6 @@ returns-clause-body c = λ p.
     let r = request_data c.args.request.now in
     let text = c.in_ok-rewritten.rewritten.text in
     let alias = c.in_ok-rewritten.rewritten.alias in
-    same_text r c.args.checked.now c.requires.checked p alias text (string_bytes c.in_ok-body.body) (body_data c.operation.result.now text r.given)
+    same_text r c.args.checked.now c.requires.checked p alias (string_bytes c.in_ok-body.body) (body_data c.operation.result.now text r.given)
     (ap (λ o. body_data o text r.given) c.operation.ensures ∙ same_body r c.args.checked.now c.requires.checked p alias text c.in_ok-rewritten.ensures.text)
-    c.in_ok-body.ensures
+    (IsUtf8-string_bytes c.in_ok-body.body) c.in_ok-body.ensures.written c.in_ok-body.ensures.text

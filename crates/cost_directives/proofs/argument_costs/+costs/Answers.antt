@@ -1,8 +1,8 @@
 use Rattle.std.proofs.Common.{arith, None, map, refl, ap, ◌∙◌}
 use Rattle.cost_num.specs.Capped.{capped}
 use Rattle.input_values.specs.inputs.Shapes.{shape_tree}
-use Rattle.input_values.specs.values.Coerced.{coerced_tree, coerced_null, coerced_integer, coerced_string, coerced_boolean, coerced_enum, coerced_list, coerced_object}
-use Rattle.input_values.proofs.CoercedTrees.{null_made, integer_made, string_made, boolean_made, enum_made, list_made, object_made}
+use Rattle.input_values.specs.values.Coerced.{coerced_tree, coerced_null, coerced_integer, coerced_float, coerced_string, coerced_boolean, coerced_enum, coerced_list, coerced_object}
+use Rattle.input_values.proofs.CoercedTrees.{null_made, integer_made, float_made, string_made, boolean_made, enum_made, list_made, object_made}
 use Rattle.cost_directives.specs.ArgumentCosts.{value_cost, list_cost, record_cost}
 use Rattle.cost_directives.specs.WeightViews.{type_inputs, input_weight, maybe_input}
 use Rattle.cost_directives.proofs.CostSteps.{items_in, fields_in, one_item, one_field, no_item_left, no_field_left, cost_is, field_cost_is}
@@ -41,6 +41,10 @@ value_cost-returns-in-Null t c = cost_is (map type_inputs c.args.types.now) (sha
 pub value_cost-returns-in-Int : goal.value_cost-returns-in-Int
 unfolding value_cost
 value_cost-returns-in-Int t c = cost_is (map type_inputs c.args.types.now) (shape_tree c.args.shape.now) c.args.own c.args.value.now (coerced_integer c.in-Int.field-0) c.leaf_cost.result (ap coerced_tree c.in-Int.is ∙ integer_made c.in-Int.field-0) c.leaf_cost.ensures
+
+pub value_cost-returns-in-Float : goal.value_cost-returns-in-Float
+unfolding value_cost
+value_cost-returns-in-Float t c = cost_is (map type_inputs c.args.types.now) (shape_tree c.args.shape.now) c.args.own c.args.value.now (coerced_float c.in-Float.field-0) c.leaf_cost-in-Float.result (ap coerced_tree c.in-Float.is ∙ float_made c.in-Float.field-0) c.leaf_cost-in-Float.ensures
 
 pub value_cost-returns-in-Str : goal.value_cost-returns-in-Str
 unfolding value_cost

@@ -1,7 +1,7 @@
 use Rattle.std.proofs.Common.{sym, ap, ◌∙◌, map}
-use Rattle.gql_base.specs.parts.Values.{string_value, variable_value, boolean_value, null_value, enum_value, list_value, object_value, values_from, fields_from}
+use Rattle.gql_base.specs.parts.Values.{string_value, float_value, variable_value, boolean_value, null_value, enum_value, list_value, object_value, values_from, fields_from}
 use Rattle.gql_base.specs.parts.Trees.{value_tree, named_value}
-use Rattle.gql_base.proofs.PartLaws.ValueSteps.{variable_tree, string_tree, boolean_tree, null_tree, enum_tree, list_tree, object_tree}
+use Rattle.gql_base.proofs.PartLaws.ValueSteps.{variable_tree, float_tree, string_tree, boolean_tree, null_tree, enum_tree, list_tree, object_tree}
 use Rattle.input_values.specs.coercion.Literals.{literal_given}
 use Rattle.plan_model.specs.GivenAlike.{given_argument}
 use Rattle.distinct_selections.proofs.WrittenAlike as alike
@@ -14,6 +14,9 @@ alike-returns-in-Var t c = λ h. alike.opened c.args.value.now (variable_value c
 
 pub alike-returns-in-Int : goal.alike-returns-in-Int
 alike-returns-in-Int t c = alike.integer_alike c.is_integer.result c.in-Int.number c.args.other.now c.args.value.now c.in-Int.is c.is_integer.ensures
+
+pub alike-returns-in-Float : goal.alike-returns-in-Float
+alike-returns-in-Float t c = λ h. alike.opened c.args.value.now (float_value c.in-Float.text) (value_tree c.args.other.now) (ap value_tree c.in-Float.is ∙ float_tree c.in-Float.text) (c.is_float.ensures h)
 
 pub alike-returns-in-Str : goal.alike-returns-in-Str
 alike-returns-in-Str t c = λ h. alike.opened c.args.value.now (string_value c.in-Str.text) (value_tree c.args.other.now) (ap value_tree c.in-Str.is ∙ string_tree c.in-Str.text) (c.is_string.ensures h)

@@ -11,4 +11,4 @@ pub returns-clause-one_fault : goal.returns-clause-one_fault
 returns-clause-one_fault c = one_document_fault
 
 pub returns-clause-documents : goal.returns-clause-documents
-returns-clause-documents c = λ text document is. (is.tokens, is.lexes, is.among.written)
+returns-clause-documents c = λ floats text document is. (is.tokens, is.lexes, is.among.written)

@@ -9,7 +9,7 @@ pub write_tree-returns-in-Null : goal.write_tree-returns-in-Null
 write_tree-returns-in-Null t c = rw (c.in-Null.is, null_made) (on_ok c.write_null.result (λ e clean. e) c.write_null.ensures)
 
 pub write_tree-returns-in-Leaf : goal.write_tree-returns-in-Leaf
-write_tree-returns-in-Leaf t c = rw (c.in-Leaf.is, leaf_made c.in-Leaf.value) c.write_value.ensures
+write_tree-returns-in-Leaf t c = rw (c.in-Leaf.is, leaf_made c.in-Leaf.value) c.write_value.ensures.text
 
 pub write_tree-returns-in-List : goal.write_tree-returns-in-List
 write_tree-returns-in-List t c = rw (c.in-List.is, list_made c.in-List.items, sym c.as_slice.ensures.value) c.write_list.ensures

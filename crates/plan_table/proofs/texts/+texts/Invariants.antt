@@ -3,7 +3,7 @@ use denote.Text.{Utf8}
 use Rattle.std.proofs.Common.{◌≡◌, ◌++◌, [], drop, map, string_bytes}
 use Rattle.response_model.specs.ResponseText.{elements_text, entries_text}
 use Rattle.plan_table.specs.Trees.{tree_of, keyed_tree, elements_from, entries_from}
-use Rattle.plan_table.specs.Texts.{AreFloatless, HaveFloatless}
+use Rattle.response_model.specs.WrittenJson.{AreFloatless, HaveFloatless}
 use Rattle.plan_table.proofs.texts.+texts.Given as goal
 
 -- What was written, and the text of what is left, are the whole.

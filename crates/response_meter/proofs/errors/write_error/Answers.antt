@@ -8,4 +8,4 @@ pub returns : goal.returns
 returns c =
     error_written (string_bytes c.args.into.now) (string_bytes c.push_str.new.self) (string_bytes c.write_value.new.into) (string_bytes c.write_path.new.into) (string_bytes c.push_str-2.new.self)
     (view c.args.error.now) (view c.in-Some.message.now) (option_map (λ v. view v.now) c.get-2.result) c.in-Some.ensures (sym c.if-is_string.true ∙ c.is_string.ensures)
-    c.in_ok-push_str.ensures.bytes c.in_ok-write_value.ensures c.get-2.ensures c.in_ok-write_path.ensures c.in_ok-push_str-2.ensures.bytes
+    c.in_ok-push_str.ensures.bytes c.in_ok-write_value.ensures.text c.get-2.ensures c.in_ok-write_path.ensures c.in_ok-push_str-2.ensures.bytes

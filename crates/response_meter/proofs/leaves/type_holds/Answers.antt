@@ -1,4 +1,4 @@
-use Rattle.std.proofs.Common.{sym, ap, ◌∙◌}
+use Rattle.std.proofs.Common.{sym, ap₂, ◌∙◌}
 use Rattle.serde_json.specs.View.{view}
 use Rattle.input_values.specs.coercion.Kinds.{scalar_kind}
 use Rattle.schema_model.specs.SchemaViews.{schema_data}
@@ -12,4 +12,4 @@ returns-in-Enum c =
 pub returns-in_default : goal.returns-in_default
 returns-in_default c =
     scalar_held (schema_data c.args.schema.now) c.args.of.number (view c.args.value.now) c.scalar_holds.result c.scalar_kind.result (λ e. c.in_default.not-Enum (c.kind.ensures ∙ e))
-    (c.scalar_kind.ensures ∙ ap scalar_kind (c.as_str.ensures ∙ c.type_name.ensures)) c.scalar_holds.ensures
+    (c.scalar_kind.ensures ∙ ap₂ scalar_kind c.is_lax.ensures (c.as_str.ensures ∙ c.type_name.ensures)) c.scalar_holds.ensures

@@ -14,7 +14,7 @@ use Rattle.response_meter.specs.Types.{possible_below}
 use Rattle.response_meter.specs.Walks.{setting, one_node, one_fault, nodes_in}
 use Rattle.response_meter.proofs.Depths.{item_less}
 use Rattle.response_meter.proofs.Left.{tells_same}
-use Rattle.response_meter.proofs.Fields.{entries_step, entries_refused}
+use Rattle.response_meter.proofs.Fields.{entries_step, entries_end, entries_refused}
 use Rattle.response_meter.proofs.Elements.{elements_step, elements_refused, elements_end}
 use Rattle.response_meter.proofs.NodesSeen.{form_at, key_at, size_at, asked_at, weight_at}
 use Rattle.response_meter.proofs.Objects.{extra_key, object_refused, object_closed}
@@ -36,6 +36,11 @@ meter_entries-returns-in_err-meter_entry t c =
     let p = err_from_is_err_and c.from_residual-in_err-meter_entry.result c.from_residual-in_err-meter_entry.ensures.1 in
     rw (p.1, p.2) (entries_refused c.args.by.now (string_bytes c.args.into.now) (string_bytes c.nodes.into) c.nodes.cost c.nodes.front.now c.args.nodes.now c.nodes.node-index c.node-item.result
     (members_view c.args.members.now.entries) c.in_err-meter_entry.field-0.0 c.nodes-test.true c.node-item.is c.nodes.invariant.1 c.in_err-meter_entry.ensures)
+
+pub meter_entries-returns : goal.meter_entries-returns
+meter_entries-returns t c =
+    entries_end c.args.by.now (string_bytes c.args.into.now) (string_bytes c.nodes.into) (string_bytes c.push_str-2.new.self) c.nodes.cost c.nodes.front.now c.args.nodes.now c.nodes.node-index
+    (members_view c.args.members.now.entries) c.nodes-test.false c.nodes.invariant.1 c.in_ok-push_str-2.ensures.bytes
 
 pub meter_items-returns-in-Err : goal.meter_items-returns-in-Err
 meter_items-returns-in-Err t c =
@@ -60,12 +65,12 @@ meter_items-returns t c =
 pub meter_value-returns-in-TypeName : goal.meter_value-returns-in-TypeName
 meter_value-returns-in-TypeName t c =
     value_name c.args.by.now (string_bytes c.args.into.now) (string_bytes c.meter_leaf.new.into) c.meter_leaf.result c.args.node.now (view c.args.value.now) c.is_name.result
-    c.in-TypeName.ensures c.is_name.ensures.told c.meter_leaf.ensures
+    c.in-TypeName.ensures c.is_name.ensures c.meter_leaf.ensures
 
 pub meter_value-returns-in-Leaf : goal.meter_value-returns-in-Leaf
 meter_value-returns-in-Leaf t c =
     value_of_type c.args.by.now (string_bytes c.args.into.now) (string_bytes c.meter_leaf-in-Leaf.new.into) c.meter_leaf-in-Leaf.result c.args.node.now c.in-Leaf.of c.type_weight.result (view c.args.value.now) c.holds.result
-    c.in-Leaf.ensures c.holds.ensures.told c.type_weight.ensures c.meter_leaf-in-Leaf.ensures
+    c.in-Leaf.ensures c.holds.ensures c.type_weight.ensures c.meter_leaf-in-Leaf.ensures
 
 pub meter_value-returns-in-Objects : goal.meter_value-returns-in-Objects
 meter_value-returns-in-Objects t c =

@@ -2,7 +2,7 @@ use Rattle.std.proofs.Common.{map, string_bytes, sym, ap, ◌∙◌, subst}
 use Rattle.gql_base.specs.names.Names.{has_name}
 use Rattle.typename_rewrite.specs.AddedNames.{IsAlias}
 use Rattle.typename_rewrite.specs.Views.{word_text}
-use Rattle.typename_rewrite.proofs.AliasSteps.{IsTried, taken_among, none_tried, found_free, one_more_tried, longer_is_nearer}
+use Rattle.typename_rewrite.proofs.AliasSteps.{IsTried, taken_among, found_free, one_more_tried, longer_is_nearer}
 use Rattle.typename_rewrite.proofs.alias.alias_beside.Goals as goal
 
 pub longer-smaller : goal.longer-smaller

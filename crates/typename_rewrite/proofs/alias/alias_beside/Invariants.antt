@@ -1,4 +1,4 @@
-use Rattle.std.proofs.Common.{ℕ, suc, ◌-◌, length, map, string_bytes}
+use Rattle.std.proofs.Common.{suc, ◌-◌, length, map, string_bytes}
 use Rattle.typename_rewrite.specs.Views.{word_text}
 use Rattle.typename_rewrite.proofs.AliasSteps.{IsTried, longest}
 use Rattle.typename_rewrite.proofs.alias.alias_beside.Given as goal

@@ -1,4 +1,4 @@
-use Rattle.std.proofs.Common.{[], ◌∷◌, map, sym, ap, ◌∙◌}
+use Rattle.std.proofs.Common.{[], ◌∷◌, map, sym, ◌∙◌}
 use Rattle.document_reader.specs.Trees.{variable_tree}
 use Rattle.document_rules.proofs.Lists.{map_twice}
 use Rattle.std.proofs.lemmas.List.Concat.{flat_map_single}

@@ -1,4 +1,4 @@
-use Rattle.std.proofs.Common.{◌++◌, map, sym, ap, ◌∙◌}
+use Rattle.std.proofs.Common.{map, sym, ◌∙◌}
 use Rattle.document_reader.specs.Trees.{definition_tree}
 use Rattle.document_reader.specs.PrintedDocuments.{definition_symbols}
 use Rattle.typename_rewrite.specs.AddedNames.{names_in}

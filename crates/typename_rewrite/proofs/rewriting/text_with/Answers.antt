@@ -1,4 +1,4 @@
-use Rattle.std.proofs.Common.{map, sym, ap, ◌∙◌}
+use Rattle.std.proofs.Common.{map, ap, ◌∙◌}
 use Rattle.gql_base.specs.printing.Printing.{put_all}
 use Rattle.gql_base.specs.printing.Printers.{printed_by}
 use Rattle.document_reader.specs.PrintedDocuments.{definition_symbols, document_symbols}

@@ -1,4 +1,4 @@
-use Rattle.std.proofs.Common.{◌≡◌, drop, map}
+use Rattle.std.proofs.Common.{◌≡◌, drop}
 use Rattle.gql_base.specs.printing.Printing.{put_all}
 use Rattle.gql_base.specs.printing.Printers.{printed_by}
 use Rattle.document_reader.specs.PrintedDocuments.{document_symbols}

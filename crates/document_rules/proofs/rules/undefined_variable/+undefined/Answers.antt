@@ -1,15 +1,18 @@
 use Rattle.std.proofs.Common.{sym, ap, ◌∙◌, map}
 use Rattle.gql_base.specs.parts.Values.{values_from, fields_from}
 use Rattle.gql_base.specs.parts.Trees.{value_tree, named_value}
-use Rattle.gql_base.proofs.PartLaws.ValueSteps.{variable_tree, integer_tree, string_tree, boolean_tree, null_tree, enum_tree, list_tree, object_tree}
+use Rattle.gql_base.proofs.PartLaws.ValueSteps.{variable_tree, integer_tree, float_tree, string_tree, boolean_tree, null_tree, enum_tree, list_tree, object_tree}
 use Rattle.document_rules.specs.Views.{declared_tree}
 use Rattle.document_rules.proofs.Lists.{found_here, none_here}
 use Rattle.document_rules.specs.Rules.{undeclared}
-use Rattle.document_rules.proofs.ValueSteps.{is_variable, is_list, is_object, is_leaf, items_next, items_end, fields_next, fields_end, in_argument, no_integer, no_string, no_boolean, no_null, no_enum}
+use Rattle.document_rules.proofs.ValueSteps.{is_variable, is_list, is_object, is_leaf, items_next, items_end, fields_next, fields_end, in_argument, no_integer, no_float, no_string, no_boolean, no_null, no_enum}
 use Rattle.document_rules.proofs.rules.undefined_variable.+undefined.Goals as goal
 
 pub undefined_in_value-returns-in-Int : goal.undefined_in_value-returns-in-Int
 undefined_in_value-returns-in-Int t c = is_leaf (undeclared (map declared_tree c.args.variables.now.items.items)) (value_tree c.args.value.now) _ (ap value_tree c.in-Int.is ∙ integer_tree c.in-Int._number) (no_integer c.in-Int._number)
+
+pub undefined_in_value-returns-in-Float : goal.undefined_in_value-returns-in-Float
+undefined_in_value-returns-in-Float t c = is_leaf (undeclared (map declared_tree c.args.variables.now.items.items)) (value_tree c.args.value.now) _ (ap value_tree c.in-Float.is ∙ float_tree c.in-Float._text) (no_float c.in-Float._text)
 
 pub undefined_in_value-returns-in-Str : goal.undefined_in_value-returns-in-Str
 undefined_in_value-returns-in-Str t c = is_leaf (undeclared (map declared_tree c.args.variables.now.items.items)) (value_tree c.args.value.now) _ (ap value_tree c.in-Str.is ∙ string_tree c.in-Str._text) (no_string c.in-Str._text)

@@ -1,7 +1,7 @@
 use Rattle.std.proofs.Common.{sym, ap, ◌∙◌, map}
 use Rattle.gql_base.specs.parts.Values.{values_from, fields_from}
 use Rattle.gql_base.specs.parts.Trees.{value_tree, named_value}
-use Rattle.gql_base.proofs.PartLaws.ValueSteps.{variable_tree, integer_tree, string_tree, boolean_tree, null_tree, enum_tree, list_tree, object_tree}
+use Rattle.gql_base.proofs.PartLaws.ValueSteps.{variable_tree, integer_tree, float_tree, string_tree, boolean_tree, null_tree, enum_tree, list_tree, object_tree}
 use Rattle.document_rules.specs.Views.{declared_tree}
 use Rattle.document_rules.proofs.Lists.{found_here, none_here}
 use Rattle.input_values.specs.inputs.Shapes.{shape_tree}
@@ -11,7 +11,7 @@ use Rattle.schema_model.specs.Entries.{maybe_input}
 use Rattle.document_rules.specs.Views.{input_in}
 use Rattle.schema_model.specs.SchemaViews.{schema_data}
 use Rattle.document_rules.specs.Rules.{misplaced}
-use Rattle.document_rules.proofs.ValueSteps.{is_use, uses_of_list, uses_of_object, uses_of_leaf, use_items_next, use_items_end, use_fields_next, use_fields_end, no_use_of_integer, no_use_of_string, no_use_of_boolean, no_use_of_null, no_use_of_enum}
+use Rattle.document_rules.proofs.ValueSteps.{is_use, uses_of_list, uses_of_object, uses_of_leaf, use_items_next, use_items_end, use_fields_next, use_fields_end, no_use_of_integer, no_use_of_float, no_use_of_string, no_use_of_boolean, no_use_of_null, no_use_of_enum}
 use Rattle.std.specs.Prelude.{Some, None}
 use Rattle.input_values.specs.values.Coerced.{coerced_tree}
 use Rattle.schema_rules.specs.First.{first_of}
@@ -21,6 +21,9 @@ use Rattle.document_rules.proofs.rules.variable_place.+places.Goals as goal
 
 pub in_value-returns-in-Int : goal.in_value-returns-in-Int
 in_value-returns-in-Int t c = uses_of_leaf (schema_data c.args.rule.now.schema.now) (misplaced (schema_data c.args.rule.now.schema.now) (map declared_tree c.args.rule.now.variables.now.items.items)) (shape_tree c.args.place.now) c.args.has_default (value_tree c.args.value.now) _ (ap value_tree c.in-Int.is ∙ integer_tree c.in-Int._number) (no_use_of_integer (schema_data c.args.rule.now.schema.now) (shape_tree c.args.place.now) c.args.has_default c.in-Int._number)
+
+pub in_value-returns-in-Float : goal.in_value-returns-in-Float
+in_value-returns-in-Float t c = uses_of_leaf (schema_data c.args.rule.now.schema.now) (misplaced (schema_data c.args.rule.now.schema.now) (map declared_tree c.args.rule.now.variables.now.items.items)) (shape_tree c.args.place.now) c.args.has_default (value_tree c.args.value.now) _ (ap value_tree c.in-Float.is ∙ float_tree c.in-Float._text) (no_use_of_float (schema_data c.args.rule.now.schema.now) (shape_tree c.args.place.now) c.args.has_default c.in-Float._text)
 
 pub in_value-returns-in-Str : goal.in_value-returns-in-Str
 in_value-returns-in-Str t c = uses_of_leaf (schema_data c.args.rule.now.schema.now) (misplaced (schema_data c.args.rule.now.schema.now) (map declared_tree c.args.rule.now.variables.now.items.items)) (shape_tree c.args.place.now) c.args.has_default (value_tree c.args.value.now) _ (ap value_tree c.in-Str.is ∙ string_tree c.in-Str._text) (no_use_of_string (schema_data c.args.rule.now.schema.now) (shape_tree c.args.place.now) c.args.has_default c.in-Str._text)

@@ -6,7 +6,7 @@ use Rattle.gql_base.proofs.lexical.lexing.lex.Given as goal
 abbrev pub invariant-loop-at : goal.invariant-loop-at
 invariant-loop-at l = record {
   within : l.at ≤ length l.bytes;
-  lexed : LexedUpTo l.bytes l.at l.tokens.items;
+  lexed : LexedUpTo l.floats l.bytes l.at l.tokens.items;
 }
 
 abbrev pub decreases-loop-at : goal.decreases-loop-at

@@ -7,12 +7,12 @@ pub returns-then-integer_fits-clause-front : goal.returns-then-integer_fits-clau
 returns-then-integer_fits-clause-front c =
     let is : number_found c.args.bytes.now ≡ Some c.in-Some.found = sym c.number_found.ensures.found ∙ c.in-Some.is in
     let there : IntegerThere c.args.bytes.now c.in-Some.found.end = integer_is c.args.bytes.now c.in-Some.found c.if-found.false (number_is c.args.bytes.now c.in-Some.found is) in
-    front_fits c.args.bytes.now c.in-Some.found is c.if-found.false
+    front_fits c.args.floats c.args.bytes.now c.in-Some.found is c.if-found.false
     (sym (c.integer_fits.ensures there.minus there.whole (integer_taken c.args.bytes.now c.in-Some.found.end there c.in-Some.ensures.within.1) there.is) ∙ c.if-integer_fits.true)
 
 pub returns-else-integer_fits-clause-front : goal.returns-else-integer_fits-clause-front
 returns-else-integer_fits-clause-front c =
     let is : number_found c.args.bytes.now ≡ Some c.in-Some.found = sym c.number_found.ensures.found ∙ c.in-Some.is in
     let there : IntegerThere c.args.bytes.now c.in-Some.found.end = integer_is c.args.bytes.now c.in-Some.found c.if-found.false (number_is c.args.bytes.now c.in-Some.found is) in
-    front_too_great c.args.bytes.now c.in-Some.found is c.if-found.false
+    front_too_great c.args.floats c.args.bytes.now c.in-Some.found is c.if-found.false
     (sym (c.integer_fits.ensures there.minus there.whole (integer_taken c.args.bytes.now c.in-Some.found.end there c.in-Some.ensures.within.1) there.is) ∙ c.if-integer_fits.false)

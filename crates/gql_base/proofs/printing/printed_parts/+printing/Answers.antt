@@ -1,19 +1,24 @@
 use Rattle.std.proofs.Common.{refl, sym, ap, ◌∙◌, map}
 use Rattle.std.specs.Prelude.{codes}
 use Rattle.std.proofs.lemmas.Result.{on_ok_weaker}
-use Rattle.gql_base.specs.ways.Symbols.{identifier, integer, string}
+use Rattle.gql_base.specs.ways.Symbols.{identifier, integer, decimal, string}
 use Rattle.gql_base.specs.printing.Printing.{put}
 use Rattle.gql_base.specs.printing.Printers.{printed_by}
 use Rattle.gql_base.specs.printing.PrintedTrees.{boolean_name, value_symbols}
-use Rattle.gql_base.specs.parts.Values.{integer_value, string_value, boolean_value, null_value, enum_value, list_value, object_value, values_from, fields_from}
+use Rattle.gql_base.specs.parts.Values.{integer_value, float_value, string_value, boolean_value, null_value, enum_value, list_value, object_value, values_from, fields_from}
 use Rattle.gql_base.specs.parts.Trees.{value_tree, named_value}
 use Rattle.gql_base.proofs.PrintingLaws.PrintSteps.{printed_single, printed_variable, printed_tree, printed_list, printed_object, next_value, no_value_left, next_argument, no_argument_left, printed_argument, open_argument}
-use Rattle.gql_base.proofs.PartLaws.ValueSteps.{variable_tree, integer_tree, string_tree, boolean_tree, null_tree, enum_tree, list_tree, object_tree}
+use Rattle.gql_base.proofs.PartLaws.ValueSteps.{variable_tree, integer_tree, float_tree, string_tree, boolean_tree, null_tree, enum_tree, list_tree, object_tree}
 use Rattle.gql_base.proofs.printing.printed_parts.+printing.Goals as goal
 
 pub write_value-returns-in-Int : goal.write_value-returns-in-Int
 unfolding value_symbols
 write_value-returns-in-Int t c = on_ok_weaker c.integer.result (λ e. printed_single (printed_by c.args.printer.now) (printed_by c.integer.new.self) c.args.value.now (integer_value c.in-Int.value) (integer c.in-Int.value) (ap value_tree c.in-Int.is ∙ integer_tree c.in-Int.value) refl e) c.integer.ensures
+
+pub write_value-returns-in-Float : goal.write_value-returns-in-Float
+unfolding value_symbols
+write_value-returns-in-Float t c = on_ok_weaker c.decimal.result (λ e. printed_single (printed_by c.args.printer.now) (printed_by c.decimal.new.self) c.args.value.now (float_value c.in-Float.digits) (decimal c.in-Float.digits) (ap value_tree c.in-Float.is ∙ float_tree c.in-Float.digits) refl
+    (e ∙ ap (λ b. put (printed_by c.args.printer.now) (decimal b)) c.as_str-in-Float.ensures)) c.decimal.ensures
 
 pub write_value-returns-in-Str : goal.write_value-returns-in-Str
 unfolding value_symbols

@@ -8,10 +8,10 @@ use Rattle.input_values.specs.coercion.Left.{ItemsLeft, FieldsLeft}
 use Rattle.input_values.proofs.coercion.customs.+any.Given as goal
 
 abbrev pub invariant-any_list-items : goal.invariant-any_list-items
-invariant-any_list-items l = ItemsLeft l.limit (map coerced_tree l.built.items) l.fn.count l.count (any_items (literal_items no_variables (items_written (drop l.item-index l.items)))) (any_items (literal_items no_variables (items_written l.items)))
+invariant-any_list-items l = ItemsLeft l.limit (map coerced_tree l.built.items) l.fn.count l.count (any_items l.lax (literal_items no_variables (items_written (drop l.item-index l.items)))) (any_items l.lax (literal_items no_variables (items_written l.items)))
 
 abbrev pub invariant-any_fields-fields : goal.invariant-any_fields-fields
-invariant-any_fields-fields l = FieldsLeft l.limit (map named_tree l.built.items) l.fn.count l.count (any_fields (literal_fields no_variables (fields_written (drop l.field-index l.fields)))) (any_fields (literal_fields no_variables (fields_written l.fields)))
+invariant-any_fields-fields l = FieldsLeft l.limit (map named_tree l.built.items) l.fn.count l.count (any_fields l.lax (literal_fields no_variables (fields_written (drop l.field-index l.fields)))) (any_fields l.lax (literal_fields no_variables (fields_written l.fields)))
 
 abbrev pub decreases-any_literal : goal.decreases-any_literal
 decreases-any_literal l = 3 * tree_size (value_tree l.value.now)

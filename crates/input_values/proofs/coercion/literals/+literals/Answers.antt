@@ -13,7 +13,7 @@ use Rattle.input_values.proofs.ShapeTrees.{named_made, list_made}
 use Rattle.input_values.proofs.CoercionSteps.Pieces.{items_start}
 use Rattle.input_values.proofs.CoercionSteps.Places.{mapped_tells}
 use Rattle.input_values.proofs.CoercionSteps.Literals.{item_smaller}
-use Rattle.input_values.proofs.CoercionSteps.Lists.{same_answer, list_literal, object_literal, list_named, list_listed, object_fields, object_custom, literal_item_left, no_item_left, no_field_left}
+use Rattle.input_values.proofs.CoercionSteps.Lists.{same_answer, list_literal, object_literal, list_named, list_listed, object_fields, object_custom, object_lax, literal_item_left, no_item_left, no_field_left}
 use Rattle.input_values.proofs.CoercionSteps.Fields.{found_smaller, field_written, one_field_more, no_field_more, one_field_refused}
 use Rattle.input_values.proofs.coercion.literals.+literals.Goals as goal
 
@@ -133,3 +133,10 @@ object_at-returns-in-Custom g t c =
     let form = g.T.InputTypes.forms c.args.scope.now.types.now in
     same_answer c.args.scope.now.limit c.args.count.now c.any_object.new.count c.any_object.result _ _
     (object_custom (form c.args.of.number) env (λ name. find_coerced form name (literal_fields env (fields_written c.args.fields.now))) c.args.fields.now c.in-Custom.ensures) c.any_object.ensures
+
+pub object_at-returns-in-Lax : goal.object_at-returns-in-Lax
+object_at-returns-in-Lax g t c =
+    let env = values_of c.args.scope.now.variables.now.items.items in
+    let form = g.T.InputTypes.forms c.args.scope.now.types.now in
+    same_answer c.args.scope.now.limit c.args.count.now c.any_object-in-Lax.new.count c.any_object-in-Lax.result _ _
+    (object_lax (form c.args.of.number) env (λ name. find_coerced form name (literal_fields env (fields_written c.args.fields.now))) c.args.fields.now c.in-Lax.ensures) c.any_object-in-Lax.ensures

@@ -2,7 +2,7 @@ use Rattle.std.proofs.Common.{map, Some, refl, sym, ap, ◌∙◌}
 use Rattle.std.proofs.lemmas.Option.{IfSome_then}
 use Rattle.input_values.specs.inputs.Shapes.{shape_tree, level_tree}
 use Rattle.input_values.specs.values.Coerced.{coerced_object, coerced_tree, named_tree, named_trees_from}
-use Rattle.input_values.proofs.CoercedTrees.{null_made, integer_made, string_made, boolean_made, enum_made, list_made, object_made}
+use Rattle.input_values.proofs.CoercedTrees.{null_made, integer_made, float_made, string_made, boolean_made, enum_made, list_made, object_made}
 use Rattle.literal_loads.specs.KnownInputs.{scale_of}
 use Rattle.literal_loads.proofs.ValuesTogether.{none_summed, one_summed, all_summed, list_load, plain_load, null_load, list_leaf}
 use Rattle.cost_directives.specs.WeightViews.{input_weight, weighed_inputs}
@@ -72,6 +72,9 @@ value_load-returns-in-Null t c = null_load (scale_of c.args.self.now) (shape_tre
 
 pub value_load-returns-in-Int : goal.value_load-returns-in-Int
 value_load-returns-in-Int t c = plain_load (scale_of c.args.self.now) (shape_tree c.args.shape.now) (coerced_tree c.args.value.now) _ c.leaf_of-leaf.result (ap coerced_tree c.in-Int.is ∙ integer_made _) tt c.leaf_of-leaf.ensures
+
+pub value_load-returns-in-Float : goal.value_load-returns-in-Float
+value_load-returns-in-Float t c = plain_load (scale_of c.args.self.now) (shape_tree c.args.shape.now) (coerced_tree c.args.value.now) _ c.leaf_of-leaf.result (ap coerced_tree c.in-Float.is ∙ float_made _) tt c.leaf_of-leaf.ensures
 
 pub value_load-returns-in-Str : goal.value_load-returns-in-Str
 value_load-returns-in-Str t c = plain_load (scale_of c.args.self.now) (shape_tree c.args.shape.now) (coerced_tree c.args.value.now) _ c.leaf_of-leaf.result (ap coerced_tree c.in-Str.is ∙ string_made _) tt c.leaf_of-leaf.ensures

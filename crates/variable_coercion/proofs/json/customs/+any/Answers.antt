@@ -10,15 +10,15 @@ use Rattle.variable_coercion.proofs.json.customs.+any.Goals as goal
 
 pub any_array-items-preserved : goal.any_array-items-preserved
 any_array-items-preserved t c =
-    let whole = any_items (json_items (items_view c.args.items.now)) in
-    item_left c.args.limit (map coerced_tree c.items.built.items) _ c.args.count.now c.items.count c.any_json.new.count c.in_ok-value.value (any_value (json_given (view c.item-item.result))) _ whole
-    (subst (λ gs. ItemsLeft c.args.limit (map coerced_tree c.items.built.items) c.args.count.now c.items.count (any_items gs) whole) (json_front c.args.items.now c.items.item-index c.item-item.result c.items-test.true c.item-item.is) c.items.invariant)
+    let whole = any_items c.args.lax (json_items (items_view c.args.items.now)) in
+    item_left c.args.limit (map coerced_tree c.items.built.items) _ c.args.count.now c.items.count c.any_json.new.count c.in_ok-value.value (any_value c.args.lax (json_given (view c.item-item.result))) _ whole
+    (subst (λ gs. ItemsLeft c.args.limit (map coerced_tree c.items.built.items) c.args.count.now c.items.count (any_items c.args.lax gs) whole) (json_front c.args.items.now c.items.item-index c.item-item.result c.items-test.true c.item-item.is) c.items.invariant)
     c.in_ok-value.ensures c.in_ok-push_item.ensures
 
 pub any_members-members-preserved : goal.any_members-members-preserved
 any_members-members-preserved t c =
-    let whole = any_fields (json_members (members_view c.args.members.now.entries)) in
-    member_left c.args.limit (map named_tree c.members.built.items) _ (string_bytes c.in-Some.name.now) c.as_str.result.now c.args.count.now c.members.count c.any_json.new.count c.in_ok-value.value (any_value (json_given (view c.in-Some.member.now))) _ whole
+    let whole = any_fields c.args.lax (json_members (members_view c.args.members.now.entries)) in
+    member_left c.args.limit (map named_tree c.members.built.items) _ (string_bytes c.in-Some.name.now) c.as_str.result.now c.args.count.now c.members.count c.any_json.new.count c.in_ok-value.value (any_value c.args.lax (json_given (view c.in-Some.member.now))) _ whole
     c.as_str.ensures.value
-    (subst (λ ms. FieldsLeft c.args.limit (map named_tree c.members.built.items) c.args.count.now c.members.count (any_fields (json_members (members_view ms))) whole) c.in-Some.ensures.steps c.members.invariant)
+    (subst (λ ms. FieldsLeft c.args.limit (map named_tree c.members.built.items) c.args.count.now c.members.count (any_fields c.args.lax (json_members (members_view ms))) whole) c.in-Some.ensures.steps c.members.invariant)
     c.in_ok-value.ensures c.in_ok-push_field.ensures

@@ -7,7 +7,7 @@ use Rattle.variable_coercion.specs.Json.{json_items, json_members}
 use Rattle.variable_coercion.proofs.json.customs.+any.Given as goal
 
 abbrev pub invariant-any_array-items : goal.invariant-any_array-items
-invariant-any_array-items l = ItemsLeft l.limit (map coerced_tree l.built.items) l.fn.count l.count (any_items (json_items (items_view (drop l.item-index l.items)))) (any_items (json_items (items_view l.items)))
+invariant-any_array-items l = ItemsLeft l.limit (map coerced_tree l.built.items) l.fn.count l.count (any_items l.lax (json_items (items_view (drop l.item-index l.items)))) (any_items l.lax (json_items (items_view l.items)))
 
 abbrev pub invariant-any_members-members : goal.invariant-any_members-members
-invariant-any_members-members l = FieldsLeft l.limit (map named_tree l.built.items) l.fn.count l.count (any_fields (json_members (members_view l.name-iterator))) (any_fields (json_members (members_view l.members.entries)))
+invariant-any_members-members l = FieldsLeft l.limit (map named_tree l.built.items) l.fn.count l.count (any_fields l.lax (json_members (members_view l.name-iterator))) (any_fields l.lax (json_members (members_view l.members.entries)))

@@ -13,7 +13,7 @@ use Rattle.input_values.proofs.CoercionSteps.Fields.{one_field_more, no_field_mo
 use Rattle.variable_coercion.specs.Json.{json_items}
 use Rattle.variable_coercion.specs.Sizes.{json_size, items_size, members_size}
 use Rattle.variable_coercion.specs.Members.{member_under, members_from}
-use Rattle.variable_coercion.proofs.JsonSteps.{json_item_left, no_json_left, field_given, field_absent, json_object, json_custom, json_item_smaller, member_smaller}
+use Rattle.variable_coercion.proofs.JsonSteps.{json_item_left, no_json_left, field_given, field_absent, json_object, json_custom, json_lax, json_item_smaller, member_smaller}
 use Rattle.variable_coercion.proofs.json.walk.+json.Goals as goal
 
 pub coerce_items-items-preserved : goal.coerce_items-items-preserved
@@ -95,3 +95,9 @@ object_at-returns-in-Custom g t c =
     let form = g.T.InputTypes.forms c.args.scope.now.types.now in
     let ms = members_view c.args.members.now.entries in
     same_answer c.args.scope.now.limit c.args.count.now c.any_members.new.count c.any_members.result _ _ (json_custom (form c.args.of.number) (member_under form ms) ms c.in-Custom.ensures) c.any_members.ensures
+
+pub object_at-returns-in-Lax : goal.object_at-returns-in-Lax
+object_at-returns-in-Lax g t c =
+    let form = g.T.InputTypes.forms c.args.scope.now.types.now in
+    let ms = members_view c.args.members.now.entries in
+    same_answer c.args.scope.now.limit c.args.count.now c.any_members-in-Lax.new.count c.any_members-in-Lax.result _ _ (json_lax (form c.args.of.number) (member_under form ms) ms c.in-Lax.ensures) c.any_members-in-Lax.ensures
