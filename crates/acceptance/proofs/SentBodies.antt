@@ -59,14 +59,14 @@ module _ (r : RequestData) (c : Checked) (check : IsCheckFor r c) (p : Prepared 
         let as_read = body_so p.operation (sent_text r p alias) r.given given.as_read in
         let shallow = body_deep p.operation (sent_text r p alias) r.given given.within in
         value_compact (sent_body r p alias) body utf8 shallow (subst (λ (d : Data). IsWrittenBody d body) same written as_read shallow);
-    plain = λ once none. subst (λ (d : Data). has_float d ≡ false → body ≡ compact_text d) same plain (sent_floatless r p alias none once);
+    plain = subst (λ (d : Data). has_float d ≡ false → body ≡ compact_text d) same plain;
   }
 
 pub free_alias : (r : RequestData) (c : Checked) (alias : List ℕ) → IsCheckFor r c → IsAlias (names_of_document (map definition_tree c.document.now.definitions.items)) alias → IsFreeIn r alias
 free_alias r c alias check is = subst (λ (ds : List Definition). IsAlias (names_of_document (map definition_tree ds)) alias) check.of.document is
 
 pub one_text : (r : RequestData) (p : Prepared r) (alias text other : List ℕ) → has_floats r.schema ≡ false → HasEachKeyOnce r.given → IsSentText r p alias text → IsSentText r p alias other → text ≡ other
-one_text r p alias text other none once is same = is.plain once none ∙ sym (same.plain once none)
+one_text r p alias text other none once is same = let floatless = sent_floatless r p alias none once in is.plain floatless ∙ sym (same.plain floatless)
 
-pub sent_read : (r : RequestData) (p : Prepared r) (alias text : List ℕ) → IsGivenAsRead r → IsSentText r p alias text → read text ≡ Some (sent_body r p alias)
+pub sent_read : (r : RequestData) (p : Prepared r) (alias text : List ℕ) → IsGivenAsRead r.given → IsSentText r p alias text → read text ≡ Some (sent_body r p alias)
 sent_read r p alias text given is = (is.compact given).is_read

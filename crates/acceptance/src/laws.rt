@@ -1,9 +1,9 @@
 //! What holds of all requests. These functions do nothing: their contracts are the laws.
 
-ghost use Rattle.std.specs.Prelude.{◌≡◌, ◌⊎◌, ℕ, List, Some, true, false};
-ghost use Rattle.serde_json.specs.Data.{Data};
+ghost use Rattle.std.specs.Prelude.{◌≡◌, ◌⊎◌, ◌<◌, ℕ, List, Some, true, false};
+ghost use Rattle.serde_json.specs.Data.{Data, depth};
 ghost use Rattle.serde_json.specs.Find.{get};
-ghost use Rattle.serde_json.specs.Read.{read as read_text};
+ghost use Rattle.serde_json.specs.Read.{read as read_text, max_depth};
 ghost use Rattle.serde_json.specs.Written.{has_float};
 ghost use Rattle.cost_num.specs.declared.Cost.{Cost as CostType};
 ghost use Rattle.static_cost.specs.PassedOn.{Plan as PlanType};
@@ -14,6 +14,7 @@ ghost use Rattle.gql_base.specs.printing.OneLine.{is_one_line};
 ghost use Rattle.acceptance.specs.Texts.{refusal_text};
 ghost use Rattle.acceptance.specs.Refusals.{IsRefusedFor};
 ghost use Rattle.acceptance.specs.AskAlike.{AskAlike};
+ghost use Rattle.typename_rewrite.specs.ReadJson.{IsAsRead};
 ghost use Rattle.acceptance.specs.Keys.{HasEachKeyOnce};
 ghost use Rattle.acceptance.specs.Forwarding.{sent_body, IsGivenAsRead, IsSentText};
 ghost use Rattle.schema_model.specs.SchemaData.{has_floats};
@@ -65,10 +66,13 @@ pub fn refusal_texts_are_one_line()
     ensures { (refusal : Refusal) → is_one_line (refusal_text refusal) ≡ true }
 {}
 
-/// JSON that is read has each key once in each of its objects: of equal keys the last value stays. So has each member of it.
-pub fn read_values_have_each_key_once()
-    ensures whole { (text : List ℕ) (json : Data) → read_text text ≡ Some json → HasEachKeyOnce json }
-    ensures member { (json value : Data) (key : List ℕ) → HasEachKeyOnce json → get key json ≡ Some value → HasEachKeyOnce value }
+/// JSON that is read, and each member of it, has integers of 64 bits, and keys that ascend in each of its objects, so that each stands once: of equal
+/// keys the last value stays. A member is nested less deep than the whole.
+pub fn read_values_are_in_order()
+    ensures whole { (text : List ℕ) (json : Data) → read_text text ≡ Some json → IsAsRead json }
+    ensures member { (json value : Data) (key : List ℕ) → IsAsRead json → get key json ≡ Some value → IsAsRead value }
+    ensures within { (text : List ℕ) (json value : Data) (key : List ℕ) → read_text text ≡ Some json → get key json ≡ Some value → depth value < max_depth }
+    ensures once { (json : Data) → IsAsRead json → HasEachKeyOnce json }
 {}
 
 /// For a schema without floats a body that is sent holds none. The values of the declared variables are coerced, and no type takes a float; other
@@ -80,6 +84,6 @@ pub fn sent_bodies_hold_no_float()
 
 /// Whatever the schema: all texts that are sent for one request under one alias are read as the same JSON, which is its body.
 pub fn sent_texts_are_read_alike()
-    ensures read { (r : RequestData) (p : Prepared r) (alias text : List ℕ) → IsGivenAsRead r → IsSentText r p alias text → read_text text ≡ Some (sent_body r p alias) }
-    ensures alike { (r : RequestData) (p : Prepared r) (alias text other : List ℕ) → IsGivenAsRead r → IsSentText r p alias text → IsSentText r p alias other → read_text text ≡ read_text other }
+    ensures read { (r : RequestData) (p : Prepared r) (alias text : List ℕ) → IsGivenAsRead r.given → IsSentText r p alias text → read_text text ≡ Some (sent_body r p alias) }
+    ensures alike { (r : RequestData) (p : Prepared r) (alias text other : List ℕ) → IsGivenAsRead r.given → IsSentText r p alias text → IsSentText r p alias other → read_text text ≡ read_text other }
 {}

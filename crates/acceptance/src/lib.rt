@@ -16,7 +16,7 @@ pub use fault::{AcceptFault, Refusal};
 pub use forwarding::{Forwarded, sent_for};
 pub use laws::{
     a_request_has_a_verdict, a_request_has_one_verdict, alike_requests_are_answered_alike,
-    alike_requests_have_one_verdict, read_values_have_each_key_once, refusal_texts_are_one_line,
+    alike_requests_have_one_verdict, read_values_are_in_order, refusal_texts_are_one_line,
     sent_bodies_hold_no_float, sent_texts_are_read_alike,
 };
 pub use merged_selections::{PlanFault, build_plan};

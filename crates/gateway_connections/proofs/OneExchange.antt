@@ -30,7 +30,7 @@ use Rattle.gateway_connections.specs.declared.ending.ConnectionEnd.TheVariants a
 use Rattle.gateway_connections.specs.declared.ending.Served.{Served}
 use Rattle.gateway_connections.specs.Replies.{written}
 use Rattle.gateway_connections.specs.Exchanges.{Service, Exchange, IsExchange, downs, failures}
-use Rattle.gateway_connections.specs.Connections.{Answers, Refuses, UnlessEndsBy, after_last}
+use Rattle.gateway_connections.specs.Connections.{Answers, EndsAfter, IfEndsBy, Refuses, UnlessEndsBy, after_last}
 use Rattle.gateway_connections.specs.Serving.{Makes, TurnsTo}
 use Rattle.gateway_connections.proofs.Growing.{calls_one, dials_one, downs_one, failures_one}
 
@@ -174,6 +174,18 @@ answers_exchange x ask reply number before after r e f a =
 pub unless_anyway : (end : ConnectionEnd) (r : Option Served) (P : Type 0) → P → UnlessEndsBy end r P
 unless_anyway end None P holds = holds
 unless_anyway end (Some served) P holds = λ other. holds
+
+-- no reply ends a connection as a failing source does
+not_by_reading : (number status : ℕ) (end : ConnectionEnd) → EndsAfter number status end → end ≡ ending.ReadFault → ⊥
+not_by_reading number status end (inl out) is = cc (out.1, is)
+not_by_reading number status end (inr (inl out)) is = cc (out.2, is)
+not_by_reading number status end (inr (inr out)) is = cc (out.2, is)
+
+pub no_read_fault : (r : Reply) (close : Bool) (number : ℕ) (before after : Option (List ℕ)) (turned : Option Served) (P : Type 0) → Answers r close number before after turned
+    → IfEndsBy ending.ReadFault turned P
+no_read_fault r close number before after None P answers = tt
+no_read_fault r close number before after (Some served) P (inl out) = λ is. absurd (not_by_reading number r.status served.end out.3 is)
+no_read_fault r close number before after (Some served) P (inr out) = λ is. absurd (cc (out.2, is))
 
 -- where the source failed, the end says so
 pub refused_read : (f : FrontFault) (number : ℕ) (before after : Option (List ℕ)) (count : ℕ) (end : ConnectionEnd) → Refuses f number before after count end → f ≡ fault.ReadFault

@@ -1,8 +1,8 @@
 -- What a body comes to, by what its request comes to.
-use Rattle.std.proofs.Common.{◌≡◌, ◌⊎◌, inl, inr, ◌∙◌, ℕ, List, None, Some, Result, Ok, Err, sym, subst}
+use Rattle.std.proofs.Common.{◌≡◌, ◌⊎◌, inl, inr, ◌∙◌, ◌<◌, ℕ, List, None, Some, Result, Ok, Err, sym, subst, arith}
 use Rattle.std.specs.Prelude.{IfOk, IfErr, codes}
-use Rattle.serde_json.specs.Data.{Data, object, no_members}
-use Rattle.serde_json.specs.Read.{read}
+use Rattle.serde_json.specs.Data.{Data, object, no_members, depth}
+use Rattle.serde_json.specs.Read.{read, max_depth}
 use Rattle.serde_json.specs.Find.{get}
 use Rattle.document_reader.specs.declared.trees.Document.{Document}
 use Rattle.schema_model.specs.SchemaData.{has_floats}
@@ -11,7 +11,8 @@ use Rattle.request_bodies.specs.Bodies.{RequestData as Asked}
 use Rattle.trusted_documents.specs.Requests.{IsRequestBy}
 use Rattle.std.proofs.lemmas.Option.{none-some}
 use Rattle.document_reader.specs.Picking.{picked}
-use Rattle.local_introspection.specs.PassedOn.{HasEachKeyOnce, RequestData, IsUnread, IsRefusedFor}
+use Rattle.typename_rewrite.specs.ReadJson.{IsAsRead}
+use Rattle.local_introspection.specs.PassedOn.{IsGivenAsRead, RequestData, IsUnread, IsRefusedFor}
 use Rattle.operation_class.specs.declared.classes.Class.{Class}
 use Rattle.operation_class.specs.declared.classes.Class.TheVariants as class
 use Rattle.operation_class.specs.Classes.{class_at}
@@ -29,11 +30,16 @@ use Rattle.gateway_core.specs.Requests.{request_of, GoesUpstream, Knows}
 use Rattle.gateway_core.specs.Begins.{IsUnfit, IfRefusal}
 use Rattle.gateway_core.specs.Examined.{IsFound, IsFoundFor, IsUnfitFor, IsNotOwn, TellsLocal}
 
-pub once : (body : List ℕ) (variables : Data) → ((json : Data) → read body ≡ Some json → HasEachKeyOnce json)
-    → ((json value : Data) (key : List ℕ) → HasEachKeyOnce json → get key json ≡ Some value → HasEachKeyOnce value)
-    → (variables ≡ object no_members) ⊎ ((json : Data) × (read body ≡ Some json) × (get (codes "variables") json ≡ Some variables)) → HasEachKeyOnce variables
-once body variables whole part (inl empty) = subst HasEachKeyOnce (sym empty) tt
-once body variables whole part (inr (json, is, got)) = part json variables (codes "variables") (whole json is) got
+-- what a body gives for the variables comes from a reader
+pub given_by : (body : List ℕ) (variables : Data) → ((json : Data) → read body ≡ Some json → IsAsRead json)
+    → ((json value : Data) (key : List ℕ) → IsAsRead json → get key json ≡ Some value → IsAsRead value)
+    → ((json value : Data) (key : List ℕ) → read body ≡ Some json → get key json ≡ Some value → depth value < max_depth)
+    → (variables ≡ object no_members) ⊎ ((json : Data) × (read body ≡ Some json) × (get (codes "variables") json ≡ Some variables)) → IsGivenAsRead variables
+given_by body variables whole part within (inl empty) = subst IsGivenAsRead (sym empty) (record { as_read = tt; within = omega arith })
+given_by body variables whole part within (inr (json, is, got)) = record {
+  as_read = part json variables (codes "variables") (whole json is) got;
+  within = within json variables (codes "variables") is got;
+}
 
 module _ (rules : Rules) (body : List ℕ) (asked : Asked) (is_request : IsRequestBy rules.trusted body asked) where
   pub unread_is_unfit : (denial : Denial) → IfRefusal denial (IsUnread (has_floats rules.schema) asked.query) → IsUnfit rules body denial

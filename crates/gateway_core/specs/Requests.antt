@@ -1,6 +1,7 @@
 -- What the body of a request comes to, by the rules of a gate.
 use Rattle.std.specs.Prelude.{◌≡◌, ◌⊎◌, ℕ, false, List, Some}
 use Rattle.serde_json.specs.Written.{compact_text}
+use Rattle.response_model.specs.WrittenJson.{IsCompact}
 use Rattle.cost_num.specs.declared.Cost.{Cost}
 use Rattle.schema_model.specs.SchemaViews.{schema_data}
 use Rattle.schema_model.specs.SchemaData.{has_floats}
@@ -8,7 +9,7 @@ use Rattle.document_reader.specs.declared.trees.Document.{Document}
 use Rattle.document_reader.specs.DocumentAnswers.{IsDocumentOf}
 use Rattle.request_bodies.specs.Bodies.{RequestData as Asked}
 use Rattle.trusted_documents.specs.Requests.{IsRequestBy}
-use Rattle.local_introspection.specs.PassedOn.{Refusal, RequestData, IsAffordable, IsAccepted, IsUnread, IsRefusedFor, IsFreeIn, IsSentText, sent_body}
+use Rattle.local_introspection.specs.PassedOn.{Refusal, RequestData, IsAffordable, IsAccepted, IsUnread, IsRefusedFor, IsFreeIn, sent_body}
 use Rattle.operation_class.specs.Routes.{GoesUpstream as IsForUpstream}
 use Rattle.local_introspection.specs.declared.facts.Facts.{Facts}
 use Rattle.local_introspection.specs.declared.fault.LocalFault.{LocalFault}
@@ -52,13 +53,13 @@ IsRefusedBody rules body refusal = ((asked : Asked) × IsRequestBy rules.trusted
 abbrev pub IsPricedAt : Rules → List ℕ → Cost → Type 0
 IsPricedAt rules body bound = AsksThat rules body (λ r. IsAffordable r bound)
 
--- What is asked is accepted with this plan and this bound, and this is what is sent for it: a text of the body, and the one compact text where the
--- schema lets no floats in.
+-- What is asked is accepted with this plan and this bound, and this is what is sent for it: a compact text of the body, and the one compact text where
+-- the schema lets no floats in.
 pub record IsPromised (r : RequestData) (p : Promise) : Type 0 where
   pub is_accepted : IsAccepted r p.plan p.bound
   pub of_schema : schema_data p.plan.schema.now ≡ r.schema
   pub is_free : IsFreeIn r p.alias
-  pub is_sent : IsSentText r is_accepted.is_planned.prepared p.alias p.forward
+  pub is_sent : IsCompact (sent_body r is_accepted.is_planned.prepared p.alias) p.forward
   pub is_plain : has_floats r.schema ≡ false → p.forward ≡ compact_text (sent_body r is_accepted.is_planned.prepared p.alias)
 
 abbrev pub IsPromisedFor : Rules → List ℕ → Promise → Type 0

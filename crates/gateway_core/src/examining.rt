@@ -6,7 +6,7 @@ ghost use Rattle.request_bodies.specs.Bodies.{request_data as asked_data};
 ghost use Rattle.trusted_documents.specs.Requests.{IsRequestBy};
 ghost use Rattle.schema_model.specs.SchemaData.{has_floats};
 ghost use Rattle.document_reader.specs.DocumentAnswers.{IsDocumentOf};
-ghost use Rattle.local_introspection.specs.PassedOn.{request_data, IsUnread, HasEachKeyOnce};
+ghost use Rattle.local_introspection.specs.PassedOn.{request_data, IsUnread, IsGivenAsRead};
 ghost use Rattle.gateway_core.specs.Rules.{HasWeights, client_of};
 ghost use Rattle.gateway_core.specs.Gates.{rules_of};
 ghost use Rattle.gateway_core.specs.Requests.{request_of};
@@ -19,7 +19,7 @@ use crate::own_answers::own_answer;
 use crate::promise::{Promise, denied, promised};
 use counted_work::Work;
 use document_reader::Document;
-use local_introspection::{Counted, Request, read, read_values_have_each_key_once, work_up_to};
+use local_introspection::{Counted, Request, read, read_values_are_in_order, work_up_to};
 use request_bodies::Request as Asked;
 use std::alloc::Global;
 use std::cell::Cell;
@@ -90,7 +90,7 @@ fn found_for<'g>(
     asked: &Asked,
     document: &Document,
 ) -> Result<Examined<'g>, Denial>
-    requires once { HasEachKeyOnce (view asked.now.variables) }
+    requires given { IsGivenAsRead (view asked.now.variables) }
     ensures found { IfOk result (IsFoundFor (rules_of gate.now) (request_of (rules_of gate.now) (asked_data asked.now) document.now)) }
     ensures payable { IfOk result IsPayable }
     ensures unfit { IfErr result (IsUnfitFor (rules_of gate.now) (request_of (rules_of gate.now) (asked_data asked.now) document.now)) }
@@ -118,7 +118,7 @@ fn found_in<'g>(
     ensures unfit { IfErr result (IsUnfit (rules_of gate.now) body.now) }
 {
     variables_are_the_clients();
-    read_values_have_each_key_once();
+    read_values_are_in_order();
     let asked = match asked_in(gate, alloc, body) {
         Ok(asked) => asked,
         Err(denial) => return Err(denial),

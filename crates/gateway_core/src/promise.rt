@@ -1,7 +1,7 @@
 //! What is promised for an operation that the upstream answers.
 
 ghost use Rattle.std.specs.Prelude.{◌≡◌, IfOk, IfErr};
-ghost use Rattle.local_introspection.specs.PassedOn.{request_data, IsCheckFor, IsAccepted, IsRefusedFor, HasEachKeyOnce};
+ghost use Rattle.local_introspection.specs.PassedOn.{request_data, IsCheckFor, IsAccepted, IsRefusedFor, IsGivenAsRead};
 ghost use Rattle.gateway_core.specs.Rules.{HasWeights};
 ghost use Rattle.gateway_core.specs.PlanBounds.{Covers};
 ghost use Rattle.gateway_core.specs.Requests.{IsPromised};
@@ -10,7 +10,10 @@ ghost use Rattle.gateway_core.specs.Begins.{TellsFault, IfRefusal};
 use crate::beginning::Denial;
 use cost_num::Cost;
 use gql_base::Text;
-use local_introspection::{AcceptFault, Accepted, Request, accept, sent_for};
+use local_introspection::{
+    AcceptFault, Accepted, Request, accept, read_values_are_in_order, sent_bodies_hold_no_float,
+    sent_for,
+};
 use plan_model::laws::operations_planned_well;
 use plan_table::Plan;
 use response_model::laws::greatest_is_bound;
@@ -44,7 +47,7 @@ fn sent<'g>(
     request: &Request<'g, '_>,
     accepted: Accepted<'g, '_>,
 ) -> Result<Promise<'g>, Denial>
-    requires once { HasEachKeyOnce (request_data request.now).given }
+    requires given { IsGivenAsRead (request_data request.now).given }
     requires accepted { IsAccepted (request_data request.now) accepted.plan accepted.bound }
     requires checked { IsCheckFor (request_data request.now) accepted.checked }
     requires schema { accepted.plan.schema.now ≡ request.now.schema.now }
@@ -53,6 +56,8 @@ fn sent<'g>(
     ensures covered { IfOk result (λ p. Covers p.plan p.bound) }
     ensures memory { IfErr result (λ denial. denial ≡ Denial.Memory) }
 {
+    read_values_are_in_order();
+    sent_bodies_hold_no_float();
     match sent_for(alloc, request, &accepted.checked) {
         Ok(sent) => Ok(Promise {
             plan: accepted.plan,
@@ -67,7 +72,7 @@ fn sent<'g>(
 /// What a request comes to.
 pub(crate) fn promised<'g>(alloc: Global, request: &Request<'g, '_>) -> Result<Promise<'g>, Denial>
     requires weighed { HasWeights (request_data request.now).schema (request_data request.now).weights }
-    requires once { HasEachKeyOnce (request_data request.now).given }
+    requires given { IsGivenAsRead (request_data request.now).given }
     ensures promised { IfOk result (IsPromised (request_data request.now)) }
     ensures covered { IfOk result (λ p. Covers p.plan p.bound) }
     ensures refused { IfErr result (λ denial. IfRefusal denial (IsRefusedFor (request_data request.now))) }

@@ -2,8 +2,7 @@
 pub use Rattle.acceptance.specs.PassedOn.{IsWithin}
 pub use Rattle.acceptance.specs.AskAlike.{AskAlike}
 pub use Rattle.acceptance.specs.Bounds.{IsAccepted, IsAffordable, IsBoundFor}
-pub use Rattle.acceptance.specs.Forwarding.{IsFreeIn, IsSentText, sent_body}
-pub use Rattle.acceptance.specs.Keys.{HasEachKeyOnce}
+pub use Rattle.acceptance.specs.Forwarding.{IsFreeIn, IsGivenAsRead, sent_body}
 pub use Rattle.acceptance.specs.Refusals.{IsRefusedFor, IsUnread}
 pub use Rattle.acceptance.specs.Requests.{IsCheckFor, Prepared, RequestData, plan_tree, request_data, setting}
 pub use Rattle.acceptance.specs.Texts.{refusal_text, lexical_text, naming, placed}

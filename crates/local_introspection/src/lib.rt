@@ -20,7 +20,8 @@ pub use acceptance::texts::{lexical_place, named, named_twice, placed, placed_in
 pub use acceptance::{
     AcceptFault, Accepted, Refusal, Request, a_request_has_one_verdict, accept,
     alike_requests_are_answered_alike, alike_requests_have_one_verdict, read,
-    read_values_have_each_key_once, refusal_text, refusal_texts_are_one_line, sent_for, work_up_to,
+    read_values_are_in_order, refusal_text, refusal_texts_are_one_line, sent_bodies_hold_no_float,
+    sent_for, work_up_to,
 };
 pub use answering::{Counted, count, write};
 pub use counting::VALUE_LIMIT;

@@ -7,7 +7,7 @@ use Rattle.cost_num.proofs.Costs.{cost_eq}
 use Rattle.serde_json.specs.Data.{Data}
 use Rattle.serde_json.specs.Read.{read as read_text}
 use Rattle.serde_json.specs.View.{view}
-use Rattle.serde_json.specs.Written.{compact_text}
+use Rattle.serde_json.specs.Written.{has_float, compact_text}
 use Rattle.response_model.specs.Plan.{Plan as PlanTree}
 use Rattle.response_model.specs.Cost.{types, fields}
 use Rattle.response_model.specs.ResponseText.{response_text}
@@ -229,7 +229,8 @@ pub record OneSent : Type 0 where
   pub reply : OneReply
   pub one_body : (r q : RequestData) (p : Prepared r) (other : Prepared q) (alias : List ℕ) → AskAlike r q → sent_body r p alias ≡ sent_body q other alias
   pub once : (text : List ℕ) (json : Data) → read_text text ≡ Some json → HasEachKeyOnce json
-  pub read : (r : RequestData) (p : Prepared r) (alias text : List ℕ) → IsGivenAsRead r → IsSentText r p alias text → read_text text ≡ Some (sent_body r p alias)
+  pub no_float : (r : RequestData) (p : Prepared r) (alias : List ℕ) → has_floats r.schema ≡ false → HasEachKeyOnce r.given → has_float (sent_body r p alias) ≡ false
+  pub read : (r : RequestData) (p : Prepared r) (alias text : List ℕ) → IsGivenAsRead r.given → IsSentText r p alias text → read_text text ≡ Some (sent_body r p alias)
 
 once_given : OneSent → (variables : Option (List ℕ)) (json : Data) → IsGiven variables json → HasEachKeyOnce json
 once_given laws None json is = subst HasEachKeyOnce (sym is) tt
@@ -242,11 +243,17 @@ body_once laws asked texts a b held held_too p q alias other free free_too =
     ap (sent_body (request_in asked a) p) (one_free laws.reply asked texts a b held held_too alias other free free_too)
     ∙ laws.one_body (request_in asked a) (request_in asked b) p q other (ask_alike laws.reply.reading asked texts a b held held_too)
 
+-- where the texts let no floats in, the body holds none
+floatless : OneSent → (asked : Asked) (texts : AskedTexts) (inputs : Inputs) → LetsFloatsIn texts.schema asked.undeclared false → HoldInputs asked texts inputs → (p : Prepared (request_in asked inputs)) (alias : List ℕ)
+    → has_float (sent_body (request_in asked inputs) p alias) ≡ false
+floatless laws asked texts inputs lets held p alias =
+    laws.no_float (request_in asked inputs) p alias (none_in laws.reply asked texts inputs lets held) (once_given laws texts.variables (view inputs.given) held.is_given)
+
 pub one_sent : OneSent → (asked : Asked) (texts : AskedTexts) (text other : List ℕ) → LetsFloatsIn texts.schema asked.undeclared false → IsSent asked texts text → IsSent asked texts other → text ≡ other
 one_sent laws asked texts text other lets (a, held, (p, m, accepted, (alias, free, is))) (b, held_too, (q, n, accepted_too, (alias_too, free_too, is_too))) =
-    is.plain (once_given laws texts.variables (view a.given) held.is_given) (none_in laws.reply asked texts a lets held)
+    is.plain (floatless laws asked texts a lets held accepted.is_planned.prepared alias)
     ∙ (ap compact_text (body_once laws asked texts a b held held_too accepted.is_planned.prepared accepted_too.is_planned.prepared alias alias_too free free_too)
-    ∙ sym (is_too.plain (once_given laws texts.variables (view b.given) held_too.is_given) (none_in laws.reply asked texts b lets held_too)))
+    ∙ sym (is_too.plain (floatless laws asked texts b lets held_too accepted_too.is_planned.prepared alias_too)))
 
 pub alike_sent : OneSent → (asked : Asked) (texts : AskedTexts) (text other : List ℕ) → AreGivenAsRead asked texts → IsSent asked texts text → IsSent asked texts other → read_text text ≡ read_text other
 alike_sent laws asked texts text other given (a, held, (p, m, accepted, (alias, free, is))) (b, held_too, (q, n, accepted_too, (alias_too, free_too, is_too))) =

@@ -19,7 +19,7 @@ IsSent asked texts text = (inputs : Inputs) × HoldInputs asked texts inputs
 
 -- What the texts give for the variables comes from a reader, and leaves a level of nesting to the body.
 abbrev pub AreGivenAsRead : Asked → AskedTexts → Type 0
-AreGivenAsRead asked texts = (inputs : Inputs) → HoldInputs asked texts inputs → IsGivenAsRead (request_in asked inputs)
+AreGivenAsRead asked texts = (inputs : Inputs) → HoldInputs asked texts inputs → IsGivenAsRead (request_in asked inputs).given
 
 -- By the texts: what is sent is the output, or the operation is refused, or there was no memory, or it takes more steps than it may.
 abbrev pub ForwardOf : Asked → AskedTexts → Outcome → Type 0

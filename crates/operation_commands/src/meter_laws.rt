@@ -15,7 +15,8 @@ ghost use Rattle.operation_commands.specs.Meter.{HasMeasure, HasReplyFault};
 
 use crate::price_laws::a_refused_operation_has_no_price;
 use acceptance::{
-    alike_requests_are_answered_alike, read_values_have_each_key_once, sent_texts_are_read_alike,
+    alike_requests_are_answered_alike, read_values_are_in_order, sent_bodies_hold_no_float,
+    sent_texts_are_read_alike,
 };
 use command_outcomes::a_schema_file_has_one_check;
 use document_reader::a_text_is_one_document;
@@ -47,7 +48,8 @@ pub fn one_text_is_sent()
     one_reply();
     fault_or_reading();
     answers_without_floats();
-    read_values_have_each_key_once();
+    read_values_are_in_order();
+    sent_bodies_hold_no_float();
     sent_texts_are_read_alike();
 }
 

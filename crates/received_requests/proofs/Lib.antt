@@ -8,7 +8,6 @@ mod ValuesKept
 mod ReachedNames
 mod ReachedWalks
 mod ReachedFragments
-mod BodiesOrder
 mod BodiesGiven
 mod BodiesSent
 mod ReceivedResponses

@@ -13,7 +13,6 @@ ghost use Rattle.acceptance.specs.Forwarding.{IsFreeIn, sent_text, sent_body, Is
 ghost use Rattle.sent_documents.specs.SentTexts.{IsClientText};
 ghost use Rattle.received_requests.specs.Received.{variables_sent, name_sent};
 ghost use Rattle.received_requests.specs.Bodies.{keys_of, body_keys, request_sent, AsksForReceived};
-ghost use Rattle.typename_rewrite.specs.ReadJson.{IsAsRead};
 
 use crate::laws::what_is_read_is_received;
 use acceptance::sent_texts_are_read_alike;
@@ -28,30 +27,25 @@ pub fn what_the_body_holds()
     ensures once { (r : RequestData) (p : Prepared r) (alias : List ℕ) → HasEachKeyOnce r.given → HasEachKeyOnce (sent_body r p alias) }
 {}
 
-/// JSON that is read, and each member of it, has integers of 64 bits, and keys that ascend in each of its objects. A member is
-/// nested less deep than the whole. So what a client's body gives for the variables is as the next law asks for.
-pub fn what_is_read()
-    ensures whole { (text : List ℕ) (json : Data) → read_text text ≡ Some json → IsAsRead json }
-    ensures member { (json value : Data) (key : List ℕ) → IsAsRead json → get key json ≡ Some value → IsAsRead value }
-    ensures within { (text : List ℕ) (json value : Data) (key : List ℕ) → read_text text ≡ Some json → get key json ≡ Some value → depth value < max_depth }
-    ensures once { (json : Data) → IsAsRead json → HasEachKeyOnce json }
-    ensures of_file { (r : RequestData) (text : List ℕ) → read_text text ≡ Some r.given → depth r.given < max_depth → IsGivenAsRead r }
-    ensures of_body { (r : RequestData) (body : List ℕ) (asked : BodyData) → IsRequest body asked → r.given ≡ asked.variables → IsGivenAsRead r }
+/// What a file or a client's body gives for the variables comes from a reader, as the next law asks for: a file's where it leaves a level of nesting, a body's always.
+pub fn what_is_given_is_read()
+    ensures of_file { (r : RequestData) (text : List ℕ) → read_text text ≡ Some r.given → depth r.given < max_depth → IsGivenAsRead r.given }
+    ensures of_body { (r : RequestData) (body : List ℕ) (asked : BodyData) → IsRequest body asked → r.given ≡ asked.variables → IsGivenAsRead r.given }
 {}
 
 /// Whoever reads the text that is sent gets the body of it, and asks for just the document, the name and the variables that are
 /// sent, where what is given for the variables was read.
 pub fn what_a_reader_of_the_body_gets()
-    ensures read { (r : RequestData) (p : Prepared r) (alias text : List ℕ) → IsGivenAsRead r → IsSentText r p alias text → read_text text ≡ Some (sent_body r p alias) }
-    ensures request { (r : RequestData) (p : Prepared r) (alias text : List ℕ) → IsGivenAsRead r → IsSentText r p alias text → is_utf8 text ≡ true → IsRequest text (request_sent r p alias) }
-    ensures only { (r : RequestData) (p : Prepared r) (alias text : List ℕ) (asked : BodyData) → IsGivenAsRead r → IsSentText r p alias text → IsRequest text asked → asked ≡ request_sent r p alias }
+    ensures read { (r : RequestData) (p : Prepared r) (alias text : List ℕ) → IsGivenAsRead r.given → IsSentText r p alias text → read_text text ≡ Some (sent_body r p alias) }
+    ensures request { (r : RequestData) (p : Prepared r) (alias text : List ℕ) → IsGivenAsRead r.given → IsSentText r p alias text → is_utf8 text ≡ true → IsRequest text (request_sent r p alias) }
+    ensures only { (r : RequestData) (p : Prepared r) (alias text : List ℕ) (asked : BodyData) → IsGivenAsRead r.given → IsSentText r p alias text → IsRequest text asked → asked ≡ request_sent r p alias }
 {
     sent_texts_are_read_alike();
 }
 
 /// Where what is given for the variables was read, what the body that is sent asks of the same schema is the request that is received.
 pub fn what_comes_from_the_body_is_received()
-    ensures { (r : RequestData) (p : Prepared r) (alias text body : List ℕ) → IsGivenAsRead r → IsFreeIn r alias → IsClientText r text → IsSentText r p alias body → AsksForReceived r p alias body }
+    ensures { (r : RequestData) (p : Prepared r) (alias text body : List ℕ) → IsGivenAsRead r.given → IsFreeIn r alias → IsClientText r text → IsSentText r p alias body → AsksForReceived r p alias body }
 {
     what_a_reader_of_the_body_gets();
     what_is_read_is_received();

@@ -8,7 +8,7 @@ use Rattle.gateway_connections.specs.Serving.{LosesTurn}
 use Rattle.doors.specs.Visits.{Told}
 use Rattle.gateway_core.proofs.LostAccounts.{on_err}
 use Rattle.gateway_connections.proofs.Growing.{makes_still}
-use Rattle.gateway_connections.proofs.OneExchange.{some_then, exchange_anyhow, made_one, turned_by, answers_exchange, unless_anyway, refused_read}
+use Rattle.gateway_connections.proofs.OneExchange.{some_then, exchange_anyhow, made_one, turned_by, answers_exchange, unless_anyway, refused_read, no_read_fault}
 use Rattle.gateway_connections.proofs.turn.turn.Goals as goal
 
 pub returns-in-Err-clause-turns : goal.returns-in-Err-clause-turns
@@ -50,6 +50,10 @@ returns-in-Err-clause-read_still g c =
 
 pub returns-clause-read_still : goal.returns-clause-read_still
 returns-clause-read_still g c = unless_anyway ending.ReadFault c.answer.result _ (c.in-Ok.ensures.still (λ e. cc e))
+
+pub returns-clause-read_fault : goal.returns-clause-read_fault
+returns-clause-read_fault g c =
+    no_read_fault c.in_ok-reply.reply _ c.args.number (g.K.Sink.written c.args.conn.now.sink) (g.K.Sink.written c.answer.new.to) c.answer.result _ c.answer.ensures.answers
 
 pub returns-in_err-reply-clause-lost : goal.returns-in_err-reply-clause-lost
 returns-in_err-reply-clause-lost g c =

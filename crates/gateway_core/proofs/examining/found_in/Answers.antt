@@ -2,7 +2,7 @@
 use Rattle.serde_json.specs.View.{view}
 use Rattle.request_bodies.specs.Bodies.{request_data}
 use Rattle.gateway_core.specs.Gates.{rules_of}
-use Rattle.gateway_core.proofs.ExaminedBodies.{once, unread_is_unfit, found_of_body, unfit_of_body}
+use Rattle.gateway_core.proofs.ExaminedBodies.{given_by, unread_is_unfit, found_of_body, unfit_of_body}
 use Rattle.gateway_core.proofs.examining.found_in.Goals as goal
 
 pub returns-in-Err-clause-unfit : goal.returns-in-Err-clause-unfit
@@ -14,7 +14,8 @@ returns-in-Err-document_in-clause-unfit c =
 
 pub found_for-requires : goal.found_for-requires
 found_for-requires c = record {
-  once = once c.args.body.now (view c.in-Ok.asked.variables) (λ json. c.read_values_have_each_key_once.ensures.whole c.args.body.now json) c.read_values_have_each_key_once.ensures.member
+  given = given_by c.args.body.now (view c.in-Ok.asked.variables) (c.read_values_are_in_order.ensures.whole c.args.body.now) c.read_values_are_in_order.ensures.member
+      (c.read_values_are_in_order.ensures.within c.args.body.now)
       (c.variables_are_the_clients.ensures.source (rules_of c.args.gate.now).trusted c.args.body.now (request_data c.in-Ok.asked) c.in-Ok.ensures.asked);
 }
 

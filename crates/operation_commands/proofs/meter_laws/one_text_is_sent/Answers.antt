@@ -18,7 +18,8 @@ returns-clause-one_text c = one_sent record {
     passes = c.fault_or_reading.ensures.passes;
   };
   one_body = c.alike_requests_are_answered_alike.ensures.one_body;
-  once = c.read_values_have_each_key_once.ensures.whole;
+  once = λ text json is. c.read_values_are_in_order.ensures.once json (c.read_values_are_in_order.ensures.whole text json is);
+  no_float = c.sent_bodies_hold_no_float.ensures.no_float;
   read = c.sent_texts_are_read_alike.ensures.read;
 }
 
@@ -38,6 +39,7 @@ returns-clause-alike c = alike_sent record {
     passes = c.fault_or_reading.ensures.passes;
   };
   one_body = c.alike_requests_are_answered_alike.ensures.one_body;
-  once = c.read_values_have_each_key_once.ensures.whole;
+  once = λ text json is. c.read_values_are_in_order.ensures.once json (c.read_values_are_in_order.ensures.whole text json is);
+  no_float = c.sent_bodies_hold_no_float.ensures.no_float;
   read = c.sent_texts_are_read_alike.ensures.read;
 }
