@@ -82,6 +82,7 @@ if [ "$status" -eq 0 ]; then
     python3 checks/socket_calls.py || status=1
     python3 checks/disk_calls.py || status=1
     python3 checks/journal_files.py || status=1
+    python3 checks/account_files.py || status=1
     python3 checks/release.py || status=1
 fi
 tail -n 1 "$room/said"

@@ -1,6 +1,6 @@
 //! A keeper in memory, whose commits fail as planned.
 
-ghost use Rattle.std.specs.Prelude.{◌≡◌, ◌⊎◌, ◌++◌, [], OnOk, OnErr};
+ghost use Rattle.std.specs.Prelude.{◌≡◌, ◌≢◌, ◌⊎◌, ◌++◌, [], IfErr, OnOk, OnErr};
 ghost use Rattle.outside.specs.Faults.{Rose};
 
 use crate::keeper::{Keeper, KeeperFault};
@@ -47,12 +47,13 @@ impl MemKeeper {
         &self.steps
     }
 
-    fn failed(&mut self) -> KeeperFault
+    fn failed(&mut self, fault: KeeperFault) -> KeeperFault
         ensures steps { self.new.steps ≡ self.old.steps }
         ensures rose { Rose self.old.faults self.new.faults }
+        ensures same { result ≡ fault }
     {
         self.faults = self.faults.saturating_add(1);
-        KeeperFault
+        fault
     }
 
     // Keeps the batch whole or not at all, and fails as it is fated.
@@ -61,26 +62,33 @@ impl MemKeeper {
         ensures whole { (self.new.steps.items ≡ self.old.steps.items) ⊎ (self.new.steps.items ≡ self.old.steps.items ++ batch.now) }
         ensures count { OnOk result (self.new.faults ≡ self.old.faults) }
         ensures cause { OnErr result (Rose self.old.faults self.new.faults) }
+        ensures reason { IfErr result (λ fault. (fault ≡ KeeperFault.Memory) ⊎ ((fault ≡ KeeperFault.Failed) × (self.old.fates.items ≢ []))) }
     {
         let fate = self.fates.pop().unwrap_or(Fate::Keeps);
-        if fate == Fate::FailsBefore || self.steps.extend_from_slice(batch).is_err() {
-            return Err(self.failed());
+        if fate == Fate::FailsBefore {
+            return Err(self.failed(KeeperFault::Failed));
+        }
+        if self.steps.extend_from_slice(batch).is_err() {
+            return Err(self.failed(KeeperFault::Memory));
         }
         if fate == Fate::FailsAfter {
-            return Err(self.failed());
+            return Err(self.failed(KeeperFault::Failed));
         }
         Ok(())
     }
 }
 
 impl Keeper for MemKeeper {
-    ghost use Rattle.std.specs.Prelude.{◌≡◌};
+    ghost use Rattle.std.specs.Prelude.{◌≡◌, ◌≢◌, ◌⊎◌, []};
+    ghost use Rattle.account_store.specs.declared.keeper.KeeperFault.TheVariants.{Memory, Failed};
 
     ghost holds = { λ keeper steps. keeper.steps.items ≡ steps };
 
     ghost finds = { λ keeper found. found ≡ keeper.steps.items };
 
     ghost faults = { λ keeper. keeper.faults };
+
+    ghost says = { λ old new batch fault. (fault ≡ Memory) ⊎ ((fault ≡ Failed) × (old.fates.items ≢ [])) };
 
     fn commit(&mut self, batch: &[Step]) -> Result<(), KeeperFault> {
         self.keep(batch)?;

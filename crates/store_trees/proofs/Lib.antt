@@ -1,0 +1,12 @@
+pub mod Columns
+pub mod Resting
+pub mod Rowids
+pub mod Showing
+pub mod Rebuilding
+pub mod Sequences
+pub mod Scans
+pub mod Tablings
+pub mod MadeRows
+pub mod Numberings
+pub mod Refusals
+pub mod Looks
